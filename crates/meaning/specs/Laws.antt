@@ -1,0 +1,4 @@
+pub mod Below
+pub mod Tests
+pub mod Words
+pub mod Bodies

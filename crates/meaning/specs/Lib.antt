@@ -1,0 +1,13 @@
+pub mod Below
+pub mod Tests
+pub mod Text
+pub mod Case
+pub mod Check
+pub mod Number
+pub mod Equal
+pub mod Look
+pub mod Rows
+pub mod Walk
+pub mod Meaning
+pub mod Calls
+pub mod Laws

@@ -3,3 +3,7 @@ pub mod Tests
 pub mod Words
 pub mod Bodies
 pub mod Number
+pub mod Lists
+pub mod Values
+pub mod Nodes
+pub mod Checked

@@ -3,3 +3,10 @@ pub mod Tests
 pub mod Words
 pub mod Bodies
 pub mod Number
+pub mod Lists
+pub mod Values
+pub mod Nodes
+pub mod Checked
+pub mod Walk
+pub mod Meaning
+pub mod Stack

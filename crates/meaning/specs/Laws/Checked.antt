@@ -1,0 +1,102 @@
+-- What a passed check says, rule by rule: what everything above asks of a case
+use mathlib.Core.Path.{_≡_, refl}
+use mathlib.Core.Bool.{Bool, true, false}
+use mathlib.Core.List.{List}
+use mathlib.Core.Option.{Option, none, some}
+use Prim.Native.Nat.{ℕ, _+_, _*_, _<_, _≤_}
+use native.Mathlib.Omega.{arith}
+use lib.Dec.{leb}
+use lib.ListN.{length}
+use borrow.Author.Tests.{leb-true}
+use Rattle.meaning.specs.declared.Refusal.{Refusal}
+use Rattle.meaning.specs.declared.Refusal.the-variants.{BadContents, TooLarge, BadStrings, BadValues, BadPoints, BadNodes}
+use Rattle.meaning.specs.Tests.{_and_, choose, allBelow}
+use Rattle.meaning.specs.Case.{Value, size, strings, values, members, points, nodes, vars, list, nodeAt, valueAt, arity, child, caseOf}
+use Rattle.meaning.specs.Equal.{see, alike, sameValue}
+use Rattle.meaning.specs.Check.{check, Checked, bodies, mosts, stringRules, valueRules, pointRules, nodeRules, endToEnd, utf8Rule, orderRule, memberRule, valueRule, depthRule, pointRule, nodeRule, heightRule, height}
+use Rattle.meaning.specs.Laws.Tests.{both}
+use Rattle.meaning.specs.Laws.Lists.{Every}
+use Rattle.meaning.specs.Laws.Values as Values
+use Rattle.meaning.specs.Laws.Nodes as Nodes
+
+-- each rule of six passes
+pub record Rules (s : List ℕ) : Type 0 where
+  pub bodies : bodies s ≡ true
+  pub mosts : mosts s ≡ true
+  pub strings : stringRules s ≡ true
+  pub values : valueRules s ≡ true
+  pub points : pointRules s ≡ true
+  pub nodes : nodeRules s ≡ true
+
+chosen : (b : Bool) (x : Option Refusal) (r : Refusal) → choose b x (some r) ≡ none → (b ≡ true) × (x ≡ none)
+unfolding choose
+chosen true x r h = (refl, h)
+chosen false x r h = (cc, cc)
+
+pub rules : (s : List ℕ) → Checked s → Rules s
+unfolding check
+rules s c =
+    let h1 = chosen (bodies s) _ BadContents (c .passes) in
+    let h2 = chosen (mosts s) _ TooLarge (h1 .1) in
+    let h3 = chosen (stringRules s) _ BadStrings (h2 .1) in
+    let h4 = chosen (valueRules s) _ BadValues (h3 .1) in
+    let h5 = chosen (pointRules s) _ BadPoints (h4 .1) in
+    let h6 = chosen (nodeRules s) _ BadNodes (h5 .1) in
+    record { bodies = h1 .0; mosts = h2 .0; strings = h3 .0; values = h4 .0; points = h5 .0; nodes = h6 .0 }
+
+module _ {s : List ℕ} (c : Checked s) where
+  pub checked-bodies : bodies s ≡ true
+  checked-bodies = rules s c .bodies
+
+  pub checked-strings : endToEnd s ≡ true
+  unfolding stringRules
+  checked-strings = both _ _ (rules s c .strings) .0
+
+  pub checked-values : allBelow (values s) (valueRule s) ≡ true
+  unfolding valueRules
+  checked-values = both _ _ (both _ _ (rules s c .values) .1) .0
+
+  pub checked-points : allBelow (points s) (pointRule s) ≡ true
+  unfolding pointRules
+  checked-points = rules s c .points
+
+  pub checked-nodes : allBelow (nodes s) (nodeRule s) ≡ true
+  unfolding nodeRules
+  checked-nodes = both _ _ (rules s c .nodes) .0
+
+  -- the mosts, as numbers
+
+  pub file-most : length s ≤ 4194304
+  unfolding mosts
+  file-most = leb-true _ _ (both _ _ (rules s c .mosts) .0)
+
+  pub strings-most : strings s ≤ 16384
+  unfolding mosts
+  strings-most = leb-true _ _ (both _ _ (both _ _ (rules s c .mosts) .1) .0)
+
+  pub values-most : values s ≤ 16384
+  unfolding mosts
+  values-most = leb-true _ _ (both _ _ (both _ _ (both _ _ (rules s c .mosts) .1) .1) .0)
+
+  pub points-most : points s ≤ 16384
+  unfolding mosts
+  points-most = leb-true _ _ (both _ _ (both _ _ (both _ _ (both _ _ (rules s c .mosts) .1) .1) .1) .0)
+
+  pub nodes-most : nodes s ≤ 1024
+  unfolding mosts
+  nodes-most = leb-true _ _ (both _ _ (both _ _ (both _ _ (both _ _ (both _ _ (rules s c .mosts) .1) .1) .1) .1) .0)
+
+  pub vars-most : vars s ≤ 16
+  unfolding mosts
+  vars-most = leb-true _ _ (both _ _ (both _ _ (both _ _ (both _ _ (both _ _ (rules s c .mosts) .1) .1) .1) .1) .1)
+
+  -- what is in a value, and below a node, has a lower number
+
+  pub lower-parts : (v : ℕ) → Every (λ j. j < v) (Values.held (see (caseOf s) (valueAt s v) .parts))
+  lower-parts = Values.lower-parts s checked-bodies checked-values
+
+  pub sameValue-is : (k n : ℕ) → sameValue (caseOf s) k n ≡ alike (sameValue (caseOf s)) (see (caseOf s) (valueAt s k)) (see (caseOf s) (valueAt s n))
+  sameValue-is = Values.sameValue-is s checked-bodies checked-values
+
+  pub lower-child : (n i : ℕ) → i < arity (nodeAt s n) → child (list s) (nodeAt s n) i < n
+  lower-child = Nodes.lower-child s checked-bodies checked-nodes

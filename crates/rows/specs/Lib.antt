@@ -1,0 +1,5 @@
+pub mod Table
+pub mod Slots
+pub mod Stack
+pub mod Marks
+pub mod Halves

@@ -1,15 +1,12 @@
 use Rattle.rows.proofs.Out.{clear-more, clear-all}
 use Rattle.rows.proofs.Lists.{upTo}
-use lib.ListN.{replicate, length-set}
-use lib.ListN.{length, getD, drop, take, set}
-use mathlib.Core.Path.{_≡_, refl, sym, ap, _∙_}
-use Prim.Native.Nat.{ℕ, _+_, _-_, _≤_, _<_}
+use lib.ListN.{replicate, length-set, length}
+use mathlib.Core.Path.{_≡_, refl}
+use Prim.Native.Nat.{_-_, _≤_}
 use native.Mathlib.Omega.{arith}
 use borrow.Author.Needs.{needs}
 use Rattle.rows.proofs.output.clear.Statement.{statement}
 use Rattle.rows.proofs.output.clear.Tie as tie
-use Rattle.rows.proofs.output.clear.Reads as reads
-use Rattle.rows.proofs.output.clear.Lts as lts
 
 abbrev Inv-loop : tie.InvT-loop
 Inv-loop work₀ n i₀ work i = (length work ≡ length work₀) × (i ≤ n) × (work ≡ upTo (replicate n 0) work₀ i)

@@ -1,15 +1,8 @@
 use Rattle.rows.proofs.Out.{plain-none, plain-some, plain-far}
-use mir.Syntax.{w64}
-use mir.Val.{Fits}
-use lib.ListN.{length, getD, drop, take, set}
-use mathlib.Core.Path.{_≡_, refl, sym, ap, _∙_}
-use Prim.Native.Nat.{ℕ, _+_, _-_, _≤_, _<_}
-use native.Mathlib.Omega.{arith}
+use Prim.Native.Nat.{_-_}
 use borrow.Author.Needs.{needs}
 use Rattle.rows.proofs.output.plain.Statement.{statement}
 use Rattle.rows.proofs.output.plain.Tie as tie
-use Rattle.rows.proofs.output.plain.Reads as reads
-use Rattle.rows.proofs.output.plain.Lts as lts
 
 returns : tie.Need-returns
 returns c = plain-none (c .before .before .args .b .tag) (c .before .before .args .b .bits) (c .if1 .taken)

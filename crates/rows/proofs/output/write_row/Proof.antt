@@ -1,19 +1,13 @@
 use borrow.Author.Needs.{needs}
-use mathlib.Core.Path.{_≡_, refl, sym, ap, ap₂, subst, _∙_}
-use lib.ListN.{length, getD}
-use Prim.Native.Nat.{ℕ, _+_, _-_, _≤_, _<_}
+use mathlib.Core.Path.{_≡_, refl, ap, _∙_}
+use lib.ListN.{length, length-set}
+use Prim.Native.Nat.{_-_}
 use native.Mathlib.Omega.{arith}
-use lib.ListN.{length-set}
 use Rattle.meaning.specs.Rows.{cells, at}
-use Rattle.rows.specs.Table.{rowIn, rowsIn}
+use Rattle.rows.specs.Table.{rowIn}
 use Rattle.rows.proofs.Out.{RowOut, row-none, row-more, row-all}
 use Rattle.rows.proofs.output.write_row.Statement.{statement}
 use Rattle.rows.proofs.output.write_row.Tie as tie
-use Rattle.rows.proofs.output.write_row.Reads as reads
-use Rattle.rows.proofs.output.write_row.Lts as lts
-use Rattle.rows.proofs.get.Reads as get-reads
-use Rattle.rows.proofs.output.plain.Reads as plain-reads
-use Rattle.tables.proofs.wide.Reads as wide-reads
 
 abbrev Inv-loop : tie.InvT-loop
 Inv-loop work shape h binders out₀ at n k₀ out k = (length out ≡ length out₀) × RowOut out₀ out at k binders (rowIn shape work h)

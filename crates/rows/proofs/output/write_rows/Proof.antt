@@ -1,16 +1,13 @@
 use Rattle.rows.proofs.Out.{Output, out-none, out-asks, out-more, out-all}
 use Rattle.rows.proofs.Cells.{in-rows-to}
-use Rattle.rows.specs.Table.{rowIn, rowsIn}
-use lib.ListN.{length, getD, drop, take, set}
-use mathlib.Core.Path.{_≡_, refl, sym, ap, _∙_}
-use Prim.Native.Nat.{ℕ, _+_, _-_, _≤_, _<_}
+use Rattle.rows.specs.Table.{rowsIn}
+use lib.ListN.{length}
+use mathlib.Core.Path.{_≡_, refl, _∙_}
+use Prim.Native.Nat.{_-_}
 use native.Mathlib.Omega.{arith}
 use borrow.Author.Needs.{needs}
 use Rattle.rows.proofs.output.write_rows.Statement.{statement}
 use Rattle.rows.proofs.output.write_rows.Tie as tie
-use Rattle.rows.proofs.output.write_rows.Reads as reads
-use Rattle.rows.proofs.output.write_rows.Lts as lts
-use Rattle.rows.proofs.output.write_row.Reads as write-row-reads
 
 abbrev Inv-loop : tie.InvT-loop
 Inv-loop work s from to binders out₀ n at₀ h₀ out at h = (length out ≡ length out₀) × Output out₀ out binders (rowsIn s work) from to h at

@@ -3,3 +3,4 @@ pub mod Slots
 pub mod Stack
 pub mod Marks
 pub mod Halves
+pub mod Laws

@@ -1,6 +1,6 @@
 use Rattle.rows_examples.specs.Passes.{passes}
-use Rattle.rows_examples.proofs.example_case.Statement.{statement}
-use Rattle.rows_examples.proofs.example_case.Tie as tie
+use Rattle.rows_examples.proofs.case.example_case.Statement.{statement}
+use Rattle.rows_examples.proofs.case.example_case.Tie as tie
 
 -- src/main.rt:15:1
 returns : tie.Need-returns

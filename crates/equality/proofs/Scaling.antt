@@ -216,7 +216,7 @@ module _ (minus : Bool) (w f : List ℕ) where
 
 -- ---- two decimals
 
-and-true : (a : Bool) → (a and true) ≡ a
+pub and-true : (a : Bool) → (a and true) ≡ a
 unfolding _and_
 and-true true = refl
 and-true false = refl

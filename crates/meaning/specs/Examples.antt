@@ -30,7 +30,7 @@ use Rattle.meaning.specs.Look.{named, members, descend, boundAt, attribu
 use Rattle.meaning.specs.Rows.{inCells, cells, rowOf, at, blank, with, without, withoutAll, over, onto, agree, agreeing, sameCell, sameRow, isIn, addNew, joinAll, column}
 use Rattle.meaning.specs.Walk.{give, visit, adding, dropping, _>>=_, started, after, measured, spent, most, run as run·Walk, ending, outcome}
 use Rattle.meaning.specs.Meaning.{under as under·Meaning, unbinding, earlier, latest, now, lending, condition, term, aggregate, ifYes, unlessYes, oneRow, asRows, taking, lentTo, andVerdict, joining, andRows, orVerdict, orRows, notVerdict, existsVerdict, existsRows, time as time·Meaning, inside, ifInside, downward, rising, upward, every, formerlyVerdict, formerlyRows, sinceVerdict, keeping, sinceRows, before as before·Meaning, isThere, previously, place, tpRow, tpVerdict, given, matchField, matchArguments, sameEvent, match, predicate, both, compared, compareVerdict, unbound, bindRows, eqRows, compareRows, ifInt, arithmetic, aggregated, relation, sumOf, countOf, names, arguments, meaningOf, noMeaning, meaning, firsts, question}
-use Rattle.meaning.specs.Calls.{numberOf, isInt, wellFormed, startRow, isSort, beyond, against, startOr, walkOf, asking, told as told·Calls, cleared, workspaceAfter, result as result·Calls, checkCall, verdictCall, numberCall, cellsOf, filled, allUnder, projected, outputFits, toOutput, rowsGiven, rowsCall}
+use Rattle.meaning.specs.Calls.{numberOf, isInt, wellFormed, moreRow, startRow, isSort, beyond, against, startOr, walkOf, unlessRefused, asking, told as told·Calls, cleared, workspaceAfter, result as result·Calls, checkCall, verdictCall, numberCall, cellsOf, filled, allUnder, projected, outputFits, toOutput, rowsGiven, rowsCall}
 
 pub bytes : List ℕ
 bytes =
@@ -124,7 +124,7 @@ bytes =
     []
 
 passes : check bytes ≡ none
-unfolding bytes upto made _and_ _or_ choose onlyIf isSome orElse pick allBelow rises greatest levels throughout before free·Text first follow next ended utf8 words contents offset size body·Case bodyWord stringWord valueWord memberWord pointWord nodeWord list·Case text places runOf signed maybe unitOf cmpOf arithOf rootFrom under nodeFrom valueFrom partAt valueAt entityAt pointAt nodeAt caseOf decode sortOf arity child startOf bodyRule bodies mosts endBefore placeRule endToEnd utf8Rule orderRule stringRules memberRule arrayItem objectItem valueRule partCount partValue depth depthRule valueRules plainNames plain stringRun entityRule entityItem entityRun pointRule pointRules pathRun variableRun argumentRule argumentRun literal zerosFrom ruleOf nodeRule height heightRule nodeRules check highest lowest clamp calculate secondsOf seconds inWindow sumℤ isDigit digits natural cut unsigned scaled decimal seen decimalKey see sameList sameParts alike sameValue asValue same boundOf integer named members descend boundAt attributesOf ownPart supplied entityOf attribute fromRoot rootOf scopeAt contextAt fieldAt inCells cells rowOf at blank with without withoutAll over onto agree agreeing sameCell sameRow isIn addNew joinAll column give visit adding dropping _>>=_ started after measured spent most run·Walk ending outcome under·Meaning unbinding earlier latest now lending condition term aggregate ifYes unlessYes oneRow asRows taking lentTo andVerdict joining andRows orVerdict orRows notVerdict existsVerdict existsRows time·Meaning inside ifInside downward rising upward every formerlyVerdict formerlyRows sinceVerdict keeping sinceRows before·Meaning isThere previously place tpRow tpVerdict given matchField matchArguments sameEvent match predicate both compared compareVerdict unbound bindRows eqRows compareRows ifInt arithmetic aggregated relation sumOf countOf names arguments meaningOf noMeaning meaning firsts question numberOf isInt wellFormed startRow isSort beyond against startOr walkOf asking told·Calls cleared workspaceAfter result·Calls checkCall verdictCall numberCall cellsOf filled allUnder projected outputFits toOutput rowsGiven rowsCall
+unfolding bytes upto made _and_ _or_ choose onlyIf isSome orElse pick allBelow rises greatest levels throughout before free·Text first follow next ended utf8 words contents offset size body·Case bodyWord stringWord valueWord memberWord pointWord nodeWord list·Case text places runOf signed maybe unitOf cmpOf arithOf rootFrom under nodeFrom valueFrom partAt valueAt entityAt pointAt nodeAt caseOf decode sortOf arity child startOf bodyRule bodies mosts endBefore placeRule endToEnd utf8Rule orderRule stringRules memberRule arrayItem objectItem valueRule partCount partValue depth depthRule valueRules plainNames plain stringRun entityRule entityItem entityRun pointRule pointRules pathRun variableRun argumentRule argumentRun literal zerosFrom ruleOf nodeRule height heightRule nodeRules check highest lowest clamp calculate secondsOf seconds inWindow sumℤ isDigit digits natural cut unsigned scaled decimal seen decimalKey see sameList sameParts alike sameValue asValue same boundOf integer named members descend boundAt attributesOf ownPart supplied entityOf attribute fromRoot rootOf scopeAt contextAt fieldAt inCells cells rowOf at blank with without withoutAll over onto agree agreeing sameCell sameRow isIn addNew joinAll column give visit adding dropping _>>=_ started after measured spent most run·Walk ending outcome under·Meaning unbinding earlier latest now lending condition term aggregate ifYes unlessYes oneRow asRows taking lentTo andVerdict joining andRows orVerdict orRows notVerdict existsVerdict existsRows time·Meaning inside ifInside downward rising upward every formerlyVerdict formerlyRows sinceVerdict keeping sinceRows before·Meaning isThere previously place tpRow tpVerdict given matchField matchArguments sameEvent match predicate both compared compareVerdict unbound bindRows eqRows compareRows ifInt arithmetic aggregated relation sumOf countOf names arguments meaningOf noMeaning meaning firsts question numberOf isInt wellFormed moreRow startRow isSort beyond against startOr walkOf unlessRefused asking told·Calls cleared workspaceAfter result·Calls checkCall verdictCall numberCall cellsOf filled allUnder projected outputFits toOutput rowsGiven rowsCall
 passes = refl
 
 -- ---- what the bytes hold

@@ -1,17 +1,15 @@
 -- What passed value rules say: runs lie in their table, parts have lower numbers; depth, plain, literal and equality by parts
-use mathlib.Core.Path.{_≡_, refl, sym, _∙_, ap, fun-ext}
+use mathlib.Core.Path.{_≡_, refl, ap, fun-ext}
 use mathlib.Core.Bool.{Bool, true, false, not}
 use mathlib.Core.List.{List, [], _∷_, map}
-use Prim.Native.Nat.{ℕ, zero, suc, _+_, _*_, _/_, _%_, _<_, _≤_}
+use Prim.Native.Nat.{ℕ, zero, suc, _+_, _*_, _<_, _≤_}
 use native.Mathlib.Omega.{arith}
 use lib.Dec.{ltb, leb, eqb, lit<}
-use lib.ListN.{length}
-use borrow.Author.Tests.{leb-true, leb-false, ltb-true, ltb-false, eqb-true, le-leb, lt-leb}
-use Rattle.meaning.specs.Below.{made}
-use Rattle.meaning.specs.Tests.{_and_, _or_, allBelow, pick, greatest, levels}
-use Rattle.meaning.specs.Case.{Case, Value, Part, Null, Boolean, Int, Decimal, Text, Entity, Array, Object, size, values, members, valueWord, memberWord, bodyWord, partAt, valueAt, valueFrom, places, caseOf}
-use Rattle.meaning.specs.Check.{bodies, recordBytes, valueRule, arrayItem, objectItem, partCount, partValue, depth, plain, plainNames, literal, nullRule, boolRule, intRule, textRule, entityValueRule, arrayRule, objectRule, noKind}
-use Rattle.meaning.specs.Equal.{Seen, see, seen, alike, sameParts, sameValue}
+use borrow.Author.Tests.{leb-true, leb-false, ltb-true, ltb-false, le-leb, lt-leb}
+use Rattle.meaning.specs.Tests.{_and_, _or_, allBelow, pick, greatest}
+use Rattle.meaning.specs.Case.{Part, Null, values, members, valueWord, memberWord, partAt, valueAt, valueFrom, places, caseOf}
+use Rattle.meaning.specs.Check.{bodies, valueRule, arrayItem, objectItem, partCount, partValue, depth, plain, plainNames, literal, nullRule, boolRule, intRule, textRule, entityValueRule, arrayRule, objectRule, noKind}
+use Rattle.meaning.specs.Equal.{see, seen, alike, sameParts, sameValue}
 use Rattle.meaning.specs.Laws.Below.{made-is}
 use Rattle.meaning.specs.Laws.Tests.{both, stop, pass, yes, no, all-at, levels-is, throughout-is}
 use Rattle.meaning.specs.Laws.Bodies.{wholes, body-beyond}
@@ -158,9 +156,13 @@ module _ (s : List ℕ) (h : bodies s ≡ true) (rules : allBelow (values s) (va
   parts-same g h (p ∷ ps) [] e = refl
   parts-same g h (p ∷ ps) (q ∷ qs) e = cc (parts-same g h ps qs (e .1))
 
+  by-parts : (g h : ℕ → ℕ → Bool) (m : ℕ) → ((j : ℕ) → j < m → g j ≡ h j) → _≡_ {A = ℕ → Bool} (λ n. alike g (see (caseOf s) (valueAt s m)) (see (caseOf s) (valueAt s n))) (λ n. alike h (see (caseOf s) (valueAt s m)) (see (caseOf s) (valueAt s n)))
+  unfolding alike
+  by-parts g h m same =
+      fun-ext (λ n. cc (parts-same g h (see (caseOf s) (valueAt s m) .parts) (see (caseOf s) (valueAt s n) .parts) (every-map (held (see (caseOf s) (valueAt s m) .parts)) same (lower-parts m))))
+
   -- two values are equal where their kinds, numbers and parts are
   pub sameValue-is : (k n : ℕ) → sameValue (caseOf s) k n ≡ alike (sameValue (caseOf s)) (see (caseOf s) (valueAt s k)) (see (caseOf s) (valueAt s n))
   unfolding sameValue caseOf
   sameValue-is k n =
-      ap (λ (f : ℕ → Bool). f n) (made-is (λ n. false) (λ eq m n. alike eq (see (caseOf s) (valueAt s m)) (see (caseOf s) (valueAt s n))) (suc k)
-      (λ g h m hm same. fun-ext (λ n. unfold alike in cc (parts-same g h (see (caseOf s) (valueAt s m) .parts) (see (caseOf s) (valueAt s n) .parts) (every-map (held (see (caseOf s) (valueAt s m) .parts)) same (lower-parts m))))) k (omega arith))
+      ap (λ (f : ℕ → Bool). f n) (made-is (λ n. false) (λ eq m n. alike eq (see (caseOf s) (valueAt s m)) (see (caseOf s) (valueAt s n))) (suc k) (λ g h m hm same. by-parts g h m same) k (omega arith))

@@ -1,0 +1,201 @@
+//! Calls with all their buffers, and random ones: ample, tight, short and malformed.
+
+use model::{Model, Outcome, Question};
+
+use crate::cases::RandomCase;
+use crate::random::Random;
+
+#[derive(Clone, Copy, Debug, PartialEq, Eq)]
+pub enum Kind {
+    Check,
+    Verdict,
+    Number,
+    Rows,
+}
+
+/// One call on a case. The check call uses none of the fields below its kind.
+#[derive(Clone, Debug)]
+pub struct Call {
+    pub kind: Kind,
+    pub point: u32,
+    pub node: u32,
+    pub limit: u64,
+    pub room: u64,
+    pub start: Vec<u64>,
+    /// Cells of workspace and of output.
+    pub workspace: usize,
+    pub binders: Vec<u32>,
+    pub output: usize,
+}
+
+/// What a call did: its outcome, and both buffers after it.
+#[derive(Clone, Debug, PartialEq, Eq)]
+pub struct Done {
+    pub outcome: Outcome,
+    pub workspace: Vec<u64>,
+    pub output: Vec<u64>,
+}
+
+/// Cell `k` of the workspace before a call.
+pub fn workspace_fill(k: usize) -> u64 {
+    0xA5A5_A5A5_0000_0000 + k as u64
+}
+
+/// Cell `k` of the output before a call.
+pub fn output_fill(k: usize) -> u64 {
+    0x5A5A_5A5A_0000_0000 + k as u64
+}
+
+impl Call {
+    pub fn check() -> Call {
+        Call {
+            kind: Kind::Check,
+            point: 0,
+            node: 0,
+            limit: 0,
+            room: 0,
+            start: Vec::new(),
+            workspace: 0,
+            binders: Vec::new(),
+            output: 0,
+        }
+    }
+
+    /// Puts the call to a model, with filled buffers.
+    pub fn ask(&self, model: Model, case: &[u8]) -> Done {
+        let mut workspace: Vec<u64> = (0..self.workspace).map(workspace_fill).collect();
+        let mut output: Vec<u64> = (0..self.output).map(output_fill).collect();
+        let question = Question {
+            case,
+            point: self.point,
+            node: self.node,
+            start: &self.start,
+            limit: self.limit,
+            room: self.room,
+        };
+        let outcome = match self.kind {
+            Kind::Check => Outcome { refusal: model.check(case), ..Outcome::default() },
+            Kind::Verdict => model.verdict(&question, &mut workspace),
+            Kind::Number => model.number(&question, &mut workspace),
+            Kind::Rows => model.rows(&question, &self.binders, &mut workspace, &mut output),
+        };
+        Done { outcome, workspace, output }
+    }
+
+    /// Makes the workspace just large enough.
+    pub fn fit_workspace(&mut self, variables: u32) {
+        self.workspace = 2 * variables as usize * self.room as usize;
+    }
+}
+
+/// A random question over a case, well formed and with ample room, save that it may run out of steps.
+pub fn random_call(random: &mut Random, case: &RandomCase, limit: u64, room: u64) -> Call {
+    let kind = random.pick(&[Kind::Verdict, Kind::Verdict, Kind::Rows, Kind::Rows, Kind::Number]);
+    let node = match kind {
+        Kind::Number => random.pick(&case.aggregates),
+        _ => random.pick(&case.conditions),
+    };
+    let variables = case.tables.variables;
+    let points = case.tables.points.len();
+    let mut call = Call {
+        kind,
+        // Rather a late point, with a history.
+        point: random.below(points).max(random.below(points)) as u32,
+        node,
+        limit,
+        room,
+        start: random_start(random, case),
+        workspace: 0,
+        binders: Vec::new(),
+        output: 0,
+    };
+    call.fit_workspace(variables);
+    call.workspace += random.below(3);
+    if kind == Kind::Rows {
+        if variables > 0 {
+            call.binders = (0..random.below(4)).map(|_| random.below(variables.min(4) as usize) as u32).collect();
+        }
+        call.output = 2 * call.binders.len() * room as usize;
+    }
+    call
+}
+
+/// Starting bindings of every tag, mostly unbound.
+fn random_start(random: &mut Random, case: &RandomCase) -> Vec<u64> {
+    let mut start = Vec::new();
+    for _ in 0..case.tables.variables {
+        let no_int: Vec<u64> =
+            (0..case.tables.values.len()).filter(|&v| case.tables.values[v][0] != 2).map(|v| v as u64).collect();
+        start.extend(match random.below(25) {
+            0 | 1 => [1, random.pick(&[0, 1, 2, 3, 9, u64::MAX, i64::MAX as u64])],
+            2 | 3 => [2, random.pick(&no_int)],
+            4 => [3, random.below(case.tables.strings.len()) as u64],
+            _ => [0, 0],
+        });
+    }
+    start
+}
+
+/// The same call with its limits at, or below, what it needed.
+pub fn tightened(random: &mut Random, call: &Call, needed: &Outcome, variables: u32) -> Call {
+    let mut tight = call.clone();
+    let around = |random: &mut Random, needed: u64| match random.below(3) {
+        0 => needed,
+        1 => needed.saturating_sub(1),
+        _ => random.below(needed as usize + 1) as u64,
+    };
+    let both = random.percent(30);
+    if both || random.percent(50) {
+        tight.limit = around(random, needed.steps);
+    }
+    if both || tight.limit == call.limit {
+        tight.room = around(random, needed.rows);
+        tight.fit_workspace(variables);
+    }
+    if call.kind == Kind::Rows {
+        let cells = 2 * call.binders.len() * needed.answer as usize;
+        tight.output = if random.percent(70) { cells + random.below(3) } else { random.below(cells + 1) };
+    }
+    tight
+}
+
+/// The same call with one thing wrong, for refusals 7 to 10 and 13.
+pub fn spoiled(random: &mut Random, call: &Call, case: &RandomCase) -> Call {
+    let mut bad = call.clone();
+    let tables = &case.tables;
+    match random.below(9) {
+        0 => bad.point = tables.points.len() as u32 + random.pick(&[0, 1, u32::MAX - 20_000]),
+        1 => bad.node = tables.nodes.len() as u32 + random.pick(&[0, 1, u32::MAX - 2_000]),
+        2 => bad.node = random.below(tables.nodes.len()) as u32,
+        3 => bad.start.push(0),
+        4 if !bad.start.is_empty() => {
+            bad.start.pop();
+        }
+        5 | 6 if !bad.start.is_empty() => spoil_start(random, &mut bad, case),
+        7 => match random.below(3) {
+            0 => bad.limit = model::MOST_STEPS + 1,
+            1 => bad.room = model::MOST_ROOM + 1,
+            _ => bad.workspace = bad.workspace.saturating_sub(3 + random.below(3)),
+        },
+        _ if bad.kind == Kind::Rows => bad.binders.push(tables.variables + random.pick(&[0, 1, u32::MAX - 16])),
+        _ => bad.point = u32::MAX,
+    }
+    bad
+}
+
+fn spoil_start(random: &mut Random, bad: &mut Call, case: &RandomCase) {
+    let tables = &case.tables;
+    let at = 2 * random.below(bad.start.len() / 2);
+    let int = tables.values.iter().position(|value| value[0] == 2).map_or(0, |v| v as u64);
+    let cells = match random.below(8) {
+        0 => [0, 1],
+        1 => [4, 0],
+        2 => [u64::MAX, 0],
+        3 => [2, tables.values.len() as u64],
+        4 => [3, tables.strings.len() as u64],
+        5 => [2, 1 << 32],
+        6 => [3, 1 << 32],
+        _ => [2, int],
+    };
+    bad.start[at..at + 2].copy_from_slice(&cells);
+}

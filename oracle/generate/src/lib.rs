@@ -2,7 +2,10 @@
 
 pub mod calls;
 pub mod cases;
+pub mod damage;
 pub mod random;
+pub mod rules;
+mod rules_base;
 
 pub use calls::{Call, Kind};
 pub use cases::{Profile, RandomCase};

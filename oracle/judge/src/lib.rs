@@ -1,0 +1,6 @@
+//! The Rust as the judge of the model.
+
+pub mod compare;
+pub mod convert;
+pub mod run;
+pub mod rust;

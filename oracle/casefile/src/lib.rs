@@ -4,6 +4,7 @@
 pub mod builder;
 pub mod records;
 pub mod tables;
+pub mod text;
 
 pub use builder::Builder;
 pub use records::{Node, Point, Run, Value, Within};

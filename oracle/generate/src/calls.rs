@@ -127,7 +127,7 @@ fn random_start(random: &mut Random, case: &RandomCase) -> Vec<u64> {
         let no_int: Vec<u64> =
             (0..case.tables.values.len()).filter(|&v| case.tables.values[v][0] != 2).map(|v| v as u64).collect();
         start.extend(match random.below(25) {
-            0 | 1 => [1, random.pick(&[0, 1, 2, 3, 9, u64::MAX, i64::MAX as u64])],
+            0 | 1 => [1, random.pick(&[0, 1, 2, 3, 3, 4, 5, 9, u64::MAX, i64::MAX as u64])],
             2 | 3 => [2, random.pick(&no_int)],
             4 => [3, random.below(case.tables.strings.len()) as u64],
             _ => [0, 0],
@@ -136,9 +136,17 @@ fn random_start(random: &mut Random, case: &RandomCase) -> Vec<u64> {
     start
 }
 
-/// The same call with its limits at, or below, what it needed.
+/// The same call with its limits at, or below, what it needed; or at the most allowed.
 pub fn tightened(random: &mut Random, call: &Call, needed: &Outcome, variables: u32) -> Call {
     let mut tight = call.clone();
+    if random.percent(2) {
+        tight.limit = model::MOST_STEPS;
+        if variables < 2 {
+            tight.room = model::MOST_ROOM;
+            tight.fit_workspace(variables);
+        }
+        return tight;
+    }
     let around = |random: &mut Random, needed: u64| match random.below(3) {
         0 => needed,
         1 => needed.saturating_sub(1),
@@ -159,43 +167,90 @@ pub fn tightened(random: &mut Random, call: &Call, needed: &Outcome, variables: 
     tight
 }
 
-/// The same call with one thing wrong, for refusals 7 to 10 and 13.
-pub fn spoiled(random: &mut Random, call: &Call, case: &RandomCase) -> Call {
-    let mut bad = call.clone();
-    let tables = &case.tables;
-    match random.below(9) {
-        0 => bad.point = tables.points.len() as u32 + random.pick(&[0, 1, u32::MAX - 20_000]),
-        1 => bad.node = tables.nodes.len() as u32 + random.pick(&[0, 1, u32::MAX - 2_000]),
-        2 => bad.node = random.below(tables.nodes.len()) as u32,
-        3 => bad.start.push(0),
-        4 if !bad.start.is_empty() => {
-            bad.start.pop();
-        }
-        5 | 6 if !bad.start.is_empty() => spoil_start(random, &mut bad, case),
-        7 => match random.below(3) {
-            0 => bad.limit = model::MOST_STEPS + 1,
-            1 => bad.room = model::MOST_ROOM + 1,
-            _ => bad.workspace = bad.workspace.saturating_sub(3 + random.below(3)),
-        },
-        _ if bad.kind == Kind::Rows => bad.binders.push(tables.variables + random.pick(&[0, 1, u32::MAX - 16])),
-        _ => bad.point = u32::MAX,
-    }
-    bad
+/// A call with one thing wrong, and the refusal that it must get if the walk does not end it first.
+pub struct Spoiled {
+    pub call: Call,
+    pub refusal: u32,
 }
 
-fn spoil_start(random: &mut Random, bad: &mut Call, case: &RandomCase) {
+/// The same call with one thing wrong, for refusals 7 to 10 and 13.
+pub fn spoiled(random: &mut Random, call: &Call, case: &RandomCase) -> Spoiled {
+    let mut call = call.clone();
     let tables = &case.tables;
-    let at = 2 * random.below(bad.start.len() / 2);
-    let int = tables.values.iter().position(|value| value[0] == 2).map_or(0, |v| v as u64);
-    let cells = match random.below(8) {
-        0 => [0, 1],
-        1 => [4, 0],
-        2 => [u64::MAX, 0],
-        3 => [2, tables.values.len() as u64],
-        4 => [3, tables.strings.len() as u64],
-        5 => [2, 1 << 32],
-        6 => [3, 1 << 32],
-        _ => [2, int],
+    let refusal = match random.below(10) {
+        0 => {
+            call.point = tables.points.len() as u32 + random.pick(&[0, 1, u32::MAX - 20_000]);
+            7
+        }
+        1 => {
+            call.node = tables.nodes.len() as u32 + random.pick(&[0, 1, u32::MAX - 2_000]);
+            8
+        }
+        2 => {
+            call.node = other_sort(random, &call, case);
+            8
+        }
+        3 => {
+            call.start.extend(random.pick(&[&[0][..], &[0, 0], &[1, 5]]));
+            9
+        }
+        4 | 5 if !call.start.is_empty() => {
+            spoil_start(random, &mut call, case);
+            9
+        }
+        6 => {
+            call.limit = model::MOST_STEPS + random.pick(&[1, 2, u64::MAX - model::MOST_STEPS]);
+            10
+        }
+        7 => {
+            call.room = model::MOST_ROOM + random.pick(&[1, 2]);
+            call.fit_workspace(tables.variables.min(1));
+            10
+        }
+        8 if call.workspace > 2 => {
+            call.fit_workspace(tables.variables);
+            call.workspace -= random.between(1, 2);
+            10
+        }
+        _ if call.kind == Kind::Rows => {
+            call.binders.push(tables.variables + random.pick(&[0, 1, u32::MAX - 16]));
+            13
+        }
+        _ => {
+            call.point = u32::MAX;
+            7
+        }
     };
-    bad.start[at..at + 2].copy_from_slice(&cells);
+    Spoiled { call, refusal }
+}
+
+/// A node that is there, of a sort that the call does not answer.
+fn other_sort(random: &mut Random, call: &Call, case: &RandomCase) -> u32 {
+    let answers = |kind: u32| if call.kind == Kind::Number { kind >= 30 } else { kind <= 10 };
+    let others: Vec<u32> = (0..case.tables.nodes.len() as u32)
+        .filter(|&k| !answers(case.tables.nodes[k as usize][0]))
+        .collect();
+    random.pick(&others)
+}
+
+/// One starting binding made malformed, or the cells too few.
+fn spoil_start(random: &mut Random, call: &mut Call, case: &RandomCase) {
+    let tables = &case.tables;
+    let at = 2 * random.below(call.start.len() / 2);
+    let int = tables.values.iter().position(|value| value[0] == 2);
+    let cells = match (random.below(9), int) {
+        (0, _) => [0, 1],
+        (1, _) => [4, 0],
+        (2, _) => [u64::MAX, 0],
+        (3, _) => [2, tables.values.len() as u64],
+        (4, _) => [3, tables.strings.len() as u64],
+        (5, _) => [2, 1 << 32],
+        (6, _) => [3, 1 << 32],
+        (7, Some(int)) => [2, int as u64],
+        _ => {
+            call.start.pop();
+            return;
+        }
+    };
+    call.start[at..at + 2].copy_from_slice(&cells);
 }

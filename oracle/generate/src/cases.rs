@@ -16,6 +16,7 @@ pub struct Profile {
 }
 
 impl Profile {
+    pub const TINY: Profile = Profile { most_points: 3, most_rules: 1, most_nesting: 2, rare: 4 };
     pub const SMALL: Profile = Profile { most_points: 4, most_rules: 1, most_nesting: 3, rare: 10 };
     pub const USUAL: Profile = Profile { most_points: 7, most_rules: 6, most_nesting: 4, rare: 35 };
 }
@@ -27,24 +28,26 @@ pub struct RandomCase {
     pub aggregates: Vec<u32>,
 }
 
-const DECIMALS: [&str; 14] = [
-    "1.0", "1.00", "1.0000", "1.00000", "01.0", "2.5", "2.50", "0.0", "-0.0", "1", ".5", "-922337203685477.5808",
-    "922337203685477.5807", "922337203685477.5808",
+const DECIMALS: [&str; 16] = [
+    "1.0", "1.00", "1.000", "1.0000", "1.00000", "01.0", "2.5", "2.50", "0.0", "-0.0", "1", ".5",
+    "-922337203685477.5808", "922337203685477.5807", "922337203685477.58070", "922337203685477.5808",
 ];
 const TEXTS: [&str; 8] = ["a", "b", "T", "1.0", "", "id", "naïve \"q\" \\ \u{301}", "x.y"];
 /// The first two stand in nearly every object, so that paths mostly lead somewhere.
 const NAMES: [&str; 5] = ["a", "b", "k", "m", ""];
 const ATTRIBUTES: [&str; 5] = ["a", "id", "type", "b", "k"];
-const INTS: [i64; 10] = [0, 1, 2, 3, -1, 5, i64::MAX, i64::MIN, i64::MAX - 1, 4_294_967_296];
+const INTS: [i64; 11] = [0, 1, 2, 3, -5, i64::MAX, i64::MAX, i64::MIN, i64::MIN, i64::MAX - 1, 4_294_967_296];
 const TYPES: [&str; 3] = ["T", "N::T", ""];
 
 /// A random case of a profile.
 pub fn random_case(random: &mut Random, profile: Profile) -> RandomCase {
     let variables = random.pick(&[0, 1, 1, 2, 2, 2, 3, 3, 3, 3, 4, 4, 4, 16]);
+    let flavour = random.pick(&[Flavour::Mixed, Flavour::Mixed, Flavour::Ints, Flavour::Ints, Flavour::Decimals]);
     let mut making = Making {
         builder: Builder::new(variables),
         random,
         profile,
+        flavour,
         variables,
         common: Vec::new(),
         scope: Vec::new(),
@@ -69,15 +72,24 @@ pub fn random_case(random: &mut Random, profile: Profile) -> RandomCase {
     RandomCase { bytes: tables.encode(), tables, conditions, aggregates }
 }
 
+/// What most scalars of a case are.
+#[derive(Clone, Copy)]
+enum Flavour {
+    Mixed,
+    Ints,
+    Decimals,
+}
+
 struct Making<'a> {
     builder: Builder,
     random: &'a mut Random,
     profile: Profile,
+    flavour: Flavour,
     variables: u32,
     /// Values that fields and terms draw from, few, so that they meet.
     common: Vec<u32>,
-    /// Entities, for principal and resource.
-    scope: Vec<u32>,
+    /// Entities, for principal and resource: type, id and value.
+    scope: Vec<(&'static str, &'static str, u32)>,
     /// Values that may stand in a literal.
     literals: Vec<u32>,
     /// Conditions made so far, to be shared.
@@ -93,7 +105,7 @@ impl Making<'_> {
         for _ in 0..self.random.between(1, 2) {
             let (ty, id) = (self.random.pick(&TYPES), self.random.pick(&TEXTS));
             let entity = self.builder.entity(ty, id);
-            self.scope.push(entity);
+            self.scope.push((ty, id, entity));
             self.literals.push(entity);
         }
         while self.random.percent(self.profile.rare) {
@@ -117,16 +129,22 @@ impl Making<'_> {
     }
 
     fn scalar(&mut self) -> u32 {
-        match self.random.below(8) {
-            0..=2 => {
+        let kind = match self.flavour {
+            _ if self.random.percent(25) => self.random.below(4),
+            Flavour::Mixed => self.random.below(4),
+            Flavour::Ints => 0,
+            Flavour::Decimals => 1,
+        };
+        match kind {
+            0 => {
                 let n = self.random.pick(&INTS);
                 self.builder.int(n)
             }
-            3 | 4 => {
+            1 => {
                 let text = self.random.pick(&DECIMALS);
                 self.builder.decimal(text)
             }
-            5 | 6 => {
+            2 => {
                 let text = self.random.pick(&TEXTS);
                 self.builder.text(text)
             }
@@ -192,7 +210,7 @@ impl Making<'_> {
         match self.random.below(10) {
             0 | 1 => None,
             2 => Some(self.random.pick(&self.common)),
-            _ => Some(self.random.pick(&self.scope)),
+            _ => Some(self.random.pick(&self.scope).2),
         }
     }
 
@@ -203,7 +221,12 @@ impl Making<'_> {
             if !self.random.percent(self.profile.rare) {
                 continue;
             }
-            let (ty, id) = (self.random.pick(&TYPES), self.random.pick(&TEXTS));
+            let (ty, id) = if self.random.percent(70) {
+                let (ty, id, _) = self.random.pick(&self.scope);
+                (ty, id)
+            } else {
+                (self.random.pick(&TYPES), self.random.pick(&TEXTS))
+            };
             if !items.iter().any(|item| item.0 == ty && item.1 == id) {
                 items.push((ty, id, self.object(&ATTRIBUTES, 0)));
             }
@@ -272,11 +295,23 @@ impl Making<'_> {
             }
             3 | 4 if nesting > 0 => {
                 let op = self.random.below(3) as u32;
-                let (left, right) = (self.operand(nesting - 1), self.operand(nesting - 1));
+                let (left, right) = (self.summand(nesting - 1), self.summand(nesting - 1));
                 self.builder.node(Node::Arithmetic { op, left, right })
             }
             _ => self.term(),
         }
+    }
+
+    /// A side of arithmetic, mostly an Int, so that numbers come out and overflow.
+    fn summand(&mut self, nesting: usize) -> u32 {
+        let ints: Vec<u32> = (0..self.builder.values().len() as u32)
+            .filter(|&v| matches!(self.builder.values()[v as usize], Value::Int(_)))
+            .collect();
+        if ints.is_empty() || self.random.percent(40) {
+            return self.operand(nesting);
+        }
+        let value = self.random.pick(&ints);
+        self.builder.node(Node::Literal { value })
     }
 
     fn predicate(&mut self) -> u32 {
@@ -329,7 +364,7 @@ impl Making<'_> {
             }
             15..=17 if self.variables > 0 => Node::Exists { body: self.condition(below), variable: self.variable() },
             18 => return self.comparison(nesting),
-            _ => return self.predicate(),
+            _ => return self.gathering(),
         };
         self.builder.node(node)
     }
@@ -345,8 +380,47 @@ impl Making<'_> {
         top
     }
 
+    /// A condition that mostly has many rows: what predicates bind over the whole history.
+    fn gathering(&mut self) -> u32 {
+        let (left, right) = (self.predicate(), self.predicate());
+        let body = match self.random.below(5) {
+            0 | 1 => left,
+            2 => self.builder.node(Node::And { left, right }),
+            3 => self.builder.node(Node::Or { left, right }),
+            _ => self.both_ways(),
+        };
+        let within = Within { amount: 100, unit: 3 };
+        self.builder.node(Node::Formerly { within, body })
+    }
+
+    /// Two conditions joined in either order: rows that are equal by variable, with pairs in unlike order.
+    fn both_ways(&mut self) -> u32 {
+        let (x, y) = (self.simple(), self.simple());
+        let left = self.builder.node(Node::And { left: x, right: y });
+        let right = self.builder.node(Node::And { left: y, right: x });
+        self.builder.node(Node::Or { left, right })
+    }
+
+    /// The sum of one field over the whole history.
+    fn column(&mut self) -> u32 {
+        let variable = self.variable();
+        let term = self.builder.node(Node::Variable { variable });
+        let path = self.path(&NAMES);
+        let arguments = self.builder.arguments(&[(path, term)]);
+        let namespace = self.builder.names(&[]);
+        let (action, kind) = self.action();
+        let body = self.builder.node(Node::Predicate { namespace, action, kind, arguments });
+        let within = Within { amount: i64::MAX, unit: 0 };
+        let body = self.builder.node(Node::Formerly { within, body });
+        let binders = self.builder.binders(&[variable]);
+        self.builder.node(Node::Sum { variable, binders, body })
+    }
+
     fn aggregate(&mut self, nesting: usize) -> u32 {
-        let body = self.condition(nesting);
+        if self.variables > 0 && self.random.percent(15) {
+            return self.column();
+        }
+        let body = if self.random.percent(35) { self.gathering() } else { self.condition(nesting) };
         let count = if self.variables > 0 { self.random.pick(&[0, 1, 1, 2, 2, 3]) } else { 0 };
         let binders: Vec<u32> = (0..count).map(|_| self.variable()).collect();
         let run = self.builder.binders(&binders);

@@ -2,5 +2,8 @@
 
 pub mod compare;
 pub mod convert;
+pub mod examples;
+pub mod lists;
 pub mod run;
 pub mod rust;
+pub mod variants;

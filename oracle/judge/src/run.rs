@@ -3,7 +3,7 @@
 use std::collections::BTreeMap;
 
 use casefile::{Node, Tables};
-use generate::calls::{output_fill, random_call, spoiled, tightened, workspace_fill, Done};
+use generate::calls::{output_fill, random_call, spoiled, tightened, workspace_fill, Done, Spoiled};
 use generate::cases::random_case;
 use generate::damage::damaged;
 use generate::{Call, Kind, Profile, Random, RandomCase};
@@ -91,7 +91,11 @@ impl Report {
                 self.expect(case, kept, &format!("a limit does not decide as it must\n{tight:?}\n{tight_done:?}"));
             }
             if random.percent(10) {
-                self.question(&spoiled(random, &call, case), case, &mut rust);
+                let Spoiled { call, refusal } = spoiled(random, &call, case);
+                let said = self.question(&call, case, &mut rust).outcome.refusal;
+                // Refusal 13 comes after the walk, which may have ended in 11 or 12.
+                let kept = said == refusal || (refusal == 13 && (said == 11 || said == 12));
+                self.expect(case, kept, &format!("a spoiled call is refused {said}, not {refusal}\n{call:?}"));
             }
         }
     }
@@ -112,12 +116,11 @@ impl Report {
         done
     }
 
-    /// A difference, unless the model with rows equal as in the Rust has none.
+    /// A difference, unless it is the listed one: the document differs, and the document
+    /// with rows equal as in the Rust does not.
     fn differs(&mut self, how: String, call: &Call, case: &RandomCase, rust: &mut RustCase) {
-        let in_order = Model { variant: Variant::RowsInPairOrder };
-        let listed = self.model.variant == Variant::Document
-            && compare(call, &call.ask(in_order, &case.bytes), rust) == Found::Same;
-        if listed {
+        let mut same = |variant| compare(call, &call.ask(Model { variant }, &case.bytes), rust) == Found::Same;
+        if !same(Variant::Document) && same(Variant::RowsInPairOrder) {
             self.to_both += 1;
             self.count(LISTED);
         } else {

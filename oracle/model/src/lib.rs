@@ -14,6 +14,11 @@ pub use calls::{Model, Outcome, Question};
 pub use equality::decimal;
 pub use variant::Variant;
 
+/// Whether two values of a checked case are equal.
+pub fn values_equal(case: &[u8], a: u32, b: u32) -> bool {
+    equality::values_equal(file::File { bytes: case }, Variant::Document, a, b)
+}
+
 pub const MOST_FILE_BYTES: usize = 4_194_304;
 pub const MOST_RECORDS: usize = 16_384;
 pub const MOST_NODES: usize = 1_024;

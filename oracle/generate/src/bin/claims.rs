@@ -43,7 +43,7 @@ fn random_question(random: &mut Random, case: &RandomCase) -> Call {
             let needed = call.ask(Model::document(), &case.bytes).outcome;
             tightened(random, &call, &needed, case.tables.variables)
         }
-        _ => spoiled(random, &call, case),
+        _ => spoiled(random, &call, case).call,
     }
 }
 

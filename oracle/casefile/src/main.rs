@@ -38,7 +38,8 @@ fn pack_file(text: &str, case: &str) -> Result<(), String> {
 
 fn print_text(case: &str) -> Result<(), String> {
     let bytes = std::fs::read(case).map_err(|error| format!("{case}: {error}"))?;
-    let text = Tables::decode(&bytes).and_then(|tables| unpack(&tables)).map_err(|message| format!("{case}: {message}"))?;
+    let text =
+        Tables::decode(&bytes).and_then(|tables| unpack(&tables)).map_err(|message| format!("{case}: {message}"))?;
     print!("{text}");
     Ok(())
 }

@@ -176,81 +176,86 @@ pub struct Spoiled {
 /// The same call with one thing wrong, for refusals 7 to 10 and 13.
 pub fn spoiled(random: &mut Random, call: &Call, case: &RandomCase) -> Spoiled {
     let mut call = call.clone();
-    let tables = &case.tables;
     let refusal = match random.below(10) {
+        0..=2 => spoil_place(random, &mut call, case),
+        3..=5 => spoil_start(random, &mut call, case),
+        6..=8 => spoil_limits(random, &mut call, case.tables.variables),
+        _ if call.kind == Kind::Rows => {
+            call.binders.push(case.tables.variables + random.pick(&[0, 1, u32::MAX - 16]));
+            13
+        }
+        _ => spoil_place(random, &mut call, case),
+    };
+    Spoiled { call, refusal }
+}
+
+/// A point or node that is not there, or a node of another sort.
+fn spoil_place(random: &mut Random, call: &mut Call, case: &RandomCase) -> u32 {
+    match random.below(3) {
         0 => {
-            call.point = tables.points.len() as u32 + random.pick(&[0, 1, u32::MAX - 20_000]);
+            call.point = case.tables.points.len() as u32 + random.pick(&[0, 1, u32::MAX - 20_000]);
             7
         }
         1 => {
-            call.node = tables.nodes.len() as u32 + random.pick(&[0, 1, u32::MAX - 2_000]);
+            call.node = case.tables.nodes.len() as u32 + random.pick(&[0, 1, u32::MAX - 2_000]);
             8
-        }
-        2 => {
-            call.node = other_sort(random, &call, case);
-            8
-        }
-        3 => {
-            call.start.extend(random.pick(&[&[0][..], &[0, 0], &[1, 5]]));
-            9
-        }
-        4 | 5 if !call.start.is_empty() => {
-            spoil_start(random, &mut call, case);
-            9
-        }
-        6 => {
-            call.limit = model::MOST_STEPS + random.pick(&[1, 2, u64::MAX - model::MOST_STEPS]);
-            10
-        }
-        7 => {
-            call.room = model::MOST_ROOM + random.pick(&[1, 2]);
-            call.fit_workspace(tables.variables.min(1));
-            10
-        }
-        8 if call.workspace > 2 => {
-            call.fit_workspace(tables.variables);
-            call.workspace -= random.between(1, 2);
-            10
-        }
-        _ if call.kind == Kind::Rows => {
-            call.binders.push(tables.variables + random.pick(&[0, 1, u32::MAX - 16]));
-            13
         }
         _ => {
-            call.point = u32::MAX;
-            7
+            call.node = other_sort(random, call, case);
+            8
         }
-    };
-    Spoiled { call, refusal }
+    }
+}
+
+/// A limit above its most, or a workspace a cell or two too small.
+fn spoil_limits(random: &mut Random, call: &mut Call, variables: u32) -> u32 {
+    match random.below(3) {
+        0 => call.limit = model::MOST_STEPS + random.pick(&[1, 2, u64::MAX - model::MOST_STEPS]),
+        1 if variables > 0 && call.room > 0 => {
+            call.fit_workspace(variables);
+            call.workspace -= random.between(1, 2);
+        }
+        _ => {
+            call.room = model::MOST_ROOM + random.pick(&[1, 2]);
+            call.fit_workspace(variables.min(1));
+        }
+    }
+    10
 }
 
 /// A node that is there, of a sort that the call does not answer.
 fn other_sort(random: &mut Random, call: &Call, case: &RandomCase) -> u32 {
     let answers = |kind: u32| if call.kind == Kind::Number { kind >= 30 } else { kind <= 10 };
-    let others: Vec<u32> = (0..case.tables.nodes.len() as u32)
-        .filter(|&k| !answers(case.tables.nodes[k as usize][0]))
-        .collect();
+    let others: Vec<u32> =
+        (0..case.tables.nodes.len() as u32).filter(|&k| !answers(case.tables.nodes[k as usize][0])).collect();
     random.pick(&others)
 }
 
-/// One starting binding made malformed, or the cells too few.
-fn spoil_start(random: &mut Random, call: &mut Call, case: &RandomCase) {
+/// Cells too many or too few, or one starting binding malformed.
+fn spoil_start(random: &mut Random, call: &mut Call, case: &RandomCase) -> u32 {
     let tables = &case.tables;
-    let at = 2 * random.below(call.start.len() / 2);
     let int = tables.values.iter().position(|value| value[0] == 2);
-    let cells = match (random.below(9), int) {
-        (0, _) => [0, 1],
-        (1, _) => [4, 0],
-        (2, _) => [u64::MAX, 0],
-        (3, _) => [2, tables.values.len() as u64],
-        (4, _) => [3, tables.strings.len() as u64],
-        (5, _) => [2, 1 << 32],
-        (6, _) => [3, 1 << 32],
-        (7, Some(int)) => [2, int as u64],
-        _ => {
-            call.start.pop();
-            return;
-        }
+    let cells = match (random.below(10), int) {
+        _ if call.start.is_empty() => None,
+        (0, _) => Some([0, 1]),
+        (1, _) => Some([4, 0]),
+        (2, _) => Some([u64::MAX, 0]),
+        (3, _) => Some([2, tables.values.len() as u64]),
+        (4, _) => Some([3, tables.strings.len() as u64]),
+        (5, _) => Some([2, 1 << 32]),
+        (6, _) => Some([3, 1 << 32]),
+        (7, Some(int)) => Some([2, int as u64]),
+        _ => None,
     };
-    call.start[at..at + 2].copy_from_slice(&cells);
+    match cells {
+        Some(cells) => {
+            let at = 2 * random.below(call.start.len() / 2);
+            call.start[at..at + 2].copy_from_slice(&cells);
+        }
+        None if !call.start.is_empty() && random.percent(50) => {
+            call.start.truncate(call.start.len() - random.between(1, 2))
+        }
+        None => call.start.extend(random.pick(&[&[0][..], &[0, 0], &[1, 5]])),
+    }
+    9
 }

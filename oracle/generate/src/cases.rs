@@ -29,8 +29,22 @@ pub struct RandomCase {
 }
 
 const DECIMALS: [&str; 16] = [
-    "1.0", "1.00", "1.000", "1.0000", "1.00000", "01.0", "2.5", "2.50", "0.0", "-0.0", "1", ".5",
-    "-922337203685477.5808", "922337203685477.5807", "922337203685477.58070", "922337203685477.5808",
+    "1.0",
+    "1.00",
+    "1.000",
+    "1.0000",
+    "1.00000",
+    "01.0",
+    "2.5",
+    "2.50",
+    "0.0",
+    "-0.0",
+    "1",
+    ".5",
+    "-922337203685477.5808",
+    "922337203685477.5807",
+    "922337203685477.58070",
+    "922337203685477.5808",
 ];
 const TEXTS: [&str; 8] = ["a", "b", "T", "1.0", "", "id", "naïve \"q\" \\ \u{301}", "x.y"];
 /// The first two stand in nearly every object, so that paths mostly lead somewhere.
@@ -359,9 +373,7 @@ impl Making<'_> {
             7 => Node::Not { inner: self.condition(below) },
             8..=11 => Node::Formerly { body: self.condition(below), within: self.within() },
             12 => Node::Previous { body: self.condition(below), within: self.within() },
-            13 | 14 => {
-                Node::Since { left: self.condition(below), right: self.condition(below), within: self.within() }
-            }
+            13 | 14 => Node::Since { left: self.condition(below), right: self.condition(below), within: self.within() },
             15..=17 if self.variables > 0 => Node::Exists { body: self.condition(below), variable: self.variable() },
             18 => return self.comparison(nesting),
             _ => return self.gathering(),

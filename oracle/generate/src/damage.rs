@@ -35,7 +35,7 @@ fn wound(random: &mut Random, copy: &mut Vec<u8>) {
                 1 => old.wrapping_sub(1),
                 2 => u32::MAX,
                 3 => random.below(40) as u32,
-                4 => random.next() as u32,
+                4 => random.bits() as u32,
                 _ => 0,
             };
             copy[place..place + 4].copy_from_slice(&word.to_le_bytes());

@@ -21,6 +21,7 @@ pub fn rule_files() -> Vec<RuleFile> {
     list.utf8();
     list.values();
     list.arrays_and_objects();
+    list.sharing();
     list.points();
     list.entities();
     list.dots();
@@ -67,6 +68,12 @@ fn with_points(count: usize) -> Tables {
     tables.points = vec![[0, 0, 0, 0, 0, 0, 0, 0, NONE, NONE, 0, 0]; count];
     tables
 }
+
+/// A node as a function of the node below it.
+type Over = fn(u32) -> [u32; 8];
+
+/// A change that breaks a rule, and the refusal it gets.
+type Break = (u32, fn(&mut Tables));
 
 struct RuleList {
     files: Vec<RuleFile>,
@@ -162,14 +169,40 @@ impl RuleList {
 
     fn utf8(&mut self) {
         let good: [&[u8]; 10] = [
-            b"\x00", b"\x7F", b"\xC2\x80", b"\xDF\xBF", b"\xE0\xA0\x80", b"\xED\x9F\xBF", b"\xEE\x80\x80",
-            b"\xEF\xBF\xBF", b"\xF0\x90\x80\x80", b"\xF4\x8F\xBF\xBF",
+            b"\x00",
+            b"\x7F",
+            b"\xC2\x80",
+            b"\xDF\xBF",
+            b"\xE0\xA0\x80",
+            b"\xED\x9F\xBF",
+            b"\xEE\x80\x80",
+            b"\xEF\xBF\xBF",
+            b"\xF0\x90\x80\x80",
+            b"\xF4\x8F\xBF\xBF",
         ];
         let bad: [&[u8]; 22] = [
-            b"\x80", b"\xBF", b"\xC0\x80", b"\xC1\xBF", b"\xC2", b"\xC2A", b"\xC2\xC2", b"\xE0\x9F\xBF", b"\xE1\x80",
-            b"\xE1A\x80", b"\xE1\x80A", b"\xED\xA0\x80", b"\xED\xBF\xBF", b"\xF0\x8F\xBF\xBF", b"\xF1\x80\x80",
-            b"\xF1\x80\x80A", b"\xF1\x80A\x80", b"\xF4\x90\x80\x80", b"\xF5\x80\x80\x80", b"\xF8\x88\x80\x80\x80",
-            b"\xFE", b"\xFF",
+            b"\x80",
+            b"\xBF",
+            b"\xC0\x80",
+            b"\xC1\xBF",
+            b"\xC2",
+            b"\xC2A",
+            b"\xC2\xC2",
+            b"\xE0\x9F\xBF",
+            b"\xE1\x80",
+            b"\xE1A\x80",
+            b"\xE1\x80A",
+            b"\xED\xA0\x80",
+            b"\xED\xBF\xBF",
+            b"\xF0\x8F\xBF\xBF",
+            b"\xF1\x80\x80",
+            b"\xF1\x80\x80A",
+            b"\xF1\x80A\x80",
+            b"\xF4\x90\x80\x80",
+            b"\xF5\x80\x80\x80",
+            b"\xF8\x88\x80\x80\x80",
+            b"\xFE",
+            b"\xFF",
         ];
         for text in good {
             self.add(0, &format!("UTF-8 {text:02x?}"), &with_strings(&[text.to_vec()]));
@@ -241,6 +274,24 @@ impl RuleList {
             nest(&mut empty, kind, if kind == 6 { NONE } else { 0 }, 32);
             self.add(0, &format!("kind {kind} nested to depth 32 over an empty one"), &empty);
         }
+    }
+
+    /// Values and nodes that hold the one below twice: 2 to the 31 and more parts when unfolded.
+    fn sharing(&mut self) {
+        self.change(0, "arrays that hold the one below twice, to depth 31, in context and in a literal", |t| {
+            let mut below = INT as u32;
+            for _ in 1..31 {
+                let first = t.members.len() as u32;
+                t.members.extend([[NONE, below], [NONE, below]]);
+                below = t.values.len() as u32;
+                t.values.push([6, first, 2, 0]);
+            }
+            let first = t.members.len() as u32;
+            t.members.push([2, below]);
+            t.points[0][7] = t.values.len() as u32;
+            t.values.push([7, first, 1, 0]);
+            t.nodes[LITERAL][1] = below;
+        });
     }
 
     fn points(&mut self) {
@@ -360,8 +411,18 @@ impl RuleList {
 
     fn node_children(&mut self) {
         let conditions = [
-            (AND, 1), (AND, 2), (OR, 1), (OR, 2), (NOT, 1), (FORMERLY, 4), (PREVIOUS, 4), (SINCE, 1), (SINCE, 2),
-            (EXISTS, 2), (COUNT, 3), (SUM, 4),
+            (AND, 1),
+            (AND, 2),
+            (OR, 1),
+            (OR, 2),
+            (NOT, 1),
+            (FORMERLY, 4),
+            (PREVIOUS, 4),
+            (SINCE, 1),
+            (SINCE, 2),
+            (EXISTS, 2),
+            (COUNT, 3),
+            (SUM, 4),
         ];
         for (node, word) in conditions {
             let mut child = |expected, what: &str, to: u32| {
@@ -393,7 +454,9 @@ impl RuleList {
 
     fn node_lists(&mut self) {
         let (strings, _, lists) = sizes();
-        for (node, word, size) in [(CONTEXT, 1, 1), (SCOPE, 2, 1), (PREDICATE, 1, 1), (PREDICATE, 5, 3), (COUNT, 1, 1), (SUM, 2, 1)] {
+        for (node, word, size) in
+            [(CONTEXT, 1, 1), (SCOPE, 2, 1), (PREDICATE, 1, 1), (PREDICATE, 5, 3), (COUNT, 1, 1), (SUM, 2, 1)]
+        {
             let mut run = |expected, rule: &str, first: u32, count: u32| {
                 self.change(expected, &format!("node {node}, run at word {word}, {rule}"), |t| {
                     t.nodes[node][word] = first;
@@ -423,7 +486,9 @@ impl RuleList {
         argument(6, "term is the node itself", 2, PREDICATE as u32);
         argument(6, "term is a later node", 2, TP as u32);
         argument(0, "term is a wildcard", 2, WILDCARD as u32);
-        for (term, what) in [(AGGREGATE, "an aggregate term"), (ARITHMETIC, "arithmetic"), (TP, "a condition"), (COUNT, "an aggregate")] {
+        for (term, what) in
+            [(AGGREGATE, "an aggregate term"), (ARITHMETIC, "arithmetic"), (TP, "a condition"), (COUNT, "an aggregate")]
+        {
             self.change(6, &format!("argument: term is {what}"), |t| {
                 let first = t.lists.len() as u32;
                 t.lists.extend([PATH as u32, 1, term as u32]);
@@ -452,7 +517,7 @@ impl RuleList {
     }
 
     fn heights(&mut self) {
-        let towers: [(&str, [u32; 8], fn(u32) -> [u32; 8]); 3] = [
+        let towers: [(&str, [u32; 8], Over); 3] = [
             ("Not over Tp", [10, 0, 0, 0, 0, 0, 0, 0], |below| [3, below, 0, 0, 0, 0, 0, 0]),
             ("Formerly over Tp", [10, 0, 0, 0, 0, 0, 0, 0], |below| [4, 1, 0, 0, below, 0, 0, 0]),
             ("arithmetic over a variable", [23, 0, 0, 0, 0, 0, 0, 0], |below| [26, 0, below, below, 0, 0, 0, 0]),
@@ -479,7 +544,7 @@ impl RuleList {
 
     /// Two rules broken: the lower number is given.
     fn lowest(&mut self) {
-        let breaks: [(u32, fn(&mut Tables)); 5] = [
+        let breaks: [Break; 5] = [
             (2, |t| t.variables = 17),
             (3, |t| t.text.push(b'z')),
             (4, |t| t.values[NULL][0] = 8),

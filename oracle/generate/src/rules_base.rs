@@ -101,17 +101,7 @@ pub fn base() -> Tables {
         [6, 7, 1, 0],
         [6, 8, 1, 0],
     ];
-    tables.members = vec![
-        [NONE, 2],
-        [2, 2],
-        [4, 4],
-        [3, 2],
-        [2, 9],
-        [NONE, 9],
-        [2, 11],
-        [NONE, 0],
-        [NONE, 13],
-    ];
+    tables.members = vec![[NONE, 2], [2, 2], [4, 4], [3, 2], [2, 9], [NONE, 9], [2, 11], [NONE, 0], [NONE, 13]];
     tables.points = vec![[100, 0, 0, 1, 0, 6, 9, 8, 5, NONE, 1, 2]];
     tables.lists = vec![1, 1, 2, 7, 1, 4, 8, 2, 4, 7, 1, 0, 0];
     tables.nodes = vec![

@@ -23,8 +23,7 @@ fn text_and_back_means_the_same() {
             for cells in call.start.chunks_mut(2).filter(|cells| cells[0] > 1) {
                 cells.fill(0);
             }
-            let (before, after) =
-                (call.ask(Model::document(), &case.bytes), call.ask(Model::document(), &bytes));
+            let (before, after) = (call.ask(Model::document(), &case.bytes), call.ask(Model::document(), &bytes));
             assert_eq!(before.outcome, after.outcome, "{:?} {text}", call.kind == Kind::Rows);
         }
         let again = unpack(&packed.tables).expect("a packed case has a text");

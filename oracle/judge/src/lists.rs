@@ -1,7 +1,7 @@
 //! The lists that the repository's own tests replay with no Rust at hand. docs/JUDGE-LIST.md
 //! describes their bytes. The same seed gives the same bytes.
 
-use std::path::Path;
+use std::path::{Path, PathBuf};
 
 use dogwood::interpreter::value::{decimal_reading, Value};
 use generate::calls::{random_call, spoiled, tightened};
@@ -15,8 +15,25 @@ use crate::compare::{compare, Found};
 use crate::convert::Converter;
 use crate::rust::RustCase;
 
-/// What a list holds, in a sentence.
-pub type Written = String;
+/// A list's file name, its bytes, and what it holds.
+pub struct List {
+    pub name: &'static str,
+    pub bytes: Vec<u8>,
+    pub holds: String,
+}
+
+/// The seed of the committed list of answers.
+const SEED: u64 = 2026;
+
+/// The folder that the lists are committed in.
+pub fn folder() -> PathBuf {
+    Path::new(env!("CARGO_MANIFEST_DIR")).join("../../data")
+}
+
+/// All lists, made anew.
+pub fn lists() -> Result<Vec<List>, String> {
+    Ok(vec![answers(SEED), rule_file_list()?, equalities()?])
+}
 
 const CASES: usize = 300;
 /// After so many cases comes a damaged copy of the last.
@@ -41,13 +58,8 @@ fn push_file(bytes: &mut Vec<u8>, file: &[u8]) {
     bytes.resize(bytes.len().next_multiple_of(4), 0);
 }
 
-fn write(folder: &Path, name: &str, bytes: &[u8], holds: &str) -> Result<Written, String> {
-    std::fs::write(folder.join(name), bytes).map_err(|error| format!("{name}: {error}"))?;
-    Ok(format!("{name}: {} bytes, {holds}", bytes.len()))
-}
-
 /// `judge-answers.bin`: calls of all four kinds with the answers that the Rust agreed to.
-pub fn write_answers(folder: &Path, seed: u64) -> Result<Written, String> {
+fn answers(seed: u64) -> List {
     let mut random = Random::new(seed);
     let mut list = Vec::new();
     let (mut calls, mut refused) = (0, [0; 14]);
@@ -79,7 +91,8 @@ pub fn write_answers(folder: &Path, seed: u64) -> Result<Written, String> {
         push(&mut bytes, word);
     }
     bytes.extend(list);
-    write(folder, "judge-answers.bin", &bytes, &format!("{cases} cases, {calls} calls, by refusal {refused:?}"))
+    let holds = format!("{cases} cases, {calls} calls, by refusal {refused:?}");
+    List { name: "judge-answers.bin", bytes, holds }
 }
 
 /// Calls on a case that passes, each the Rust agrees with or is no question for it.
@@ -147,8 +160,18 @@ fn push_call(list: &mut Vec<u8>, call: &Call, outcome: Outcome, output: &[u64]) 
     let (start, binders) = (call.start.len() as u32, call.binders.len() as u32);
     let filled = if call.kind == Kind::Rows { 2 * call.binders.len() * outcome.answer as usize } else { 0 };
     let header = [
-        kind, call.point, call.node, low, high, call.room as u32, call.workspace as u32, start, binders,
-        call.output as u32, outcome.refusal, filled as u32,
+        kind,
+        call.point,
+        call.node,
+        low,
+        high,
+        call.room as u32,
+        call.workspace as u32,
+        start,
+        binders,
+        call.output as u32,
+        outcome.refusal,
+        filled as u32,
     ];
     header.iter().for_each(|&word| push(list, word));
     call.start.iter().for_each(|&cell| push_cell(list, cell));
@@ -160,7 +183,7 @@ fn push_call(list: &mut Vec<u8>, call: &Call, outcome: Outcome, output: &[u64]) 
 }
 
 /// `rule-files.bin`: the files that break each rule of the check singly, and their neighbours.
-pub fn write_rule_files(folder: &Path) -> Result<Written, String> {
+fn rule_file_list() -> Result<List, String> {
     let files = rule_files();
     let mut bytes = Vec::new();
     push(&mut bytes, files.len() as u32);
@@ -172,22 +195,78 @@ pub fn write_rule_files(folder: &Path) -> Result<Written, String> {
         push(&mut bytes, file.expected);
         push_file(&mut bytes, &file.bytes);
     }
-    write(folder, "rule-files.bin", &bytes, &format!("{} files", files.len()))
+    Ok(List { name: "rule-files.bin", bytes, holds: format!("{} files", files.len()) })
 }
 
 const DECIMALS: [&str; 64] = [
-    "1.0", "1.00", "1.000", "1.0000", "1.00000", "01.0", "0001.0", "1", "1.", ".5", ".", "", "-", "-.5", "-1.0", "--1.0",
-    "+1.0", " 1.0", "1.0 ", "1.0a", "a.0", "1.a", "1,0", "1.0.0", "1..0", "1.-0", "0.0", "-0.0", "00.00", "0.0001",
-    "-0.0001", "0.00001", "0.5", "-0.5", "0.50", "0.05", "12.3456", "12.34567", "1e5", "1.0e5", "0x1.0", "１.0", "1．0",
-    "922337203685477.5807", "922337203685477.5808", "922337203685477.58070", "922337203685477.580", "-922337203685477.5808",
-    "-922337203685477.5809", "-922337203685477.580", "0922337203685477.5807", "922337203685478.0", "922337203685476.9999",
-    "9223372036854775807.0", "9223372036854775808.0", "-9223372036854775808.0", "-9223372036854775809.0",
-    "18446744073709551616.0", "184467440737095516160.0", "99999999999999999999999999999999999999999999999999.0", "-00.0",
-    "1.0001", "1.001", "10.0",
+    "1.0",
+    "1.00",
+    "1.000",
+    "1.0000",
+    "1.00000",
+    "01.0",
+    "0001.0",
+    "1",
+    "1.",
+    ".5",
+    ".",
+    "",
+    "-",
+    "-.5",
+    "-1.0",
+    "--1.0",
+    "+1.0",
+    " 1.0",
+    "1.0 ",
+    "1.0a",
+    "a.0",
+    "1.a",
+    "1,0",
+    "1.0.0",
+    "1..0",
+    "1.-0",
+    "0.0",
+    "-0.0",
+    "00.00",
+    "0.0001",
+    "-0.0001",
+    "0.00001",
+    "0.5",
+    "-0.5",
+    "0.50",
+    "0.05",
+    "12.3456",
+    "12.34567",
+    "1e5",
+    "1.0e5",
+    "0x1.0",
+    "１.0",
+    "1．0",
+    "922337203685477.5807",
+    "922337203685477.5808",
+    "922337203685477.58070",
+    "922337203685477.580",
+    "-922337203685477.5808",
+    "-922337203685477.5809",
+    "-922337203685477.580",
+    "0922337203685477.5807",
+    "922337203685478.0",
+    "922337203685476.9999",
+    "9223372036854775807.0",
+    "9223372036854775808.0",
+    "-9223372036854775808.0",
+    "-9223372036854775809.0",
+    "18446744073709551616.0",
+    "184467440737095516160.0",
+    "99999999999999999999999999999999999999999999999999.0",
+    "-00.0",
+    "1.0001",
+    "1.001",
+    "10.0",
 ];
 
 /// `equalities.bin`: decimals as the Rust reads them, and pairs of values as it finds them equal.
-pub fn write_equalities(folder: &Path) -> Result<Written, String> {
+fn equalities() -> Result<List, String> {
     let tables = equality_case();
     let case = tables.encode();
     let converter = Converter { tables: &tables };
@@ -218,7 +297,8 @@ pub fn write_equalities(folder: &Path) -> Result<Written, String> {
         }
     }
     let pairs = values.len() * values.len();
-    write(folder, "equalities.bin", &bytes, &format!("{strings} readings, {pairs} pairs, {equal} equal"))
+    let holds = format!("{strings} readings, {pairs} pairs, {equal} equal");
+    Ok(List { name: "equalities.bin", bytes, holds })
 }
 
 /// A case whose strings are the decimals to read, and whose values are of every kind, nested too.
@@ -251,7 +331,9 @@ fn equality_case() -> casefile::Tables {
         let array = builder.array(items);
         builder.array(&[array]);
     }
-    for members in [&[][..], &[("a", one)], &[("a", two)], &[("b", one)], &[("a", one), ("b", two)], &[("a", two), ("b", one)]] {
+    for members in
+        [&[][..], &[("a", one)], &[("a", two)], &[("b", one)], &[("a", one), ("b", two)], &[("a", two), ("b", one)]]
+    {
         let object = builder.object(members);
         builder.array(&[object]);
         builder.object(&[("c", object)]);

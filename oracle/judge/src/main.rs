@@ -1,12 +1,11 @@
 //! Runs the comparison with the Rust and writes the lists made from it.
 
-use std::path::Path;
 use std::process::ExitCode;
 use std::time::Instant;
 
 use generate::Random;
 use judge::examples::ask_examples;
-use judge::lists::{write_answers, write_equalities, write_rule_files};
+use judge::lists::{folder, lists};
 use judge::run::Report;
 use judge::variants::caught;
 use model::{Model, Variant};
@@ -16,9 +15,6 @@ const USAGE: &str = "usage: oracle compare N SEED    put N questions to the mode
        oracle variants SEED      catch every wrong variant of the model
        oracle lists              write data/*.bin again, byte for byte";
 
-/// The seed of the committed list of answers.
-const LIST_SEED: u64 = 2026;
-
 fn main() -> ExitCode {
     let arguments: Vec<String> = std::env::args().skip(1).collect();
     let arguments: Vec<&str> = arguments.iter().map(String::as_str).collect();
@@ -27,7 +23,7 @@ fn main() -> ExitCode {
         ["compare", questions, seed] => number(questions).and_then(|n| compare(n, number(seed)?)),
         ["examples"] => examples(),
         ["variants", seed] => number(seed).and_then(variants),
-        ["lists"] => lists(),
+        ["lists"] => write_lists(),
         _ => Err(USAGE.to_string()),
     };
     match done {
@@ -65,11 +61,11 @@ fn examples() -> Result<bool, String> {
     Ok(differences.is_empty())
 }
 
-fn lists() -> Result<bool, String> {
-    let folder = Path::new(env!("CARGO_MANIFEST_DIR")).join("../../data");
-    println!("{}", write_answers(&folder, LIST_SEED)?);
-    println!("{}", write_rule_files(&folder)?);
-    println!("{}", write_equalities(&folder)?);
+fn write_lists() -> Result<bool, String> {
+    for list in lists()? {
+        std::fs::write(folder().join(list.name), &list.bytes).map_err(|error| format!("{}: {error}", list.name))?;
+        println!("{}: {} bytes, {}", list.name, list.bytes.len(), list.holds);
+    }
     Ok(true)
 }
 

@@ -133,8 +133,8 @@ impl Model {
         if question.start.len() != 2 * variables || !question.start.chunks(2).all(well_formed) {
             return 9;
         }
-        let limit_allowed = question.limit < MOST_STEPS
-            || (question.limit == MOST_STEPS && self.variant != Variant::MostStepsRefused);
+        let limit_allowed =
+            question.limit < MOST_STEPS || (question.limit == MOST_STEPS && self.variant != Variant::MostStepsRefused);
         let room_allowed = question.room <= MOST_ROOM;
         if !limit_allowed || !room_allowed || workspace < 2 * variables * question.room as usize {
             return 10;

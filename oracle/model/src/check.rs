@@ -25,7 +25,7 @@ pub fn check(variant: Variant, bytes: &[u8]) -> u32 {
 fn bodies_in_place(file: File) -> bool {
     let mut end = CONTENTS;
     for table in TABLES {
-        if file.offset(table) != end || file.length(table) % table.record_bytes() != 0 {
+        if file.offset(table) != end || !file.length(table).is_multiple_of(table.record_bytes()) {
             return false;
         }
         end += file.length(table);
@@ -125,9 +125,9 @@ impl Check<'_> {
         let items = if count == 0 { Vec::new() } else { self.file.members(first, count) };
         let names = items.iter().all(|[name, _]| (*name == NONE) == (kind == 6));
         let rising = kind == 6
-            || items.windows(2).all(|pair| {
-                pair[0][0] < pair[1][0] || (self.is(Variant::NamesRepeat) && pair[0][0] == pair[1][0])
-            });
+            || items
+                .windows(2)
+                .all(|pair| pair[0][0] < pair[1][0] || (self.is(Variant::NamesRepeat) && pair[0][0] == pair[1][0]));
         names && rising && items.iter().all(|[_, value]| *value < number)
     }
 
@@ -162,9 +162,8 @@ impl Check<'_> {
         let mut dotless: Vec<bool> = Vec::new();
         for number in 0..self.file.count(Table::Values) as u32 {
             let [kind, first, count, _] = self.file.value(number);
-            let names = kind != 7
-                || count == 0
-                || self.file.members(first, count).iter().all(|[name, _]| !self.has_dot(*name));
+            let names =
+                kind != 7 || count == 0 || self.file.members(first, count).iter().all(|[name, _]| !self.has_dot(*name));
             let below = (kind == 6 && self.is(Variant::DotUnderArray))
                 || self.children(number).iter().all(|&child| dotless[child as usize]);
             dotless.push(names && below);
@@ -230,8 +229,7 @@ impl Check<'_> {
         for number in 0..self.file.count(Table::Values) as u32 {
             let kind = self.file.value(number)[0];
             let below = self.children(number).iter().all(|&child| {
-                literal[child as usize]
-                    || (self.is(Variant::NullLiteralPasses) && self.file.value(child)[0] == 0)
+                literal[child as usize] || (self.is(Variant::NullLiteralPasses) && self.file.value(child)[0] == 0)
             });
             literal.push(kind != 0 && kind != 7 && below);
         }
@@ -291,9 +289,7 @@ impl Check<'_> {
         self.run_in(Table::Lists, first, count, 3)
             && (count == 0
                 || self.file.list(first, 3 * count as usize).chunks(3).all(|argument| {
-                    argument[1] >= 1
-                        && self.path(argument[0], argument[1])
-                        && self.child(number, argument[2], sorts)
+                    argument[1] >= 1 && self.path(argument[0], argument[1]) && self.child(number, argument[2], sorts)
                 }))
     }
 

@@ -27,9 +27,8 @@ impl Place {
 }
 
 /// Longer signs first.
-const SIGNS: [&str; 21] = [
-    "::", "==", "!=", "<=", ">=", "(", ")", "{", "}", "[", "]", ",", ":", ".", "/", "@", "=", "<", ">", "+", "-",
-];
+const SIGNS: [&str; 21] =
+    ["::", "==", "!=", "<=", ">=", "(", ")", "{", "}", "[", "]", ",", ":", ".", "/", "@", "=", "<", ">", "+", "-"];
 
 pub fn tokens(text: &str) -> Result<Vec<(Token, Place)>, Fault> {
     let mut lexer = Lexer { rest: text, place: Place { line: 1, column: 1 } };

@@ -1,10 +1,12 @@
 //! The text form of a case: `pack` reads it, `unpack` writes it. docs/CASE-TEXT.md describes it.
 
+mod conditions;
 mod lexer;
 mod parser;
 mod plain;
 mod printer;
 mod terms;
+mod values;
 
 use std::fmt;
 
@@ -49,9 +51,34 @@ impl Packed {
 
 /// Words that cannot name an action, a type or a variable unless quoted.
 const KEYWORDS: [&str; 28] = [
-    "variables", "value", "point", "rule", "number", "term", "logged", "context", "principal", "resource", "entity",
-    "and", "or", "not", "since", "within", "formerly", "previous", "exists", "tp", "sum", "count", "for", "where",
-    "true", "false", "null", "decimal",
+    "variables",
+    "value",
+    "point",
+    "rule",
+    "number",
+    "term",
+    "logged",
+    "context",
+    "principal",
+    "resource",
+    "entity",
+    "and",
+    "or",
+    "not",
+    "since",
+    "within",
+    "formerly",
+    "previous",
+    "exists",
+    "tp",
+    "sum",
+    "count",
+    "for",
+    "where",
+    "true",
+    "false",
+    "null",
+    "decimal",
 ];
 
 /// Words that begin a statement.

@@ -1,24 +1,25 @@
-//! Reads statements, values, points and conditions.
+//! Reads statements and points.
 
 use std::collections::HashMap;
 
 use super::lexer::{tokens, Place, Token};
 use super::plain::{build, Action, PlainNode, PlainPoint, PlainValue, PlainValues};
-use super::{Fault, Packed, COMPARISONS, KEYWORDS, STATEMENTS, UNITS, USUAL_KIND};
-use crate::records::Within;
+use super::{Fault, Packed, KEYWORDS, STATEMENTS, USUAL_KIND};
 
 const MOST_VARIABLES: usize = 16;
 const MOST_RECORDS: usize = 16_384;
 const MOST_NODES: usize = 1_024;
 const MOST_HEIGHT: u32 = 64;
-const MOST_DEPTH: u32 = 32;
 const MOST_FILE_BYTES: usize = 4_194_304;
+/// Brackets and prefixes within each other; more than any case needs.
+const MOST_NESTING: usize = 256;
 
 /// Turns a text into a case that passes the check, or says what is wrong and where.
 pub fn pack(text: &str) -> Result<Packed, Fault> {
     let mut parser = Parser {
         tokens: tokens(text)?,
         at: 0,
+        nesting: 0,
         variables: Vec::new(),
         values: PlainValues::default(),
         points: Vec::new(),
@@ -43,18 +44,19 @@ pub(super) enum Named {
 }
 
 pub(super) struct Parser {
-    tokens: Vec<(Token, Place)>,
-    at: usize,
+    pub tokens: Vec<(Token, Place)>,
+    pub at: usize,
+    nesting: usize,
     pub variables: Vec<String>,
     pub values: PlainValues,
     points: Vec<PlainPoint>,
     nodes: Vec<PlainNode>,
     heights: Vec<u32>,
-    named: HashMap<String, Named>,
+    pub named: HashMap<String, Named>,
     names: Vec<(String, u32)>,
 }
 
-type Parsed<T> = Result<T, Fault>;
+pub(super) type Parsed<T> = Result<T, Fault>;
 
 impl Parser {
     // ---- tokens
@@ -150,6 +152,17 @@ impl Parser {
             Ok(number) => Ok(number),
             Err(_) => place.fault("this number does not fit a signed 64-bit integer"),
         }
+    }
+
+    /// Reads something that may stand within itself.
+    pub fn deeper<T>(&mut self, read: impl FnOnce(&mut Parser) -> Parsed<T>) -> Parsed<T> {
+        if self.nesting == MOST_NESTING {
+            return self.place().fault("this nests too deeply to be read");
+        }
+        self.nesting += 1;
+        let read = read(self);
+        self.nesting -= 1;
+        read
     }
 
     // ---- statements
@@ -308,7 +321,7 @@ impl Parser {
     }
 
     /// `Namespace::Action/kind`; the kind is `request` where it is left out.
-    fn action(&mut self, what: &str) -> Parsed<Action> {
+    pub fn action(&mut self, what: &str) -> Parsed<Action> {
         let mut names = vec![self.name(what)?];
         while self.sign("::") {
             names.push(self.name("a name after `::`")?);
@@ -317,108 +330,6 @@ impl Parser {
         let action = names.pop().expect("at least one name was read");
         Ok(Action { namespace: names, action, kind })
     }
-
-    // ---- values
-
-    pub fn value(&mut self) -> Parsed<u32> {
-        let place = self.place();
-        let value = match self.token().clone() {
-            Token::Sign("-") | Token::Digits(_) => PlainValue::Int(self.integer("a number")?),
-            Token::Sign("@") => match self.reference()? {
-                Named::Value(value) => return Ok(value),
-                _ => return place.fault("this name is no value's"),
-            },
-            Token::Sign("[") => self.array()?,
-            Token::Sign("{") => self.members()?,
-            Token::Word(word) if self.ahead(1) != &Token::Sign("::") => self.word_value(&word)?,
-            Token::Quoted(text) if self.ahead(1) != &Token::Sign("::") => {
-                self.at += 1;
-                PlainValue::Text(text)
-            }
-            Token::Word(_) | Token::Quoted(_) => {
-                let (ty, id) = self.entity()?;
-                PlainValue::Entity(ty, id)
-            }
-            _ => return self.expected("a value"),
-        };
-        let number = self.values.add(value);
-        if self.values.depths[number as usize] > MOST_DEPTH {
-            return place.fault(format!("values nest to at most {MOST_DEPTH}"));
-        }
-        Ok(number)
-    }
-
-    fn word_value(&mut self, word: &str) -> Parsed<PlainValue> {
-        let value = match word {
-            "null" => PlainValue::Null,
-            "true" => PlainValue::Bool(true),
-            "false" => PlainValue::Bool(false),
-            "decimal" => {
-                self.at += 1;
-                return match self.token().clone() {
-                    Token::Quoted(text) => {
-                        self.at += 1;
-                        Ok(PlainValue::Decimal(text))
-                    }
-                    _ => self.expected("the decimal's text in quotation marks"),
-                };
-            }
-            _ => return self.expected("a value"),
-        };
-        self.at += 1;
-        Ok(value)
-    }
-
-    fn array(&mut self) -> Parsed<PlainValue> {
-        self.expect_sign("[")?;
-        let mut items = Vec::new();
-        while !self.is_sign("]") {
-            items.push(self.value()?);
-            if !self.sign(",") {
-                break;
-            }
-        }
-        self.expect_sign("]")?;
-        Ok(PlainValue::Array(items))
-    }
-
-    fn members(&mut self) -> Parsed<PlainValue> {
-        self.expect_sign("{")?;
-        let mut members: Vec<(String, u32)> = Vec::new();
-        while !self.is_sign("}") {
-            let place = self.place();
-            let name = self.name("a member's name")?;
-            if members.iter().any(|(known, _)| *known == name) {
-                return place.fault(format!("the name {name:?} is in this object twice"));
-            }
-            self.expect_sign(":")?;
-            members.push((name, self.value()?));
-            if !self.sign(",") {
-                break;
-            }
-        }
-        self.expect_sign("}")?;
-        members.sort();
-        Ok(PlainValue::Object(members))
-    }
-
-    /// `Type::"id"`, the type a quoted text or plain words with `::` between them.
-    fn entity(&mut self) -> Parsed<(String, String)> {
-        let mut ty = self.name("an entity's type")?;
-        loop {
-            self.expect_sign("::")?;
-            match self.next() {
-                Token::Quoted(id) => return Ok((ty, id)),
-                Token::Word(word) => ty = format!("{ty}::{word}"),
-                _ => {
-                    self.at -= 1;
-                    return self.expected("an entity's id in quotation marks");
-                }
-            }
-        }
-    }
-
-    // ---- conditions
 
     /// Adds a node; its children are there already.
     pub fn add(&mut self, node: PlainNode, place: Place) -> Parsed<u32> {
@@ -445,177 +356,6 @@ impl Parser {
         match self.variables.iter().position(|known| *known == name) {
             Some(number) => Ok(number as u32),
             None => place.fault(format!("`{name}` is no variable; `variables` at the top declares them")),
-        }
-    }
-
-    pub fn condition(&mut self) -> Parsed<u32> {
-        let place = self.place();
-        let mut left = self.conjunction()?;
-        while self.word("or") {
-            let right = self.conjunction()?;
-            left = self.add(PlainNode::Or(left, right), place)?;
-        }
-        Ok(left)
-    }
-
-    fn conjunction(&mut self) -> Parsed<u32> {
-        let place = self.place();
-        let mut left = self.since()?;
-        while self.word("and") {
-            let right = self.since()?;
-            left = self.add(PlainNode::And(left, right), place)?;
-        }
-        Ok(left)
-    }
-
-    fn since(&mut self) -> Parsed<u32> {
-        let place = self.place();
-        let left = self.prefixed()?;
-        if !self.word("since") {
-            return Ok(left);
-        }
-        let within = self.within()?;
-        let right = self.prefixed()?;
-        self.add(PlainNode::Since(left, right, within), place)
-    }
-
-    fn within(&mut self) -> Parsed<Within> {
-        self.expect_word("within")?;
-        let amount = self.integer("an amount of time, as 10s")?;
-        let unit = match self.token() {
-            Token::Word(word) => UNITS.iter().position(|unit| unit == word),
-            _ => None,
-        };
-        match unit {
-            Some(unit) => {
-                self.at += 1;
-                Ok(Within { amount, unit: unit as u32 })
-            }
-            None => self.expected("a unit: s, m, h or d"),
-        }
-    }
-
-    /// A condition that binds more tightly than `since`, `and` and `or`.
-    pub fn prefixed(&mut self) -> Parsed<u32> {
-        let place = self.place();
-        if self.word("not") {
-            let inner = self.prefixed()?;
-            return self.add(PlainNode::Not(inner), place);
-        }
-        if self.word("formerly") {
-            let within = self.within()?;
-            let body = self.prefixed()?;
-            return self.add(PlainNode::Formerly(within, body), place);
-        }
-        if self.word("previous") {
-            let within = self.within()?;
-            let body = self.prefixed()?;
-            return self.add(PlainNode::Previous(within, body), place);
-        }
-        if self.word("exists") {
-            let variable = self.variable()?;
-            let body = self.prefixed()?;
-            return self.add(PlainNode::Exists(variable, body), place);
-        }
-        if self.word("tp") {
-            let variable = self.variable()?;
-            return self.add(PlainNode::Tp(variable), place);
-        }
-        self.primary()
-    }
-
-    fn primary(&mut self) -> Parsed<u32> {
-        if self.is_sign("(") && !self.group_is_term() {
-            self.expect_sign("(")?;
-            let inner = self.condition()?;
-            self.expect_sign(")")?;
-            return Ok(inner);
-        }
-        if let (Token::Sign("@"), Token::Word(name)) = (self.token(), self.ahead(1)) {
-            if let Some(Named::Condition(node)) = self.named.get(name).copied() {
-                self.at += 2;
-                return Ok(node);
-            }
-        }
-        if self.at_predicate() {
-            return self.predicate();
-        }
-        self.comparison()
-    }
-
-    /// Whether a bracketed group is part of a comparison: an operator follows its end.
-    fn group_is_term(&self) -> bool {
-        let mut open = 0;
-        for (k, (token, _)) in self.tokens.iter().enumerate().skip(self.at) {
-            match token {
-                Token::Sign("(") => open += 1,
-                Token::Sign(")") if open == 1 => {
-                    let next = &self.tokens[k + 1].0;
-                    return matches!(next, Token::Sign(s) if COMPARISONS.contains(s) || super::ARITHMETIC.contains(s));
-                }
-                Token::Sign(")") => open -= 1,
-                _ => {}
-            }
-        }
-        false
-    }
-
-    /// Whether names, `::` and `/` lead to an opening bracket.
-    fn at_predicate(&self) -> bool {
-        let is_name = |token: &Token| matches!(token, Token::Word(_) | Token::Quoted(_));
-        let starts = match self.token() {
-            Token::Word(word) => !KEYWORDS.contains(&word.as_str()),
-            token => is_name(token),
-        };
-        let mut k = 1;
-        while starts && matches!(self.ahead(k), Token::Sign("::" | "/")) && is_name(self.ahead(k + 1)) {
-            k += 2;
-        }
-        starts && self.ahead(k) == &Token::Sign("(")
-    }
-
-    fn predicate(&mut self) -> Parsed<u32> {
-        let place = self.place();
-        let action = self.action("an action")?;
-        self.expect_sign("(")?;
-        let mut arguments = Vec::new();
-        while !self.is_sign(")") {
-            let path = self.path()?;
-            self.expect_sign(":")?;
-            arguments.push((path, self.simple_term()?));
-            if !self.sign(",") {
-                break;
-            }
-        }
-        self.expect_sign(")")?;
-        self.add(PlainNode::Predicate(action, arguments), place)
-    }
-
-    fn comparison(&mut self) -> Parsed<u32> {
-        let place = self.place();
-        let left = self.operand()?;
-        let op = COMPARISONS.iter().position(|sign| self.is_sign(sign));
-        let Some(op) = op else {
-            return self.expected("a comparison: == != < <= > >=");
-        };
-        self.at += 1;
-        let right = self.operand()?;
-        self.add(PlainNode::Comparison(op as u32, left, right), place)
-    }
-
-    /// `name.name`, with no dot inside a name.
-    pub fn path(&mut self) -> Parsed<Vec<String>> {
-        let mut path = Vec::new();
-        loop {
-            let place = self.place();
-            let name = self.name("a name")?;
-            if name.contains('.') {
-                return place.fault("a name in a path holds no dot");
-            }
-            path.push(name);
-            if !self.sign(".") {
-                return Ok(path);
-            }
         }
     }
 

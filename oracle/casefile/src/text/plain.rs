@@ -213,8 +213,7 @@ fn build_node(builder: &mut Builder, node: &PlainNode, number: &[u32]) {
         PlainNode::Since(left, right, within) => Node::Since { left: *left, right: *right, within: *within },
         PlainNode::Predicate(action, arguments) => {
             let namespace = names(builder, &action.namespace);
-            let paths: Vec<(Run, u32)> =
-                arguments.iter().map(|(path, term)| (names(builder, path), *term)).collect();
+            let paths: Vec<(Run, u32)> = arguments.iter().map(|(path, term)| (names(builder, path), *term)).collect();
             Node::Predicate {
                 namespace,
                 action: builder.string(&action.action),

@@ -9,6 +9,9 @@ use crate::tables::{Tables, NONE};
 /// A shared value with more parts than this gets a name of its own.
 const INLINE_PARTS: usize = 8;
 
+const MOST_DEPTH: usize = 32;
+const MOST_HEIGHT: usize = 64;
+
 type Printed<T> = Result<T, String>;
 
 /// The text of a case that passes the check; an error says why it cannot be written.
@@ -53,17 +56,35 @@ impl<'a> Printer<'a> {
             value_named: vec![false; tables.values.len()],
             node_named: vec![false; tables.nodes.len()],
         };
-        for number in 0..printer.values.len() {
-            if printer.members(number as u32)?.iter().any(|[_, value]| *value as usize >= number) {
-                return Err(format!("value {number} holds no lower value"));
-            }
-        }
-        for number in 0..printer.nodes.len() {
-            if printer.operands(number as u32)?.iter().any(|&child| child as usize >= number) {
-                return Err(format!("node {number} refers to no lower node"));
-            }
-        }
+        printer.levels(printer.values.len(), MOST_DEPTH, "value", |value| {
+            Ok(printer.members(value)?.iter().map(|[_, below]| *below).collect())
+        })?;
+        printer.levels(printer.nodes.len(), MOST_HEIGHT, "node", |node| printer.operands(node))?;
         Ok(printer)
+    }
+
+    /// Children must have lower numbers, and records must not nest deeper than allowed:
+    /// what follows descends them.
+    fn levels(
+        &self,
+        count: usize,
+        most: usize,
+        what: &str,
+        children: impl Fn(u32) -> Printed<Vec<u32>>,
+    ) -> Printed<()> {
+        let mut levels: Vec<usize> = Vec::new();
+        for number in 0..count {
+            let mut level = 1;
+            for child in children(number as u32)? {
+                let below = levels.get(child as usize).ok_or(format!("{what} {number} refers to no lower {what}"))?;
+                level = level.max(below + 1);
+            }
+            if level > most {
+                return Err(format!("{what} {number} nests deeper than {most}"));
+            }
+            levels.push(level);
+        }
+        Ok(())
     }
 
     fn string(&self, number: u32) -> Printed<&'a str> {
@@ -135,9 +156,9 @@ impl<'a> Printer<'a> {
             }
         }
         let mut parts: Vec<usize> = Vec::new();
-        for number in 0..self.values.len() {
+        for (number, uses) in uses.into_iter().enumerate() {
             let below = self.members(number as u32)?.iter().map(|[_, value]| parts[*value as usize]).sum::<usize>();
-            let named = uses[number] == 0 || (uses[number] > 1 && 1 + below > INLINE_PARTS);
+            let named = uses == 0 || (uses > 1 && 1 + below > INLINE_PARTS);
             self.value_named[number] = named;
             parts.push(if named { 1 } else { 1 + below });
         }

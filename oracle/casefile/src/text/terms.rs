@@ -1,11 +1,9 @@
 //! Reads terms and aggregates.
 
-use super::lexer::Token;
-use super::parser::{Named, Parser};
+use super::lexer::{Place, Token};
+use super::parser::{Named, Parsed, Parser};
 use super::plain::PlainNode;
-use super::{Fault, ARITHMETIC, ROOTS};
-
-type Parsed<T> = Result<T, Fault>;
+use super::{ARITHMETIC, ROOTS};
 
 impl Parser {
     /// A side of a comparison: sums of products of factors.
@@ -31,6 +29,10 @@ impl Parser {
     }
 
     fn factor(&mut self) -> Parsed<u32> {
+        self.deeper(Parser::one_factor)
+    }
+
+    fn one_factor(&mut self) -> Parsed<u32> {
         let place = self.place();
         if self.sign("(") {
             let inner = self.operand()?;
@@ -102,7 +104,7 @@ impl Parser {
         }
     }
 
-    fn literal(&mut self, value: u32, place: super::lexer::Place) -> Parsed<u32> {
+    fn literal(&mut self, value: u32, place: Place) -> Parsed<u32> {
         if !self.values.literal[value as usize] {
             return place.fault("a literal in a rule holds no null and no object");
         }

@@ -69,3 +69,12 @@ fn a_broken_case_has_no_text() {
     assert!(unpack(&tables).is_err());
     assert!(Tables::decode(&tables.encode()[1..]).is_err());
 }
+
+#[test]
+fn the_documented_example_packs() {
+    let page = include_str!("../../../docs/CASE-TEXT.md");
+    let from = page.find("# Comments run").expect("the example is there");
+    let example = &page[from..from + page[from..].find("```").expect("it ends")];
+    let packed = pack(example).expect("it packs");
+    assert_eq!(packed.node("flash_ok"), Some(packed.tables.nodes.len() as u32 - 1));
+}

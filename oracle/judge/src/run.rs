@@ -16,9 +16,6 @@ use crate::rust::RustCase;
 const LIMIT: u64 = 5_000;
 const ROOM: u64 = 60;
 
-/// The one difference that document 01 lists: the Rust compares rows pair by pair in order.
-pub const LISTED: &str = "listed difference: rows equal by variable";
-
 /// What was put to whom, and what differed.
 pub struct Report {
     pub model: Model,
@@ -111,18 +108,18 @@ impl Report {
                 self.count(&format!("{:?}, {}", call.kind, said(call, &done.outcome)));
             }
             Found::NotForTheRust => self.count(&format!("model only: refused {}", done.outcome.refusal)),
-            Found::Differs(how) => self.differs(how, call, case, rust),
+            Found::AnswersDiffer(how) | Found::StepsDiffer(how) => self.differs(how, call, case, rust),
         }
         done
     }
 
-    /// A difference, unless it is the listed one: the document differs, and the document
-    /// with rows equal as in the Rust does not.
+    /// A difference, unless it is the listed one: rows equal as in the Rust explain it.
     fn differs(&mut self, how: String, call: &Call, case: &RandomCase, rust: &mut RustCase) {
-        let mut same = |variant| compare(call, &call.ask(Model { variant }, &case.bytes), rust) == Found::Same;
-        if !same(Variant::Document) && same(Variant::RowsInPairOrder) {
+        let mut found = |variant| compare(call, &call.ask(Model { variant }, &case.bytes), rust);
+        let explained = found(Variant::RowsInPairOrder) == Found::Same;
+        if explained && matches!(found(Variant::Document), Found::StepsDiffer(_)) {
             self.to_both += 1;
-            self.count(LISTED);
+            self.count("listed difference in steps: rows equal by variable");
         } else {
             self.differences.push(format!("{how}\n{call:?}\ncase {}", hex(&case.bytes)));
         }

@@ -26,7 +26,8 @@ fn main() {
     let mut random = Random::new(seed);
     let mut printed = 0;
     while printed < count {
-        let case = random_case(&mut random, Profile::SMALL);
+        let profile = if random.percent(60) { Profile::TINY } else { Profile::SMALL };
+        let case = random_case(&mut random, profile);
         println!("case {}", hex(&case.bytes));
         for _ in 0..random.between(3, 8).min((count - printed) as usize) {
             println!("{}", claim(&random_question(&mut random, &case), &case.bytes));

@@ -1,4 +1,4 @@
--- E1 to E12, the sample table and the slips: one list with one claim, computed from the bytes of one case that passes the check
+-- E1 to E12, the sample table and the slips: one list with one claim, computed from the bytes of one case that passes the check; then the calls, each refusal, and parts that the case does not reach
 use mathlib.Core.Path.{_≡_, refl}
 use mathlib.Core.Bool.{Bool, true, false}
 use mathlib.Core.List.{List, [], _∷_, _++_, map}

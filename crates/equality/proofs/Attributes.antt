@@ -156,23 +156,42 @@ module _ (s : List ℕ) (t i : ℕ) (path : Run) (first n : ℕ) (one : path .co
 
 -- ---- supplied, or its own
 
-module _ (s : List ℕ) (object : Found) (o : Option ℕ) (path : List ℕ) (own : Option Bound) (tag bits : ℕ) (eo : foundAt object ≡ o) where
-  pub attr-none : object ≡ Nothing → inCells tag bits ≡ own → inCells tag bits ≡ orElse (supplied (caseOf s) o path) own
-  unfolding supplied orElse foundAt
-  attr-none e h = let z : o ≡ none = sym eo ∙ ap foundAt e in h ∙ rw z refl
+module _ (s : List ℕ) (object : Found) (o : Option ℕ) (path : List ℕ) (eo : foundAt object ≡ o) where
+  pub supplied-none : object ≡ Nothing → inCells 0 0 ≡ supplied (caseOf s) o path
+  unfolding supplied foundAt inCells pick
+  supplied-none e = let z : o ≡ none = sym eo ∙ ap foundAt e in rw z refl
 
-  module _ (v : ValNo) (found : Found) (ev : object ≡ At v) (ef : foundAt found ≡ descend (caseOf s) (v .0) path) where
-    given : supplied (caseOf s) o path ≡ boundAt (caseOf s) (foundAt found)
-    unfolding supplied foundAt
-    given = let z : o ≡ some (v .0) = sym eo ∙ ap foundAt ev in rw (z, ef) refl
+  pub supplied-found : (v : ValNo) (found : Found) (tag bits : ℕ) → object ≡ At v → foundAt found ≡ descend (caseOf s) (v .0) path → inCells tag bits ≡ boundAt (caseOf s) (foundAt found) → inCells tag bits ≡ supplied (caseOf s) o path
+  unfolding supplied foundAt
+  supplied-found v found tag bits ev ef h = let z : o ≡ some (v .0) = sym eo ∙ ap foundAt ev in h ∙ rw (z, ef) refl
 
-    pub attr-supplied : (u : ValNo) → found ≡ At u → inCells tag bits ≡ some (boundOf (u .0) (valueAt s (u .0))) → inCells tag bits ≡ orElse (supplied (caseOf s) o path) own
-    unfolding orElse boundAt foundAt caseOf
-    attr-supplied u e h = h ∙ sym (ap (λ (x : Option Bound). orElse x own) (given ∙ ap (λ (f : Found). boundAt (caseOf s) (foundAt f)) e))
+module _ (t u r w : ℕ) where
+  pub else-unbound : t ≡ 0 → inCells r w ≡ orElse (inCells t u) (inCells r w)
+  unfolding inCells pick orElse
+  else-unbound e = rw e refl
 
-    pub attr-missing : found ≡ Nothing → inCells tag bits ≡ own → inCells tag bits ≡ orElse (supplied (caseOf s) o path) own
-    unfolding orElse boundAt foundAt
-    attr-missing e h = h ∙ sym (ap (λ (x : Option Bound). orElse x own) (given ∙ ap (λ (f : Found). boundAt (caseOf s) (foundAt f)) e))
+  pub else-none : 3 < t → inCells r w ≡ orElse (inCells t u) (inCells r w)
+  else-none h = go t h
+    where
+      go : (t : ℕ) → 3 < t → inCells r w ≡ orElse (inCells t u) (inCells r w)
+      go zero h = absurd (omega arith)
+      go (suc zero) h = absurd (omega arith)
+      go (suc (suc zero)) h = absurd (omega arith)
+      go (suc (suc (suc zero))) h = absurd (omega arith)
+      go (suc (suc (suc (suc t)))) h = unfold inCells pick orElse in refl
+
+  pub first-bound : (t ≡ 0 → ⊥) → t ≤ 3 → inCells t u ≡ orElse (inCells t u) (inCells r w)
+  first-bound ne h = go t ne h
+    where
+      go : (t : ℕ) → (t ≡ 0 → ⊥) → t ≤ 3 → inCells t u ≡ orElse (inCells t u) (inCells r w)
+      go zero ne h = absurd (ne refl)
+      go (suc zero) ne h = unfold inCells pick orElse in refl
+      go (suc (suc zero)) ne h = unfold inCells pick orElse in refl
+      go (suc (suc (suc zero))) ne h = unfold inCells pick orElse in refl
+      go (suc (suc (suc (suc t)))) ne h = absurd (omega arith)
+
+pub attr-is : (a b r : Option Bound) {x y : Option Bound} → a ≡ x → b ≡ y → r ≡ orElse a b → r ≡ orElse x y
+attr-is a b r e f h = h ∙ rw (e, f) refl
 
 -- ---- from a root
 

@@ -53,38 +53,37 @@ pub is-object : (s : List ℕ) (v k first count : ℕ) → k ≡ valueWord s v 0
 unfolding members valueFrom pick
 is-object s v k first count ek e ef ec = record { are = ap members (value-as s v 7 k first count ek ef ec e) }
 
--- what is left at i is what is to be found
-pub record NamedFrom (s : List ℕ) (n first count i : ℕ) : Type 0 where
-  pub inside : i ≤ count
-  pub rest : named n (map (partAt s) (places (first + i) 1 (count - i))) ≡ named n (map (partAt s) (places first 1 count))
+-- what is left is what is to be found
+pub record NamedFrom (s : List ℕ) (n first count at left : ℕ) : Type 0 where
+  pub inside : at + left ≡ first + count
+  pub rest : named n (map (partAt s) (places at 1 left)) ≡ named n (map (partAt s) (places first 1 count))
 
-pub named-start : (s : List ℕ) (n first count : ℕ) → NamedFrom s n first count 0
-named-start s n first count =
-    let x : first + 0 ≡ first = omega arith in
-    let z : count - 0 ≡ count = omega arith in
-    record { inside = omega arith; rest = rw (x, z) refl }
+pub named-start : (s : List ℕ) (n first count : ℕ) → NamedFrom s n first count first count
+named-start s n first count = record { inside = refl; rest = refl }
 
-module _ (s : List ℕ) (n first count i : ℕ) (from : NamedFrom s n first count i) where
-  member-open : (t : Bool) → i < count → eqb n (memberWord s (first + i) 0) ≡ t → named n (map (partAt s) (places first 1 count)) ≡ elim t as (λ t. Option ℕ) [ true ↦ some (memberWord s (first + i) 1) | false ↦ named n (map (partAt s) (places (first + (i + 1)) 1 (count - (i + 1)))) ]
-  unfolding partAt
+module _ (s : List ℕ) (n first count at left : ℕ) (from : NamedFrom s n first count at left) where
+  member-open : (t : Bool) → 0 < left → eqb n (memberWord s at 0) ≡ t → named n (map (partAt s) (places first 1 count)) ≡ elim t as (λ t. Option ℕ) [ true ↦ some (memberWord s at 1) | false ↦ named n (map (partAt s) (places (at + 1) 1 (left - 1))) ]
+  unfolding partAt places
   member-open t h e =
-      let x : first + (i + 1) ≡ first + i + 1 = omega arith in
-      let cut : map (partAt s) (places (first + i) 1 (count - i)) ≡ partAt s (first + i) ∷ map (partAt s) (places (first + (i + 1)) 1 (count - (i + 1))) = ap (map (partAt s)) (open-place (first + i) 1 count i (first + (i + 1)) h x) in
-      sym (from .rest) ∙ ap (named n) cut ∙ named-by n (partAt s (first + i)) (map (partAt s) (places (first + (i + 1)) 1 (count - (i + 1)))) t e
+      let z : left ≡ suc (left - 1) = omega arith in
+      let cut : places at 1 left ≡ at ∷ places (at + 1) 1 (left - 1) = ap (places at 1) z in
+      sym (from .rest) ∙ ap (λ (l : List ℕ). named n (map (partAt s) l)) cut ∙ named-by n (partAt s at) (map (partAt s) (places (at + 1) 1 (left - 1))) t e
 
-  pub member-passed : (x : ℕ) → i < count → x ≡ memberWord s (first + i) 0 → (n ≡ x → ⊥) → NamedFrom s n first count (i + 1)
-  member-passed x h ex ne = record { inside = omega arith; rest = sym (member-open false h (ne-eqb n (memberWord s (first + i) 0) (λ e. ne (e ∙ sym ex)))) }
+  pub member-passed : (x : ℕ) → 0 < left → x ≡ memberWord s at 0 → (n ≡ x → ⊥) → NamedFrom s n first count (at + 1) (left - 1)
+  member-passed x h ex ne =
+      record { inside = omega (arith, from .inside); rest = sym (member-open false h (ne-eqb n (memberWord s at 0) (λ e. ne (e ∙ sym ex)))) }
 
   module _ (v : ℕ) (object : IsObject s v first count) where
-    pub member-found : (x : ℕ) (y : ValNo) → i < count → x ≡ memberWord s (first + i) 0 → n ≡ x → y .0 ≡ memberWord s (first + i) 1 → foundAt (At y) ≡ named n (members (valueAt s v))
+    pub member-found : (x : ℕ) (y : ValNo) → 0 < left → x ≡ memberWord s at 0 → n ≡ x → y .0 ≡ memberWord s at 1 → foundAt (At y) ≡ named n (members (valueAt s v))
     unfolding foundAt
     member-found x y h ex e ey =
-        ap some ey ∙ sym (ap (named n) (object .are) ∙ member-open true h (eq-eqb n (memberWord s (first + i) 0) (e ∙ ex)))
+        ap some ey ∙ sym (ap (named n) (object .are) ∙ member-open true h (eq-eqb n (memberWord s at 0) (e ∙ ex)))
 
-    pub member-none : count ≤ i → foundAt Nothing ≡ named n (members (valueAt s v))
-    unfolding foundAt named
+    pub member-none : left ≤ 0 → foundAt Nothing ≡ named n (members (valueAt s v))
+    unfolding foundAt named places
     member-none h =
-        ap (λ (l : List ℕ). named n (map (partAt s) l)) (sym (shut-place (first + i) 1 count i h)) ∙ from .rest ∙ sym (ap (named n) (object .are))
+        let z : 0 ≡ left = omega arith in
+        ap (λ (k : ℕ). named n (map (partAt s) (places at 1 k))) z ∙ from .rest ∙ sym (ap (named n) (object .are))
 
 -- ---- names one after another
 

@@ -21,7 +21,7 @@ ghost use Rattle.meaning.specs.Tests.{orElse};
 ghost use Rattle.meaning.specs.Case.{caseOf, valueAt, pointAt, runOf, list, maybe};
 ghost use Rattle.meaning.specs.Check.{bodies, Checked};
 ghost use Rattle.meaning.specs.Equal.{sameList};
-ghost use Rattle.meaning.specs.Look.{named, members, descend, boundAt, attributesOf, ownPart, supplied, fromRoot, rootOf, fieldAt, contextAt, scopeAt};
+ghost use Rattle.meaning.specs.Look.{named, members, descend, boundAt, attributesOf, ownPart, supplied as suppliedAt, fromRoot, rootOf, fieldAt, contextAt, scopeAt};
 ghost use Rattle.meaning.specs.Rows.{inCells};
 ghost use Rattle.meaning.specs.Meaning.{names, sameEvent};
 ghost use Rattle.equality.specs.Paths.{foundAt};
@@ -37,14 +37,14 @@ fn member_named(s: &[u8], v: ValNo, n: StrNo) -> Found
         return Found::Nothing;
     }
     let name = n.0;
-    let first = wide(value_word(s, v, 1));
-    let count = wide(value_word(s, v, 2));
-    let mut i = 0;
-    while i < count {
-        if name == member_word(s, first + i, 0) {
-            return Found::At(ValNo(member_word(s, first + i, 1)));
+    let mut at = wide(value_word(s, v, 1));
+    let mut left = wide(value_word(s, v, 2));
+    while 0 < left {
+        if name == member_word(s, at, 0) {
+            return Found::At(ValNo(member_word(s, at, 1)));
         }
-        i += 1;
+        at += 1;
+        left -= 1;
     }
     Found::Nothing
 }
@@ -177,22 +177,42 @@ fn own_part(s: &[u8], t: StrNo, i: StrNo, path: Run) -> Binding
     Binding { tag: 0, bits: 0 }
 }
 
-// a supplied attribute wins
-fn resolve_entity_attr(s: &[u8], p: usize, t: StrNo, i: StrNo, path: Run) -> Binding
+// what a path reaches in the attributes that point p has of an entity
+fn supplied(s: &[u8], p: usize, t: StrNo, i: StrNo, path: Run) -> Binding
     requires { ⌜ Checked (now s) ⌝ }
-    ensures { λ r. ⌜ inCells (r .tag) (r .bits) ≡ orElse (supplied (caseOf (now (s .entry))) (attributesOf (t .0) (i .0) (pointAt (now (s .entry)) p .entities)) (names (caseOf (now (s .entry))) path)) (ownPart (caseOf (now (s .entry))) (t .0) (i .0) (names (caseOf (now (s .entry))) path)) ⌝ }
+    ensures { λ r. ⌜ inCells (r .tag) (r .bits) ≡ suppliedAt (caseOf (now (s .entry))) (attributesOf (t .0) (i .0) (pointAt (now (s .entry)) p .entities)) (names (caseOf (now (s .entry))) path) ⌝ }
 {
     let object = attributes_of(s, p, t, i);
     match object {
         Found::At(v) => {
             let found = path_descend(s, v, path);
-            match found {
-                Found::At(u) => binding_of(s, u),
-                Found::Nothing => own_part(s, t, i, path),
-            }
+            binding_found(s, found)
         }
-        Found::Nothing => own_part(s, t, i, path),
+        Found::Nothing => Binding { tag: 0, bits: 0 },
     }
+}
+
+// the first, or the second where there is no first
+fn or_else(a: Binding, b: Binding) -> Binding
+    ensures { λ r. ⌜ inCells (r .tag) (r .bits) ≡ orElse (inCells (a .tag) (a .bits)) (inCells (b .tag) (b .bits)) ⌝ }
+{
+    if a.tag == 0 {
+        return b;
+    }
+    if 3 < a.tag {
+        return b;
+    }
+    a
+}
+
+// a supplied attribute wins
+fn resolve_entity_attr(s: &[u8], p: usize, t: StrNo, i: StrNo, path: Run) -> Binding
+    requires { ⌜ Checked (now s) ⌝ }
+    ensures { λ r. ⌜ inCells (r .tag) (r .bits) ≡ orElse (suppliedAt (caseOf (now (s .entry))) (attributesOf (t .0) (i .0) (pointAt (now (s .entry)) p .entities)) (names (caseOf (now (s .entry))) path)) (ownPart (caseOf (now (s .entry))) (t .0) (i .0) (names (caseOf (now (s .entry))) path)) ⌝ }
+{
+    let given = supplied(s, p, t, i, path);
+    let own = own_part(s, t, i, path);
+    or_else(given, own)
 }
 
 // what a path reaches from a root that is there

@@ -108,12 +108,9 @@ fn compare_bound(s: &[u8], op: CmpOp, a: Binding, b: Binding) -> bool
     ensures { λ r. ⌜ _≡_ {A = Bool} r (both (compared (caseOf (now (s .entry))) op) (inCells (a .tag) (a .bits)) (inCells (b .tag) (b .bits))) ⌝ }
 {
     match op {
-        CmpOp::Le => ordered_ints(CmpOp::Le, a, b),
-        CmpOp::Lt => ordered_ints(CmpOp::Lt, a, b),
-        CmpOp::Ge => ordered_ints(CmpOp::Ge, a, b),
-        CmpOp::Gt => ordered_ints(CmpOp::Gt, a, b),
         CmpOp::Eq => equality::binding_eq(s, a, b),
         CmpOp::NotEq => !equality::binding_eq(s, a, b),
+        _ => ordered_ints(op, a, b),
     }
 }
 

@@ -1,2 +1,5 @@
 pub mod Comparing
 pub mod Leaves
+pub mod Fields
+pub mod Predicates
+pub mod Binders

@@ -1,3 +1,5 @@
+use Rattle.matching.proofs.Leaves.{side-bound, side-unbound, side-other}
+use Rattle.meaning.specs.Laws.Checked.{checked-bodies}
 use borrow.Author.Needs.{needs}
 use Rattle.matching.proofs.sides.unbound_variable.Statement.{statement}
 use Rattle.matching.proofs.sides.unbound_variable.Tie as tie
@@ -10,7 +12,7 @@ use Rattle.tables.proofs.wide.Reads as wide-reads
 
 -- src/sides.rt:58:9
 node-at-requires : tie.Need-node-at-requires
-node-at-requires c κs = ?
+node-at-requires c κs = search (checked-bodies, needs)
 
 -- src/sides.rt:60:24
 enum-known-node : tie.Need-enum-known-node
@@ -30,15 +32,15 @@ is-bound-requires c κs = search needs
 
 -- src/sides.rt:63:17
 returns : tie.Need-returns
-returns c = ?
+returns c = search (side-bound, needs)
 
 -- src/sides.rt:53:1
 returns-2 : tie.Need-returns-2
-returns-2 c = ?
+returns-2 c = search (side-unbound, needs)
 
 -- src/sides.rt:53:1
 returns-3 : tie.Need-returns-3
-returns-3 c = ?
+returns-3 c = search (side-other, needs)
 
 pub unbound-variable-spec : {M : Type 1} → statement M
 unbound-variable-spec =

@@ -2,4 +2,3 @@ pub mod Comparing
 pub mod Leaves
 pub mod Fields
 pub mod Predicates
-pub mod Binders

@@ -1,4 +1,4 @@
-// What the evaluators do besides control: leaf terms, a Predicate matched at a point, Tp, two sides compared or combined, binders unbound. Each equals its definition.
+// What the evaluators do besides control: leaf terms, a Predicate matched at a point, Tp, two sides compared or combined. Each equals its definition.
 mod matched;
 mod sides;
 
@@ -10,5 +10,4 @@ pub use sides::arithmetic;
 pub use sides::compare;
 pub use sides::is_int;
 pub use sides::resolve_leaf;
-pub use sides::unbind_run;
 pub use sides::unbound_variable;

@@ -1,21 +1,20 @@
-// Leaf terms, the two sides of a comparison or of arithmetic, and binders unbound.
+// Leaf terms, and the two sides of a comparison or of arithmetic.
 use meaning::ArithOp;
 use meaning::Binding;
 use meaning::CmpOp;
 use meaning::Env;
 use meaning::Node;
 use meaning::NodeNo;
-use meaning::Run;
 use tables::wide;
 ghost use mathlib.Core.Path.{_≡_};
 ghost use mathlib.Core.Bool.{Bool, true};
 ghost use Rattle.meaning.specs.Tests.{isSome};
 ghost use Rattle.meaning.specs.Check.{Checked};
 ghost use Rattle.meaning.specs.Case.{caseOf, nodeAt};
-ghost use Rattle.meaning.specs.Rows.{inCells, rowOf, withoutAll};
-ghost use Rattle.meaning.specs.Meaning.{both, compared, names};
+ghost use Rattle.meaning.specs.Rows.{inCells};
+ghost use Rattle.meaning.specs.Meaning.{both, compared};
 ghost use Rattle.equality.specs.Numbers.{orders};
-ghost use Rattle.rows.specs.Slots.{Sized, Becomes};
+ghost use Rattle.rows.specs.Slots.{Sized};
 ghost use Rattle.matching.specs.Asking.{leafValue, unboundAt, variableOf, integerIn, combined};
 
 // ---- terms
@@ -58,8 +57,8 @@ pub fn unbound_variable(s: &[u8], env: Env, t: NodeNo) -> Variable
     let node = tables::node_at(s, t);
     match node {
         Node::Variable(x) => {
-            let b = rows::env::bound_at(env, wide(x));
-            if rows::is_bound(b) {
+            let bound = rows::env::bound_at(env, wide(x));
+            if rows::is_bound(bound) {
                 return Variable::Not;
             }
             Variable::Is(x)
@@ -90,12 +89,12 @@ pub fn arithmetic(op: ArithOp, a: Binding, b: Binding) -> Binding
 }
 
 // no where a side is no Int
-fn ordered_ints(op: CmpOp, a: Binding, b: Binding) -> bool
-    ensures { λ r. ⌜ _≡_ {A = Bool} r (both (orders op) (integerIn (inCells (a .tag) (a .bits))) (integerIn (inCells (b .tag) (b .bits)))) ⌝ }
+fn ordered_ints(op: CmpOp, left: Binding, right: Binding) -> bool
+    ensures { λ r. ⌜ _≡_ {A = Bool} r (both (orders op) (integerIn (inCells (left .tag) (left .bits))) (integerIn (inCells (right .tag) (right .bits)))) ⌝ }
 {
-    if is_int(a) {
-        if is_int(b) {
-            return equality::ordered(op, a.bits, b.bits);
+    if is_int(left) {
+        if is_int(right) {
+            return equality::ordered(op, left.bits, right.bits);
         }
     }
     false
@@ -125,23 +124,4 @@ pub fn compare(s: &[u8], op: CmpOp, a: Binding, b: Binding) -> bool
         }
     }
     false
-}
-
-// ---- binders
-
-pub fn unbind_run(s: &[u8], env: Env, binders: Run) -> Env
-    requires { ⌜ Checked (now s) ⌝ }
-    requires { ⌜ Sized env ⌝ }
-    ensures { λ r. ⌜ Becomes env (withoutAll (rowOf env) (names (caseOf (now (s .entry))) binders)) r ⌝ }
-{
-    let first = wide(binders.first);
-    let count = wide(binders.count);
-    let mut out = env;
-    let mut k = 0;
-    while k < count {
-        let x = wide(tables::list_at(s, first + k));
-        out = rows::env::unbind(out, x);
-        k += 1;
-    }
-    out
 }

@@ -1,7 +1,7 @@
 -- Two sides: bound or not, Ints or not, compared and combined
 use mathlib.Core.Path.{_≡_, refl, sym, _∙_, ap}
 use mathlib.Core.Bool.{Bool, true, false, not}
-use mathlib.Core.List.{List, [], _∷_}
+use mathlib.Core.List.{[], _∷_}
 use mathlib.Core.Option.{Option, none, some}
 use Prim.Native.Nat.{ℕ, zero, suc}
 use native.Mathlib.Omega.{arith}
@@ -19,7 +19,7 @@ use Rattle.meaning.specs.declared.CmpOp.the-variants.{Le, Lt, Ge, Gt, Eq, NotEq
 use Rattle.meaning.specs.Tests.{pick, isSome}
 use Rattle.meaning.specs.Number.{calculate}
 use Rattle.meaning.specs.Case.{Case}
-use Rattle.meaning.specs.Equal.{Bound, int, value, part, integer}
+use Rattle.meaning.specs.Equal.{Bound, int, integer}
 use Rattle.meaning.specs.Rows.{inCells, sameCell}
 use Rattle.meaning.specs.Meaning.{both, compared}
 use Rattle.equality.specs.Numbers.{orders}

@@ -20,7 +20,7 @@ use Rattle.meaning.specs.Equal.{Bound, boundOf}
 use Rattle.meaning.specs.Look.{contextAt, scopeAt}
 use Rattle.meaning.specs.Rows.{at, rowOf, inCells}
 use Rattle.meaning.specs.Meaning.{Question, names, unbound}
-use Rattle.matching.specs.declared.sides.Variable.the-variants.{Is, Not as NotAny}
+use Rattle.matching.specs.declared.Variable.the-variants.{Is, Not as NotAny}
 use Rattle.matching.specs.Asking.{asking, leafValue, shapeOf, unboundAt, variableOf}
 use Rattle.matching.specs.Laws.{shape-is}
 

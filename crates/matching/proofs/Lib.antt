@@ -1,4 +1,4 @@
 pub mod Comparing
 pub mod Leaves
 pub mod Fields
-pub mod Predicates
+pub mod Events

@@ -1,4 +1,5 @@
 // Leaf terms, and the two sides of a comparison or of arithmetic.
+use super::Variable;
 use meaning::ArithOp;
 use meaning::Binding;
 use meaning::CmpOp;
@@ -44,11 +45,6 @@ pub fn resolve_leaf(s: &[u8], asked: usize, env: Env, t: NodeNo) -> Binding
 }
 
 // the variable that a side is, where it is unbound
-pub enum Variable {
-    Is(u32),
-    Not,
-}
-
 pub fn unbound_variable(s: &[u8], env: Env, t: NodeNo) -> Variable
     requires { ⌜ Checked (now s) ⌝ }
     requires { ⌜ Sized env ⌝ }

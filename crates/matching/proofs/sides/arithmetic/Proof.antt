@@ -2,32 +2,22 @@ use Rattle.matching.proofs.Comparing.{combined-ints, combined-left, com
 use borrow.Author.Needs.{needs}
 use Rattle.matching.proofs.sides.arithmetic.Statement.{statement}
 use Rattle.matching.proofs.sides.arithmetic.Tie as tie
-use Rattle.matching.proofs.sides.arithmetic.Reads as reads
-use Rattle.matching.proofs.sides.arithmetic.Lts as lts
-use Rattle.equality.proofs.calculate.Reads as calculate-reads
-use Rattle.matching.proofs.sides.is_int.Reads as is-int-reads
 
--- src/sides.rt:83:8
 is-int-requires : tie.Need-is-int-requires
 is-int-requires c κs = search needs
 
--- src/sides.rt:84:12
 is-int-requires-2 : tie.Need-is-int-requires-2
 is-int-requires-2 c κs = search needs
 
--- src/sides.rt:85:17
 calculate-requires : tie.Need-calculate-requires
 calculate-requires c κs = search needs
 
--- src/sides.rt:86:13
 returns : tie.Need-returns
 returns c = search (combined-ints, needs)
 
--- src/sides.rt:80:1
 returns-2 : tie.Need-returns-2
 returns-2 c = search (combined-right, needs)
 
--- src/sides.rt:80:1
 returns-3 : tie.Need-returns-3
 returns-3 c = search (combined-left, needs)
 

@@ -2,32 +2,22 @@ use Rattle.matching.proofs.Comparing.{bound-yes, not-left, not-right}
 use borrow.Author.Needs.{needs}
 use Rattle.matching.proofs.sides.compare.Statement.{statement}
 use Rattle.matching.proofs.sides.compare.Tie as tie
-use Rattle.matching.proofs.sides.compare.Reads as reads
-use Rattle.matching.proofs.sides.compare.Lts as lts
-use Rattle.matching.proofs.sides.compare_bound.Reads as compare-bound-reads
-use Rattle.rows.proofs.is_bound.Reads as is-bound-reads
 
--- src/sides.rt:125:8
 is-bound-requires : tie.Need-is-bound-requires
 is-bound-requires c κs = search needs
 
--- src/sides.rt:126:12
 is-bound-requires-2 : tie.Need-is-bound-requires-2
 is-bound-requires-2 c κs = search needs
 
--- src/sides.rt:127:13
 compare-bound-requires : tie.Need-compare-bound-requires
 compare-bound-requires c κs = search (bound-yes, needs)
 
--- src/sides.rt:127:13
 returns : tie.Need-returns
 returns c = search needs
 
--- src/sides.rt:121:1
 returns-2 : tie.Need-returns-2
 returns-2 c = search (not-right, needs)
 
--- src/sides.rt:121:1
 returns-3 : tie.Need-returns-3
 returns-3 c = search (not-left, needs)
 

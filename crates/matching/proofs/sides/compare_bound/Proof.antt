@@ -2,40 +2,28 @@ use Rattle.matching.proofs.Comparing.{compared-eq, compared-not, compar
 use borrow.Author.Needs.{needs}
 use Rattle.matching.proofs.sides.compare_bound.Statement.{statement}
 use Rattle.matching.proofs.sides.compare_bound.Tie as tie
-use Rattle.matching.proofs.sides.compare_bound.Reads as reads
-use Rattle.matching.proofs.sides.compare_bound.Lts as lts
-use Rattle.equality.proofs.binding_eq.Reads as binding-eq-reads
-use Rattle.matching.proofs.sides.ordered_ints.Reads as ordered-ints-reads
 
--- src/sides.rt:111:22
 enum-told : tie.Need-enum-told
 enum-told c = search needs
 
--- src/sides.rt:111:22
 binding-eq-requires : tie.Need-binding-eq-requires
 binding-eq-requires c κs = search needs
 
--- src/sides.rt:112:26
 enum-told-2 : tie.Need-enum-told-2
 enum-told-2 c = search needs
 
--- src/sides.rt:112:26
 binding-eq-requires-2 : tie.Need-binding-eq-requires-2
 binding-eq-requires-2 c κs = search needs
 
--- src/sides.rt:113:14
 ordered-ints-requires : tie.Need-ordered-ints-requires
 ordered-ints-requires c κs = search needs
 
--- src/sides.rt:104:1
 returns : tie.Need-returns
 returns c = search (compared-eq, needs)
 
--- src/sides.rt:104:1
 returns-2 : tie.Need-returns-2
 returns-2 c = search (compared-not, needs)
 
--- src/sides.rt:104:1
 returns-3 : tie.Need-returns-3
 returns-3 c = search (compared-ordering, needs)
 

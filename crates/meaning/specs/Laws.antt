@@ -7,3 +7,6 @@ pub mod Lists
 pub mod Values
 pub mod Nodes
 pub mod Checked
+pub mod Walk
+pub mod Meaning
+pub mod Stack

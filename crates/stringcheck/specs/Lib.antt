@@ -1,1 +1,2 @@
 pub mod Mosts
+pub mod Tables

@@ -1,22 +1,16 @@
-use Prim.Native.Nat.{_+_, _-_, _<_, _≤_, ℕ}
+use Prim.Native.Nat.{_-_, _≤_}
 use borrow.Author.Needs.{needs}
-use lib.ListN.{length, set}
-use mathlib.Core.Bool.{Bool, false}
-use mathlib.Core.List.{List}
-use mathlib.Core.Path.{_∙_, _≡_}
+use lib.ListN.{length}
+use mathlib.Core.Bool.{false}
+use mathlib.Core.Path.{_∙_, _≡_, ap}
 use native.Mathlib.Omega.{arith}
 use Rattle.meaning.specs.Case.{strings, text}
-use Rattle.meaning.specs.Laws.Tests.{Filled, filled-more, filled-none}
+use Rattle.meaning.specs.Laws.Tests.{Filled, filled-none}
 use Rattle.meaning.specs.Text.{before, free}
 use Rattle.stringcheck.specs.Mosts.{string-most}
+use Rattle.stringcheck.specs.Tables.{fill-at, filled-all}
 use Rattle.stringcheck.proofs.free_strings.Statement.{statement}
 use Rattle.stringcheck.proofs.free_strings.Tie as tie
-
-more : (s t : List ℕ) (b : ℕ) (table : List Bool) (k at : ℕ) (r : Bool) → at ≡ k → at < length table → Filled false (λ n. free b (text s n)) table k → r ≡ free b t → t ≡ text s k → Filled false (λ n. free b (text s n)) (set table at r) (k + 1)
-more s t b table k at r q h f e g = rw q (filled-more r (rw q at h) f (e ∙ rw g))
-
-whole : (s : List ℕ) (b : ℕ) (table : List Bool) (k n : ℕ) → n ≡ strings s → n ≤ k → k ≤ n → Filled false (λ n. free b (text s n)) table k → Filled false (λ n. free b (text s n)) table (strings s)
-whole s b table k n e h l f = let q : k ≡ strings s = omega arith in rw q at f
 
 abbrev Inv-loop : tie.InvT-loop
 Inv-loop s b n out₀ k₀ out k = (k ≤ n) × (n ≡ strings s) × (n ≤ 16384) × (length out ≡ 16384) × Filled false (λ n. free b (text s n)) out k
@@ -51,10 +45,10 @@ loop-less c = search needs
 loop-again : tie.Need-loop-again Inv-loop μ-loop
 loop-again c =
     let i = c .before .before .before .before .loop .inv in
-    (search needs, i .1, i .2, search needs, more _ _ _ _ _ _ _ (c .before .before .wide .ensures) (omega arith) (i .4) (c .is-free .ensures) (c .before .text-of .ensures))
+    (search needs, i .1, i .2, search needs, fill-at _ (c .before .before .wide .ensures) (omega arith) (i .4) (c .is-free .ensures ∙ ap (free _) (c .before .text-of .ensures)))
 
 returns : tie.Need-returns Inv-loop μ-loop
-returns c = let i = c .before .loop .inv in whole _ _ _ _ _ (i .1) (c .loop-test .left) (i .0) (i .4)
+returns c = let i = c .before .loop .inv in filled-all _ (i .1) (c .loop-test .left) (i .0) (i .4)
 
 pub free-strings-spec : {M : Type 1} → statement M
 free-strings-spec =

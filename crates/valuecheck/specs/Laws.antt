@@ -45,7 +45,7 @@ swap true true false b = refl
 swap true false true b = refl
 swap true false false b = refl
 
-ltb-max : (a b v : ℕ) → ltb (max a b) v ≡ (ltb a v and ltb b v)
+pub ltb-max : (a b v : ℕ) → ltb (max a b) v ≡ (ltb a v and ltb b v)
 ltb-max a b v = go (ltb a v) refl (ltb b v) refl
   where
     go : (x : Bool) → ltb a v ≡ x → (y : Bool) → ltb b v ≡ y → ltb (max a b) v ≡ (ltb a v and ltb b v)

@@ -97,7 +97,7 @@ fn block_top(s: &[u8], at: usize) -> u32
     top
 }
 
-fn larger(a: u32, b: u32) -> u32
+pub fn larger(a: u32, b: u32) -> u32
     ensures { λ r. ⌜ r ≡ max a b ⌝ }
 {
     if a < b { b } else { a }
@@ -225,7 +225,7 @@ fn check_each_value(s: &[u8]) -> bool
 
 // ---- depth: children are lower, so one pass upward; a block's greatest depth is kept once it is known
 
-fn deeper(a: u8, b: u8) -> u8
+pub fn larger_byte(a: u8, b: u8) -> u8
     ensures { λ r. ⌜ r ≡ max a b ⌝ }
 {
     if a < b { b } else { a }
@@ -244,7 +244,7 @@ fn block_depth(s: &[u8], depths: &[u8; 16384], at: usize, v: u32) -> u8
     let mut i = 0;
     while i < 512 {
         let held = wide(member_word(s, at + i, 1));
-        best = deeper(best, depths[held]);
+        best = larger_byte(best, depths[held]);
         i += 1;
     }
     best
@@ -271,20 +271,20 @@ fn deepest(s: &[u8], depths: &[u8; 16384], blocks: &mut [u8; 1024], v: u32) -> u
         let at = first + i;
         if at % 512 != 0 || items - i < 512 {
             let held = wide(member_word(s, at, 1));
-            best = deeper(best, depths[held]);
+            best = larger_byte(best, depths[held]);
             i += 1;
             continue;
         }
         let b = at / 512;
         let known = blocks[b];
         if known != 0 {
-            best = deeper(best, known);
+            best = larger_byte(best, known);
             i += 512;
             continue;
         }
         let found = block_depth(s, depths, at, v);
         blocks[b] = found;
-        best = deeper(best, found);
+        best = larger_byte(best, found);
         i += 512;
     }
     best

@@ -41,11 +41,11 @@ member-word-requires c κs = search needs
 wide-requires : tie.Need-wide-requires Inv-loop μ-loop
 wide-requires c κs = search needs
 
-element-copy-out-deeper : tie.Need-element-copy-out-deeper Inv-loop μ-loop
-element-copy-out-deeper c = let p = c .before .before .before .before .before .pre in omega (arith, p .1 .1 .1 .1 .lower _ (c .before .before .loop-test .taken))
+element-copy-out-larger-byte : tie.Need-element-copy-out-larger-byte Inv-loop μ-loop
+element-copy-out-larger-byte c = let p = c .before .before .before .before .before .pre in omega (arith, p .1 .1 .1 .1 .lower _ (c .before .before .loop-test .taken))
 
-deeper-requires : tie.Need-deeper-requires Inv-loop μ-loop
-deeper-requires c κs = search needs
+larger-byte-requires : tie.Need-larger-byte-requires Inv-loop μ-loop
+larger-byte-requires c κs = search needs
 
 add-i : tie.Need-add-i Inv-loop μ-loop
 add-i c = search needs
@@ -54,7 +54,7 @@ loop-less : tie.Need-loop-less Inv-loop μ-loop
 loop-less c = search needs
 
 loop-again : tie.Need-loop-again Inv-loop μ-loop
-loop-again c = let i = c .before .before .before .before .before .loop .inv in let p = c .before .before .before .before .before .before .before .pre in (search needs, grow _ _ _ _ _ _ (i .1) (deep _ _ _ _ _ _ _ (p .1 .1 .1 .0) (p .1 .1 .1 .1) (c .before .before .before .before .loop-test .taken) (c .before .before .wide .ensures) (c .before .before .before .member-word .ensures)) (c .deeper .ensures))
+loop-again c = let i = c .before .before .before .before .before .loop .inv in let p = c .before .before .before .before .before .before .before .pre in (search needs, grow _ _ _ _ _ _ (i .1) (deep _ _ _ _ _ _ _ (p .1 .1 .1 .0) (p .1 .1 .1 .1) (c .before .before .before .before .loop-test .taken) (c .before .before .wide .ensures) (c .before .before .before .member-word .ensures)) (c .larger-byte .ensures))
 
 returns : tie.Need-returns Inv-loop μ-loop
 returns c = let i = c .before .loop .inv in whole _ _ _ (c .loop-test .left) (i .0) (i .1)
@@ -69,8 +69,8 @@ block-depth-spec =
     add-member-word
     member-word-requires
     wide-requires
-    element-copy-out-deeper
-    deeper-requires
+    element-copy-out-larger-byte
+    larger-byte-requires
     add-i
     loop-less
     loop-again

@@ -59,11 +59,11 @@ member-word-requires c κs = search needs
 wide-requires-3 : tie.Need-wide-requires-3 Inv-loop μ-loop
 wide-requires-3 c κs = search needs
 
-element-copy-out-deeper : tie.Need-element-copy-out-deeper Inv-loop μ-loop
-element-copy-out-deeper c = let h = c .before .before .before .before .loop .inv .3 in omega (arith, h .few, h .low _ (c .before .before .before .loop-test .taken))
+element-copy-out-larger-byte : tie.Need-element-copy-out-larger-byte Inv-loop μ-loop
+element-copy-out-larger-byte c = let h = c .before .before .before .before .loop .inv .3 in omega (arith, h .few, h .low _ (c .before .before .before .loop-test .taken))
 
-deeper-requires : tie.Need-deeper-requires Inv-loop μ-loop
-deeper-requires c κs = search needs
+larger-byte-requires : tie.Need-larger-byte-requires Inv-loop μ-loop
+larger-byte-requires c κs = search needs
 
 add-i : tie.Need-add-i Inv-loop μ-loop
 add-i c = search needs
@@ -72,13 +72,13 @@ loop-less : tie.Need-loop-less Inv-loop μ-loop
 loop-less c = search needs
 
 loop-again : tie.Need-loop-again Inv-loop μ-loop
-loop-again c = let i = c .before .before .before .before .before .before .loop .inv in (search needs, depth-one (i .3) _ _ _ _ _ _ (c .before .before .before .before .before .before .before .before .before .before .before .before .before .before .pre .1 .1 .0) (c .before .before .before .before .before .loop-test .taken) (i .1) (c .before .before .wide3 .ensures) (c .before .before .before .member-word .ensures) (c .deeper .ensures), i .2, i .3)
+loop-again c = let i = c .before .before .before .before .before .before .loop .inv in (search needs, depth-one (i .3) _ _ _ _ _ _ (c .before .before .before .before .before .before .before .before .before .before .before .before .before .before .pre .1 .1 .0) (c .before .before .before .before .before .loop-test .taken) (i .1) (c .before .before .wide3 .ensures) (c .before .before .before .member-word .ensures) (c .larger-byte .ensures), i .2, i .3)
 
 element-copy-out-known : tie.Need-element-copy-out-known Inv-loop μ-loop
 element-copy-out-known c = block-in (c .before .before .before .loop .inv .3) _ (c .before .before .loop-test .taken) (c .if3 .left)
 
-deeper-requires-2 : tie.Need-deeper-requires-2 Inv-loop μ-loop
-deeper-requires-2 c κs = search needs
+larger-byte-requires-2 : tie.Need-larger-byte-requires-2 Inv-loop μ-loop
+larger-byte-requires-2 c κs = search needs
 
 add-i-2 : tie.Need-add-i-2 Inv-loop μ-loop
 add-i-2 c = omega (arith, c .before .before .before .before .before .before .loop .inv .3 .inside, c .before .before .before .before .before .before .loop .inv .3 .blocks)
@@ -90,7 +90,7 @@ loop-again-2 : tie.Need-loop-again-2 Inv-loop μ-loop
 loop-again-2 c =
     let i = c .before .before .before .before .before .before .loop .inv in
     let q = aligned _ (c .before .before .before .before .if2 .left) in
-    (block-fits (i .3) _ (c .before .before .before .before .before .loop-test .taken) (c .before .before .before .if3 .left), depth-block (i .3) _ _ _ _ (i .1) (i .2 .known _ (c .before .if4 .taken) ∙ rw q refl) (c .deeper2 .ensures), i .2, i .3)
+    (block-fits (i .3) _ (c .before .before .before .before .before .loop-test .taken) (c .before .before .before .if3 .left), depth-block (i .3) _ _ _ _ (i .1) (i .2 .known _ (c .before .if4 .taken) ∙ rw q refl) (c .larger-byte2 .ensures), i .2, i .3)
 
 block-depth-requires : tie.Need-block-depth-requires Inv-loop μ-loop
 block-depth-requires c κs = let p = c .before .before .before .before .before .before .before .before .before .before .before .before .before .pre in let i = c .before .before .before .before .before .loop .inv in (p .0, (omega (arith, i .3 .inside, i .3 .blocks), (omega (arith, i .3 .few), (p .1 .1 .0, block-low (i .3) _ (c .before .before .before .before .loop-test .taken) (c .before .before .if3 .left)))))
@@ -98,8 +98,8 @@ block-depth-requires c κs = let p = c .before .before .before .before .before .
 element-write-blocks : tie.Need-element-write-blocks Inv-loop μ-loop
 element-write-blocks c = block-in (c .before .before .before .before .before .before .loop .inv .3) _ (c .before .before .before .before .before .loop-test .taken) (c .before .before .before .if3 .left)
 
-deeper-requires-3 : tie.Need-deeper-requires-3 Inv-loop μ-loop
-deeper-requires-3 c κs = search needs
+larger-byte-requires-3 : tie.Need-larger-byte-requires-3 Inv-loop μ-loop
+larger-byte-requires-3 c κs = search needs
 
 add-i-3 : tie.Need-add-i-3 Inv-loop μ-loop
 add-i-3 c = omega (arith, c .before .before .before .before .before .before .before .loop .inv .3 .inside, c .before .before .before .before .before .before .before .loop .inv .3 .blocks)
@@ -110,7 +110,7 @@ loop-less-3 c = search needs
 loop-again-3 : tie.Need-loop-again-3 Inv-loop μ-loop
 loop-again-3 c =
     let i = c .before .before .before .before .before .before .before .loop .inv in
-    (block-fits (i .3) _ (c .before .before .before .before .before .before .loop-test .taken) (c .before .before .before .before .if3 .left), depth-block (i .3) _ _ _ _ (i .1) (c .before .block-depth .ensures) (c .deeper3 .ensures), depths-more _ _ _ _ _ (i .2) (aligned _ (c .before .before .before .before .before .if2 .left)) (c .before .block-depth .ensures), i .3)
+    (block-fits (i .3) _ (c .before .before .before .before .before .before .loop-test .taken) (c .before .before .before .before .if3 .left), depth-block (i .3) _ _ _ _ (i .1) (c .before .block-depth .ensures) (c .larger-byte3 .ensures), depths-more _ _ _ _ _ (i .2) (aligned _ (c .before .before .before .before .before .if2 .left)) (c .before .block-depth .ensures), i .3)
 
 returns-2 : tie.Need-returns-2 Inv-loop μ-loop
 returns-2 c = let i = c .before .loop .inv in (whole _ _ _ _ _ _ (i .3) (c .loop-test .left) (i .0) (i .1), i .2)
@@ -132,19 +132,19 @@ deepest-spec =
     sub-if3
     member-word-requires
     wide-requires-3
-    element-copy-out-deeper
-    deeper-requires
+    element-copy-out-larger-byte
+    larger-byte-requires
     add-i
     loop-less
     loop-again
     element-copy-out-known
-    deeper-requires-2
+    larger-byte-requires-2
     add-i-2
     loop-less-2
     loop-again-2
     block-depth-requires
     element-write-blocks
-    deeper-requires-3
+    larger-byte-requires-3
     add-i-3
     loop-less-3
     loop-again-3

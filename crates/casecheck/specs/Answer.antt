@@ -1,5 +1,5 @@
 -- The check's answer: what a pass says of the contents, or the refusal; and that a pass is a checked case
-use mathlib.Core.Path.{_≡_, refl}
+use mathlib.Core.Path.{_≡_, refl, _∙_, ap}
 use mathlib.Core.List.{List}
 use mathlib.Core.Option.{Option, none, some}
 use Prim.Native.Nat.{ℕ}
@@ -21,11 +21,18 @@ answer (some refusal) contents = Refused refusal
 unfoldable pub asChecking : List ℕ → Checking
 asChecking s = answer (check s) (contentsOf s)
 
+same : {k : Contents} (l : Contents) → Passes k ≡ answer none l → k ≡ l
+unfolding answer
+same l e = cc
+
+never : {k : Contents} (l : Contents) (r : Refusal) → Passes k ≡ answer (some r) l → ⊥
+unfolding answer
+never l r e = let z : _≡_ {A = ℕ} 0 1 = cc in omega arith
+
 -- a pass is a checked case, and its contents are the file's
 pub passed : (s : List ℕ) (contents : Contents) → Passes contents ≡ asChecking s → Checked s × (contents ≡ contentsOf s)
 passed s contents e = go (check s) refl (unfold asChecking in e)
   where
     go : (o : Option Refusal) → check s ≡ o → Passes contents ≡ answer (check s) (contentsOf s) → Checked s × (contents ≡ contentsOf s)
-    unfolding answer
-    go none q f = (record { passes = q }, cc)
-    go (some refusal) q f = let z : _≡_ {A = ℕ} 0 1 = cc in absurd (omega arith)
+    go none q f = (record { passes = q }, same _ (f ∙ ap (λ (o : Option Refusal). answer o (contentsOf s)) q))
+    go (some refusal) q f = absurd (never _ _ (f ∙ ap (λ (o : Option Refusal). answer o (contentsOf s)) q))

@@ -2,7 +2,7 @@
 use mathlib.Core.Bool.{Bool, true, false, not}
 use mathlib.Core.List.{List, [], _∷_, _++_, map}
 use mathlib.Core.Option.{Option, none, some}
-use Prim.Native.Nat.{ℕ, zero, suc, _+_, _*_}
+use Prim.Native.Nat.{ℕ, zero, suc, _*_}
 use lib.Dec.{leb, ltb, eqb}
 use lib.ListN.{length, drop, replicate}
 use lib.IntN.{ℤ}
@@ -72,14 +72,18 @@ unfoldable pub wellFormed : File → ℕ → ℕ → Bool
 wellFormed f tag n =
     pick (eqb n 0 ∷ true ∷ (ltb n (f .values) and not (isInt (f .case .value n))) ∷ ltb n (f .strings) ∷ []) tag false
 
+-- one more variable of a row, if both are well formed
+unfoldable pub moreRow : Bool → Option Bound → Option Row → Option Row
+moreRow formed b none = none
+moreRow formed b (some row) = onlyIf formed (b ∷ row)
+
 -- the row of so many variables that the cells hold, if they are well formed and just so many
 unfoldable pub startRow : File → ℕ → List ℕ → Option Row
 startRow f zero [] = some []
 startRow f zero (a ∷ rest) = none
 startRow f (suc v) [] = none
 startRow f (suc v) (a ∷ []) = none
-startRow f (suc v) (a ∷ b ∷ rest) =
-    elim (startRow f v rest) [ none ↦ none | some xs ↦ onlyIf (wellFormed f a b) (inCells a b ∷ xs) ]
+startRow f (suc v) (a ∷ b ∷ rest) = moreRow (wellFormed f a b) (inCells a b) (startRow f v rest)
 
 -- ---- 7 to 10, in a case that passed the check
 
@@ -125,15 +129,16 @@ walkOf manner c =
     let f = decode (c .file) in
     manner (meaning (f .case) (c .node)) (question (f .point) (c .point) (startOr (startRow f (f .vars) (c .start))))
 
+-- a refusal comes first
+unfoldable pub unlessRefused : {A : Type 0} → Option Refusal → Asked A → Asked A
+unlessRefused (some n) a = not-asked n
+unlessRefused none a = a
+
 unfoldable pub asking : {A : Type 0} → Sort → (Meaning → Question → W A) → Call → Asked A
 asking sort manner c =
-    elim (check (c .file)) [
-      | some n ↦ not-asked n
-      | none ↦ elim (against sort (decode (c .file)) c) [
-        | some n ↦ not-asked n
-        | none ↦ walked (outcome (c .limits) started (walkOf manner c))
-      ]
-    ]
+    unlessRefused (check (c .file))
+    (unlessRefused (against sort (decode (c .file)) c)
+    (walked (outcome (c .limits) started (walkOf manner c))))
 
 unfoldable pub told : {A : Type 0} → Asked A → Said A
 told (not-asked n) = refuses n 0 0
@@ -193,26 +198,22 @@ unfoldable pub outputFits : Call → List ℕ → List ℕ → List Row → Bool
 outputFits c binders output kept =
     allUnder (decode (c .file) .vars) binders and leb (length (filled binders kept)) (length output)
 
--- after the walk: the rows if the output takes them
-unfoldable pub toOutput : Call → List ℕ → List ℕ → List Row → Meter → RowsResult
-toOutput c binders output kept m =
-    let after = cleared (2 * decode (c .file) .vars * c .limits .room) (c .workspace) in
-    let cells = filled binders kept in
-    elim (outputFits c binders output kept) [
-      | true ↦ record {
-        result = record { said = gives (length kept) (m .steps) (m .most); workspace = after };
-        output = cells ++ drop (length cells) output;
-      }
-      | false ↦ record {
-        result = record { said = refuses BadOutput (m .steps) (m .most); workspace = after };
-        output = output;
-      }
-    ]
+-- after the walk: the rows, if the output takes them
+unfoldable pub toOutput : Call → List ℕ → List ℕ → List Row → Meter → Bool → RowsResult
+toOutput c binders output kept m true = record {
+  result = result c (walked (answered (length kept) m));
+  output = filled binders kept ++ drop (length (filled binders kept)) output;
+}
+toOutput c binders output kept m false = record {
+  result = result c (walked (refused BadOutput m));
+  output = output;
+}
 
 unfoldable pub rowsGiven : Call → List ℕ → List ℕ → Asked (List Row) → RowsResult
-rowsGiven c binders output (walked (answered rows m)) = toOutput c binders output (projected c binders rows) m
-rowsGiven c binders output (walked (refused n m)) =
-    record { result = result c (walked (refused n m)); output = output }
+rowsGiven c binders output (walked (answered rows m)) =
+    let kept = projected c binders rows in
+    toOutput c binders output kept m (outputFits c binders output kept)
+rowsGiven c binders output (walked (refused n m)) = record { result = result c (walked (refused n m)); output = output }
 rowsGiven c binders output (not-asked n) = record { result = result c (not-asked n); output = output }
 
 unfoldable pub rowsCall : List ℕ → List ℕ → Call → RowsResult

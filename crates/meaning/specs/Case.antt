@@ -1,7 +1,7 @@
 -- The case file: its contents, bodies and records, read from its bytes
 use mathlib.Core.List.{List, [], _∷_, map}
-use mathlib.Core.Option.{Option, none, some}
-use mathlib.Core.Bool.{Bool, true, false, not}
+use mathlib.Core.Option.{Option, none}
+use mathlib.Core.Bool.{not}
 use Prim.Native.Nat.{ℕ, zero, suc, _+_, _*_, _/_}
 use lib.Dec.{eqb}
 use lib.ListN.{getD, take, drop}
@@ -11,8 +11,6 @@ use mir.Syntax.{w64}
 use Rattle.meaning.specs.declared.Node.{Node}
 use Rattle.meaning.specs.declared.Node.the-variants.{And, Or, Not, Formerly, Previous, Since, Predicate, Comparison, Exists, Tp, Literal, Context, Scope, Variable, Wildcard, Aggregate, Arithmetic, Sum, Count, Broken}
 use Rattle.meaning.specs.declared.NodeNo.{NodeNo}
-use Rattle.meaning.specs.declared.ValNo.{ValNo}
-use Rattle.meaning.specs.declared.StrNo.{StrNo}
 use Rattle.meaning.specs.declared.Run.{Run}
 use Rattle.meaning.specs.declared.Interval.{Interval}
 use Rattle.meaning.specs.declared.TimeUnit.{TimeUnit}

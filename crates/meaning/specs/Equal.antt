@@ -1,17 +1,17 @@
 -- Equality of values, and what a variable can be bound to
-use mathlib.Core.Bool.{Bool, true, false, not}
+use mathlib.Core.Bool.{Bool, true, false}
 use mathlib.Core.List.{List, [], _∷_, _++_}
 use mathlib.Core.Option.{Option, none, some}
-use Prim.Native.Nat.{ℕ, zero, suc, _+_, _*_, _-_, _^_}
+use Prim.Native.Nat.{ℕ, _+_, _*_, _-_, _^_}
 use lib.Dec.{leb, ltb, eqb}
 use lib.ListN.{length}
 use lib.IntN.{ℤ, pos, negℤ}
 use lib.Signed.{mag}
-use mir.Val.{toZ, ofZ}
+use mir.Val.{ofZ}
 use mir.Syntax.{w64}
-use Rattle.meaning.specs.Tests.{_and_, pick}
+use Rattle.meaning.specs.Tests.{_and_}
 use Rattle.meaning.specs.Case.{Case, Value, Part, Null, Boolean, Int, Decimal, Text, Entity, Array, Object}
-use Rattle.meaning.specs.Below.{made, upto}
+use Rattle.meaning.specs.Below.{made}
 
 -- ---- decimals: an optional minus, digits, a point, 1 to 4 digits
 
@@ -19,7 +19,6 @@ unfoldable pub isDigit : ℕ → Bool
 isDigit b = leb 48 b and leb b 57
 
 unfoldable pub digits : List ℕ → Bool
-unfolding isDigit
 digits [] = true
 digits (b ∷ bs) = isDigit b and digits bs
 
@@ -39,7 +38,6 @@ unsigned (b ∷ bs) = elim (eqb b 45) [ true ↦ (true, bs) | false ↦ (false, 
 
 -- times 10,000, where the number then fits 64 bits
 unfoldable pub scaled : Bool → List ℕ → List ℕ → Option ℤ
-unfolding digits natural
 scaled minus whole frac =
     let n = natural 0 whole * 10000 + natural 0 frac * 10 ^ (4 - length frac) in
     let z : ℤ = elim minus [ true ↦ negℤ (pos n) | false ↦ pos n ] in
@@ -49,7 +47,6 @@ scaled minus whole frac =
     ]
 
 unfoldable pub decimal : List ℕ → Option ℤ
-unfolding cut unsigned scaled
 decimal text =
     let u = unsigned text in
     elim (cut [] (u .1)) [ none ↦ none | some parts ↦ scaled (u .0) (parts .0) (parts .1) ]
@@ -67,11 +64,9 @@ seen k n p = record { kind = k; key = n; parts = p }
 
 -- a decimal that reads goes by its scaled number, any other by its text
 unfoldable pub decimalKey : Case → ℕ → List ℕ
-unfolding decimal
 decimalKey c s = elim (decimal (c .text s)) [ none ↦ 1 ∷ s ∷ [] | some z ↦ 0 ∷ ofZ w64 z ∷ [] ]
 
 unfoldable pub see : Case → Value → Seen
-unfolding seen decimalKey
 see c Null = seen 0 [] []
 see c (Boolean b) = seen 1 (b ∷ []) []
 see c (Int z) = seen 2 (ofZ w64 z ∷ []) []
@@ -94,12 +89,10 @@ sameParts eq (x ∷ xs) [] = false
 sameParts eq (x ∷ xs) (y ∷ ys) = eqb (x .name) (y .name) and eq (x .value) (y .value) and sameParts eq xs ys
 
 unfoldable pub alike : (ℕ → ℕ → Bool) → Seen → Seen → Bool
-unfolding sameList sameParts
 alike eq s t = eqb (s .kind) (t .kind) and sameList (s .key) (t .key) and sameParts eq (s .parts) (t .parts)
 
 -- value number m equals value number n
 unfoldable pub sameValue : Case → ℕ → ℕ → Bool
-unfolding made alike see
 sameValue c = made (λ n. false) (λ eq m n. alike eq (see c (c .value m)) (see c (c .value n)))
 
 -- ---- what a variable can be bound to: an integer, a value that is no Int, by its number, or a string, an entity's own part
@@ -115,7 +108,6 @@ asValue c (value k) = c .value k
 asValue c (part s) = Text s
 
 unfoldable pub same : Case → Bound → Bound → Bool
-unfolding asValue see alike sameValue
 same c a b = alike (sameValue c) (see c (asValue c a)) (see c (asValue c b))
 
 unfoldable pub boundOf : ℕ → Value → Bound

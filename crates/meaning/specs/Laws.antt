@@ -10,3 +10,5 @@ pub mod Checked
 pub mod Walk
 pub mod Meaning
 pub mod Stack
+pub mod Calls
+pub mod Later

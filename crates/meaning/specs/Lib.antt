@@ -11,3 +11,4 @@ pub mod Walk
 pub mod Meaning
 pub mod Calls
 pub mod Laws
+pub mod Examples

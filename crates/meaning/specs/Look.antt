@@ -1,14 +1,14 @@
 -- Paths through objects; context and scope
-use mathlib.Core.Bool.{Bool, true, false}
+use mathlib.Core.Bool.{true, false}
 use mathlib.Core.List.{List, [], _∷_}
 use mathlib.Core.Option.{Option, none, some}
-use Prim.Native.Nat.{ℕ, zero, suc}
+use Prim.Native.Nat.{ℕ}
 use lib.Dec.{eqb}
 use Rattle.meaning.specs.Tests.{_and_, orElse}
 use Rattle.meaning.specs.Case.{Case, Value, Part, Point, Attributes, Null, Boolean, Int, Decimal, Text, Entity, Array, Object}
 use Rattle.meaning.specs.declared.Root.{Root}
 use Rattle.meaning.specs.declared.Root.the-variants.{Principal, Resource}
-use Rattle.meaning.specs.Equal.{Bound, int, value, part, boundOf, sameList}
+use Rattle.meaning.specs.Equal.{Bound, value, part, boundOf, sameList}
 
 unfoldable pub named : ℕ → List Part → Option ℕ
 named n [] = none
@@ -26,12 +26,10 @@ members (Object ps) = ps
 
 -- the value that a path of names reaches from value v
 unfoldable pub descend : Case → ℕ → List ℕ → Option ℕ
-unfolding named members
 descend c v [] = some v
 descend c v (n ∷ ns) = elim (named n (members (c .value v))) [ none ↦ none | some u ↦ descend c u ns ]
 
 unfoldable pub boundAt : Case → Option ℕ → Option Bound
-unfolding boundOf
 boundAt c none = none
 boundAt c (some v) = some (boundOf v (c .value v))
 
@@ -41,7 +39,6 @@ attributesOf t i (e ∷ es) = elim (eqb t (e .type) and eqb i (e .id)) [ true �
 
 -- `id` and `type` alone fall back to the entity's own parts
 unfoldable pub ownPart : Case → ℕ → ℕ → List ℕ → Option Bound
-unfolding sameList
 ownPart c t i [] = none
 ownPart c t i (n ∷ []) =
     elim (sameList (c .text n) (105 ∷ 100 ∷ [])) [
@@ -51,7 +48,6 @@ ownPart c t i (n ∷ []) =
 ownPart c t i (n ∷ m ∷ ns) = none
 
 unfoldable pub supplied : Case → Option ℕ → List ℕ → Option Bound
-unfolding boundAt descend
 supplied c none path = none
 supplied c (some object) path = boundAt c (descend c object path)
 
@@ -66,7 +62,6 @@ entityOf (Array ps) = none
 entityOf (Object ps) = none
 
 unfoldable pub attribute : Case → Point → ℕ → List ℕ → Option Bound
-unfolding entityOf supplied attributesOf ownPart orElse
 attribute c p v path =
     elim (entityOf (c .value v)) [
       | none ↦ none
@@ -74,7 +69,6 @@ attribute c p v path =
     ]
 
 unfoldable pub fromRoot : Case → Point → Option ℕ → List ℕ → Option Bound
-unfolding boundAt attribute
 fromRoot c p none path = none
 fromRoot c p (some v) [] = boundAt c (some v)
 fromRoot c p (some v) (n ∷ ns) = attribute c p v (n ∷ ns)
@@ -84,13 +78,10 @@ rootOf p Principal = p .principal
 rootOf p Resource = p .resource
 
 unfoldable pub scopeAt : Case → Point → Root → List ℕ → Option Bound
-unfolding fromRoot rootOf
 scopeAt c p root path = fromRoot c p (rootOf p root) path
 
 unfoldable pub contextAt : Case → Point → List ℕ → Option Bound
-unfolding boundAt descend
 contextAt c p path = boundAt c (descend c (p .context) path)
 
 unfoldable pub fieldAt : Case → Point → List ℕ → Option Bound
-unfolding boundAt descend
 fieldAt c p path = boundAt c (descend c (p .logged) path)

@@ -3,17 +3,15 @@ use mathlib.Core.Path.{_≡_, refl}
 use mathlib.Core.Bool.{Bool, true, false}
 use mathlib.Core.List.{List}
 use mathlib.Core.Option.{Option, none, some}
-use Prim.Native.Nat.{ℕ, _+_, _*_, _<_, _≤_}
-use native.Mathlib.Omega.{arith}
-use lib.Dec.{leb}
+use Prim.Native.Nat.{ℕ, _<_, _≤_}
 use lib.ListN.{length}
 use borrow.Author.Tests.{leb-true}
 use Rattle.meaning.specs.declared.Refusal.{Refusal}
 use Rattle.meaning.specs.declared.Refusal.the-variants.{BadContents, TooLarge, BadStrings, BadValues, BadPoints, BadNodes}
 use Rattle.meaning.specs.Tests.{_and_, choose, allBelow}
-use Rattle.meaning.specs.Case.{Value, size, strings, values, members, points, nodes, vars, list, nodeAt, valueAt, arity, child, caseOf}
+use Rattle.meaning.specs.Case.{strings, values, points, nodes, vars, list, nodeAt, valueAt, arity, child, caseOf}
 use Rattle.meaning.specs.Equal.{see, alike, sameValue}
-use Rattle.meaning.specs.Check.{check, Checked, bodies, mosts, stringRules, valueRules, pointRules, nodeRules, endToEnd, utf8Rule, orderRule, memberRule, valueRule, depthRule, pointRule, nodeRule, heightRule, height}
+use Rattle.meaning.specs.Check.{check, Checked, bodies, mosts, stringRules, valueRules, pointRules, nodeRules, endToEnd, valueRule, pointRule, nodeRule}
 use Rattle.meaning.specs.Laws.Tests.{both}
 use Rattle.meaning.specs.Laws.Lists.{Every}
 use Rattle.meaning.specs.Laws.Values as Values

@@ -1,8 +1,8 @@
 -- What passed node rules say: children have lower numbers; height by the children's
-use mathlib.Core.Path.{_≡_, refl, sym, _∙_, ap}
+use mathlib.Core.Path.{_≡_, refl, ap}
 use mathlib.Core.Bool.{Bool, true, false}
 use mathlib.Core.List.{List, [], _∷_}
-use Prim.Native.Nat.{ℕ, zero, suc, _+_, _*_, _/_, _%_, _<_, _≤_}
+use Prim.Native.Nat.{ℕ, zero, suc, _+_, _*_, _<_, _≤_}
 use native.Mathlib.Omega.{arith}
 use lib.Dec.{ltb, lit<}
 use borrow.Author.Tests.{ltb-true, ltb-false}
@@ -10,8 +10,8 @@ use Rattle.meaning.specs.declared.NodeNo.{NodeNo}
 use Rattle.meaning.specs.declared.Node.{Node}
 use Rattle.meaning.specs.declared.Node.the-variants.{And, Or, Not, Formerly, Previous, Since, Predicate, Comparison, Exists, Tp, Literal, Context, Scope, Variable, Wildcard, Aggregate, Arithmetic, Sum, Count, Broken}
 use Rattle.meaning.specs.Tests.{_and_, choose, pick, allBelow, greatest}
-use Rattle.meaning.specs.Case.{size, nodes, nodeWord, bodyWord, list, nodeAt, nodeFrom, under, arity, child}
-use Rattle.meaning.specs.Check.{bodies, recordBytes, childIn, argumentRule, argumentRun, ruleOf, nodeRule, height}
+use Rattle.meaning.specs.Case.{nodes, nodeWord, list, nodeAt, nodeFrom, under, arity, child}
+use Rattle.meaning.specs.Check.{bodies, childIn, argumentRule, argumentRun, ruleOf, nodeRule, height}
 use Rattle.meaning.specs.Laws.Tests.{both, all-at, levels-is}
 use Rattle.meaning.specs.Laws.Bodies.{wholes, body-beyond}
 

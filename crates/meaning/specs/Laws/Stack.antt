@@ -1,32 +1,29 @@
 -- Rows held form a stack: a verdict, term or number leaves as many as it found, a relation its own rows on top
-use mathlib.Core.Path.{_≡_, refl, sym, _∙_, ap}
+use mathlib.Core.Path.{_≡_, refl, _∙_, ap}
 use mathlib.Core.Bool.{Bool, true, false, not}
 use mathlib.Core.List.{List, [], _∷_, _++_, map}
 use mathlib.Core.Option.{Option, none, some}
-use Prim.Native.Nat.{ℕ, zero, suc, _+_, _-_, _≤_, _<_}
+use Prim.Native.Nat.{ℕ, zero, suc, _+_, _-_, _≤_}
 use native.Mathlib.Omega.{arith}
 use native.Mathlib.Numerals.{add-one}
 use native.Mathlib.Nat.{add-zero}
-use lib.Dec.{eqb}
 use lib.ListN.{length, length-append, length-map}
 use lib.IntN.{ℤ}
 use Rattle.meaning.specs.declared.Meter.{Meter}
 use Rattle.meaning.specs.Walk.{Event, step, add, drop, W, give, visit, adding, dropping, _>>=_, after}
 use Rattle.meaning.specs.Walk.{measured}
-use Rattle.meaning.specs.Case.{Case, Point, runOf, places}
+use Rattle.meaning.specs.Case.{Case}
 use Rattle.meaning.specs.declared.Node.{Node}
 use Rattle.meaning.specs.declared.Node.the-variants.{And, Or, Not, Formerly, Previous, Since, Predicate, Comparison, Exists, Tp, Literal, Context, Scope, Variable, Wildcard, Aggregate, Arithmetic, Sum, Count, Broken}
 use Rattle.meaning.specs.declared.NodeNo.{NodeNo}
-use Rattle.meaning.specs.declared.Run.{Run}
-use Rattle.meaning.specs.declared.Interval.{Interval}
 use Rattle.meaning.specs.declared.CmpOp.{CmpOp}
 use Rattle.meaning.specs.declared.CmpOp.the-variants.{Le, Lt, Ge, Gt, Eq, NotEq}
 use Rattle.meaning.specs.declared.ArithOp.{ArithOp}
 use Rattle.meaning.specs.Below.{made, upto}
-use Rattle.meaning.specs.Tests.{_and_, choose, onlyIf, isSome}
+use Rattle.meaning.specs.Tests.{_and_, choose}
 use Rattle.meaning.specs.Equal.{Bound, integer}
-use Rattle.meaning.specs.Rows.{Row, blank, without, onto, isIn, addNew, joinAll, agreeing, over}
-use Rattle.meaning.specs.Meaning.{Meaning, Past, Question, Shape, noMeaning, condition, term, aggregate, predicate, oneRow, asRows, under, unbinding, earlier, ifYes, unlessYes, lending, lentTo, andVerdict, joining, andRows, orVerdict, orRows, taking, notVerdict, existsVerdict, existsRows, ifInside, downward, upward, rising, every, inside, formerlyVerdict, formerlyRows, sinceVerdict, sinceRows, keeping, before, isThere, previously, tpVerdict, tpRow, compareVerdict, bindRows, eqRows, compareRows, unbound, ifInt, arithmetic, aggregated, relation, resolved, meaningOf, meaning}
+use Rattle.meaning.specs.Rows.{Row, without, isIn, addNew, joinAll, agreeing, over}
+use Rattle.meaning.specs.Meaning.{Meaning, Past, Question, Shape, noMeaning, condition, term, aggregate, predicate, oneRow, asRows, under, unbinding, earlier, ifYes, unlessYes, lending, lentTo, andVerdict, joining, andRows, orVerdict, orRows, taking, notVerdict, existsVerdict, existsRows, ifInside, downward, upward, rising, every, formerlyVerdict, formerlyRows, sinceVerdict, sinceRows, keeping, previously, tpVerdict, compareVerdict, bindRows, eqRows, compareRows, ifInt, arithmetic, aggregated, relation, meaningOf, meaning}
 
 -- the rows held after a walk that began with h
 unfoldable pub height : ℕ → List Event → ℕ

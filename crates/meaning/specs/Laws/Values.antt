@@ -1,19 +1,17 @@
 -- What passed value rules say: runs lie in their table, parts have lower numbers; depth, plain, literal and equality by parts
-use mathlib.Core.Path.{_≡_, refl, sym, _∙_, ap, fun-ext}
+use mathlib.Core.Path.{_≡_, refl, ap, fun-ext}
 use mathlib.Core.Bool.{Bool, true, false, not}
 use mathlib.Core.List.{List, [], _∷_, map}
-use Prim.Native.Nat.{ℕ, zero, suc, _+_, _*_, _/_, _%_, _<_, _≤_}
+use Prim.Native.Nat.{ℕ, zero, suc, _+_, _*_, _<_, _≤_}
 use native.Mathlib.Omega.{arith}
 use lib.Dec.{ltb, leb, eqb, lit<}
-use lib.ListN.{length}
-use borrow.Author.Tests.{leb-true, leb-false, ltb-true, ltb-false, eqb-true, le-leb, lt-leb}
-use Rattle.meaning.specs.Below.{made}
-use Rattle.meaning.specs.Tests.{_and_, _or_, allBelow, pick, greatest, levels}
-use Rattle.meaning.specs.Case.{Case, Value, Part, Null, Boolean, Int, Decimal, Text, Entity, Array, Object, size, values, members, valueWord, memberWord, bodyWord, partAt, valueAt, valueFrom, places, caseOf}
-use Rattle.meaning.specs.Check.{bodies, recordBytes, valueRule, arrayItem, objectItem, partCount, partValue, depth, plain, plainNames, literal, nullRule, boolRule, intRule, textRule, entityValueRule, arrayRule, objectRule, noKind}
-use Rattle.meaning.specs.Equal.{Seen, see, seen, alike, sameParts, sameValue}
+use borrow.Author.Tests.{leb-true, leb-false, ltb-true, ltb-false, le-leb, lt-leb}
+use Rattle.meaning.specs.Tests.{_and_, _or_, choose, within, allBelow, pick, greatest}
+use Rattle.meaning.specs.Case.{Part, Null, values, members, valueWord, memberWord, partAt, valueAt, valueFrom, places, caseOf}
+use Rattle.meaning.specs.Check.{bodies, valueRule, arrayItem, objectItem, partCount, partValue, depth, plain, plainNames, literal, nullRule, boolRule, intRule, textRule, entityValueRule, arrayRule, objectRule, noKind}
+use Rattle.meaning.specs.Equal.{see, seen, alike, sameParts, sameValue}
 use Rattle.meaning.specs.Laws.Below.{made-is}
-use Rattle.meaning.specs.Laws.Tests.{both, stop, pass, yes, no, all-at, levels-is, throughout-is}
+use Rattle.meaning.specs.Laws.Tests.{both, stop, skip, pass, yes, no, all-at, levels-is, throughout-is}
 use Rattle.meaning.specs.Laws.Bodies.{wholes, body-beyond}
 use Rattle.meaning.specs.Laws.Lists.{Every, every-map, every-place}
 
@@ -112,6 +110,35 @@ unfoldable pub held : List Part → List ℕ
 held [] = []
 held (p ∷ ps) = p .value ∷ held ps
 
+-- the check's own words and the decoded value speak of the same parts
+module _ (s : List ℕ) where
+  run-held : (a k count : ℕ) → held (map (partAt s) (places (a + k) 1 count)) ≡ map (λ i. memberWord s (a + i) 1) (places k 1 count)
+  unfolding held partAt places
+  run-held a k zero = refl
+  run-held a k (suc count) = let z : a + k + 1 ≡ a + (k + 1) = omega arith in rw z (ap (λ rest. memberWord s (a + k) 1 ∷ rest) (run-held a (k + 1) count))
+
+  whole-run : (a count : ℕ) → held (map (partAt s) (places a 1 count)) ≡ map (λ i. memberWord s (a + i) 1) (places 0 1 count)
+  whole-run a count = let z : a + 0 ≡ a = omega arith in rw z at (run-held a 0 count)
+
+  beyond : (k b : ℕ) → 7 < k → choose (within 6 7 k) b 0 ≡ 0
+  beyond k b h = no b (skip (leb 6 k) (lt-leb k 7 h)) refl
+
+  held-by : (k a b : ℕ) → held (see (caseOf s) (valueFrom (partAt s) k a b) .parts) ≡ map (λ i. memberWord s (a + i) 1) (places 0 1 (choose (within 6 7 k) b 0))
+  unfolding valueFrom pick see seen held places choose _and_
+  held-by zero a b = refl
+  held-by (suc zero) a b = refl
+  held-by (suc (suc zero)) a b = refl
+  held-by (suc (suc (suc zero))) a b = refl
+  held-by (suc (suc (suc (suc zero)))) a b = refl
+  held-by (suc (suc (suc (suc (suc zero))))) a b = refl
+  held-by (suc (suc (suc (suc (suc (suc zero)))))) a b = whole-run a b
+  held-by (suc (suc (suc (suc (suc (suc (suc zero))))))) a b = whole-run a b
+  held-by (suc (suc (suc (suc (suc (suc (suc (suc k)))))))) a b = rw (beyond (suc (suc (suc (suc (suc (suc (suc (suc k)))))))) b (omega arith)) refl
+
+  pub held-is : (v : ℕ) → held (see (caseOf s) (valueAt s v) .parts) ≡ map (partValue s v) (places 0 1 (partCount s v))
+  unfolding valueAt partValue partCount
+  held-is v = held-by (valueWord s v 0) (valueWord s v 1) (valueWord s v 2)
+
 module _ (s : List ℕ) (h : bodies s ≡ true) (rules : allBelow (values s) (valueRule s) ≡ true) where
   -- of a run of members
   held-lower : (v : ℕ) (xs : List ℕ) → Every (λ m. memberWord s m 1 < v) xs → Every (λ j. j < v) (held (map (partAt s) xs))
@@ -158,9 +185,13 @@ module _ (s : List ℕ) (h : bodies s ≡ true) (rules : allBelow (values s) (va
   parts-same g h (p ∷ ps) [] e = refl
   parts-same g h (p ∷ ps) (q ∷ qs) e = cc (parts-same g h ps qs (e .1))
 
+  by-parts : (g h : ℕ → ℕ → Bool) (m : ℕ) → ((j : ℕ) → j < m → g j ≡ h j) → _≡_ {A = ℕ → Bool} (λ n. alike g (see (caseOf s) (valueAt s m)) (see (caseOf s) (valueAt s n))) (λ n. alike h (see (caseOf s) (valueAt s m)) (see (caseOf s) (valueAt s n)))
+  unfolding alike
+  by-parts g h m same =
+      fun-ext (λ n. cc (parts-same g h (see (caseOf s) (valueAt s m) .parts) (see (caseOf s) (valueAt s n) .parts) (every-map (held (see (caseOf s) (valueAt s m) .parts)) same (lower-parts m))))
+
   -- two values are equal where their kinds, numbers and parts are
   pub sameValue-is : (k n : ℕ) → sameValue (caseOf s) k n ≡ alike (sameValue (caseOf s)) (see (caseOf s) (valueAt s k)) (see (caseOf s) (valueAt s n))
   unfolding sameValue caseOf
   sameValue-is k n =
-      ap (λ (f : ℕ → Bool). f n) (made-is (λ n. false) (λ eq m n. alike eq (see (caseOf s) (valueAt s m)) (see (caseOf s) (valueAt s n))) (suc k)
-      (λ g h m hm same. fun-ext (λ n. unfold alike in cc (parts-same g h (see (caseOf s) (valueAt s m) .parts) (see (caseOf s) (valueAt s n) .parts) (every-map (held (see (caseOf s) (valueAt s m) .parts)) same (lower-parts m))))) k (omega arith))
+      ap (λ (f : ℕ → Bool). f n) (made-is (λ n. false) (λ eq m n. alike eq (see (caseOf s) (valueAt s m)) (see (caseOf s) (valueAt s n))) (suc k) (λ g h m hm same. by-parts g h m same) k (omega arith))

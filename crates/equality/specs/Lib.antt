@@ -1,0 +1,4 @@
+pub mod Numbers
+pub mod Decimals
+pub mod Cells
+pub mod Paths

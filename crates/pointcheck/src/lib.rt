@@ -1,0 +1,380 @@
+// Refusal 5: points and entities; and runs of the lists.
+use meaning::ValNo;
+use stringcheck::both;
+use stringcheck::either;
+use stringcheck::free_strings;
+use stringcheck::list_count;
+use stringcheck::point_count;
+use stringcheck::string_count;
+use stringcheck::value_count;
+use stringcheck::var_count;
+use tables::list_at;
+use tables::point_word;
+use tables::value_word;
+use tables::wide;
+use valuecheck::larger;
+use valuecheck::plain_values;
+ghost use mathlib.Core.Path.{_≡_};
+ghost use mathlib.Core.Bool.{Bool, true, false};
+ghost use Prim.Native.Nat.{_+_, _*_, _/_, _<_, _≤_, max};
+ghost use lib.Dec.{ltb};
+ghost use Rattle.meaning.specs.Tests.{_and_, allBelow, greatest};
+ghost use Rattle.meaning.specs.Case.{lists, list, strings, values, text};
+ghost use Rattle.meaning.specs.Check.{bodies, mosts, inTable, pathName, pathRun, stringRun, variableRun, endToEnd, valueRule, isObject, plainObject, maybeValue, entityBefore, isString, entityRule, entityItem, entityRun, pointRule, pointRules};
+ghost use Rattle.pointcheck.specs.Blocks.{Tops, Undotted, Paths, Unquoted, Plain};
+ghost use Rattle.meaning.specs.Text.{free};
+
+// ---- runs of the lists: they may overlap, so they are read by blocks of 1024 words
+
+// a run of items of one word stays in the lists
+fn in_lists(s: &[u8], first: u32, items: u32) -> bool
+    requires { ⌜ bodies (now s) ≡ true ⌝ }
+    ensures { λ r. ⌜ _≡_ {A = Bool} r (inTable (lists (now (s .entry))) 1 first items) ⌝ }
+{
+    wide(first) + wide(items) <= wide(list_count(s))
+}
+
+// ---- words below a bound: strings, variables
+
+// the greatest word of the block from `at` on
+fn block_top(s: &[u8], at: usize) -> u32
+    requires { ⌜ bodies (now s) ≡ true ⌝ }
+    requires { ⌜ at < 4294967296 ⌝ }
+    ensures { λ r. ⌜ r ≡ greatest 1024 (λ j. list (now (s .entry)) (at + j)) ⌝ }
+{
+    let mut top = 0;
+    let mut i = 0;
+    while i < 1024 {
+        top = larger(top, list_at(s, at + i));
+        i += 1;
+    }
+    top
+}
+
+pub fn list_tops(s: &[u8]) -> [u32; 1024]
+    requires { ⌜ bodies (now s) ≡ true ⌝ }
+    requires { ⌜ mosts (now s) ≡ true ⌝ }
+    ensures { λ r. ⌜ Tops (now (s .entry)) r ⌝ }
+{
+    let n = wide(list_count(s)) / 1024;
+    let mut tops = [0u32; 1024];
+    let mut b = 0;
+    while b < n {
+        tops[b] = block_top(s, 1024 * b);
+        b += 1;
+    }
+    tops
+}
+
+// whether each word of a run is below a bound
+fn below_run(s: &[u8], tops: &[u32; 1024], bound: u32, first: u32, items: u32) -> bool
+    requires { ⌜ bodies (now s) ≡ true ⌝ }
+    requires { ⌜ mosts (now s) ≡ true ⌝ }
+    requires { ⌜ Tops (now s) (now tops) ⌝ }
+    ensures { λ r. ⌜ _≡_ {A = Bool} r (inTable (lists (now (s .entry))) 1 first items and allBelow items (λ i. ltb (list (now (s .entry)) (first + i)) bound)) ⌝ }
+{
+    if !in_lists(s, first, items) {
+        return false;
+    }
+    let mut i = 0;
+    while i < items {
+        let at = wide(first) + wide(i);
+        if at % 1024 != 0 || items - i < 1024 {
+            if bound <= list_at(s, at) {
+                return false;
+            }
+            i += 1;
+            continue;
+        }
+        let b = at / 1024;
+        if bound <= tops[b] {
+            return false;
+        }
+        i += 1024;
+    }
+    true
+}
+
+pub fn string_run(s: &[u8], tops: &[u32; 1024], first: u32, items: u32) -> bool
+    requires { ⌜ bodies (now s) ≡ true ⌝ }
+    requires { ⌜ mosts (now s) ≡ true ⌝ }
+    requires { ⌜ Tops (now s) (now tops) ⌝ }
+    ensures { λ r. ⌜ _≡_ {A = Bool} r (stringRun (now (s .entry)) first items) ⌝ }
+{
+    below_run(s, tops, string_count(s), first, items)
+}
+
+pub fn variable_run(s: &[u8], tops: &[u32; 1024], first: u32, items: u32) -> bool
+    requires { ⌜ bodies (now s) ≡ true ⌝ }
+    requires { ⌜ mosts (now s) ≡ true ⌝ }
+    requires { ⌜ Tops (now s) (now tops) ⌝ }
+    ensures { λ r. ⌜ _≡_ {A = Bool} r (variableRun (now (s .entry)) first items) ⌝ }
+{
+    below_run(s, tops, var_count(s), first, items)
+}
+
+// ---- paths: strings without a dot
+
+// whether word i is a path's name
+fn path_name(s: &[u8], undotted: &[bool; 16384], i: usize) -> bool
+    requires { ⌜ bodies (now s) ≡ true ⌝ }
+    requires { ⌜ mosts (now s) ≡ true ⌝ }
+    requires { ⌜ Undotted (now s) (now undotted) ⌝ }
+    ensures { λ r. ⌜ _≡_ {A = Bool} r (pathName (now (s .entry)) i) ⌝ }
+{
+    let n = list_at(s, i);
+    if string_count(s) <= n {
+        return false;
+    }
+    let at = wide(n);
+    undotted[at]
+}
+
+// whether the block from `at` on holds path names alone
+fn path_block(s: &[u8], undotted: &[bool; 16384], at: usize) -> bool
+    requires { ⌜ bodies (now s) ≡ true ⌝ }
+    requires { ⌜ mosts (now s) ≡ true ⌝ }
+    requires { ⌜ Undotted (now s) (now undotted) ⌝ }
+    requires { ⌜ at < 4294967296 ⌝ }
+    ensures { λ r. ⌜ _≡_ {A = Bool} r (allBelow 1024 (λ j. pathName (now (s .entry)) (at + j))) ⌝ }
+{
+    let mut i = 0;
+    while i < 1024 {
+        if !path_name(s, undotted, at + i) {
+            return false;
+        }
+        i += 1;
+    }
+    true
+}
+
+pub fn path_blocks(s: &[u8], undotted: &[bool; 16384]) -> [bool; 1024]
+    requires { ⌜ bodies (now s) ≡ true ⌝ }
+    requires { ⌜ mosts (now s) ≡ true ⌝ }
+    requires { ⌜ Undotted (now s) (now undotted) ⌝ }
+    ensures { λ r. ⌜ Paths (now (s .entry)) r ⌝ }
+{
+    let n = wide(list_count(s)) / 1024;
+    let mut paths = [false; 1024];
+    let mut b = 0;
+    while b < n {
+        paths[b] = path_block(s, undotted, 1024 * b);
+        b += 1;
+    }
+    paths
+}
+
+pub fn path_run(
+    s: &[u8],
+    undotted: &[bool; 16384],
+    paths: &[bool; 1024],
+    first: u32,
+    items: u32,
+) -> bool
+    requires { ⌜ bodies (now s) ≡ true ⌝ }
+    requires { ⌜ mosts (now s) ≡ true ⌝ }
+    requires { ⌜ Undotted (now s) (now undotted) ⌝ }
+    requires { ⌜ Paths (now s) (now paths) ⌝ }
+    ensures { λ r. ⌜ _≡_ {A = Bool} r (pathRun (now (s .entry)) first items) ⌝ }
+{
+    if !in_lists(s, first, items) {
+        return false;
+    }
+    let mut i = 0;
+    while i < items {
+        let at = wide(first) + wide(i);
+        if at % 1024 != 0 || items - i < 1024 {
+            if !path_name(s, undotted, at) {
+                return false;
+            }
+            i += 1;
+            continue;
+        }
+        let b = at / 1024;
+        if !paths[b] {
+            return false;
+        }
+        i += 1024;
+    }
+    true
+}
+
+// ---- points and entities
+
+fn is_object(s: &[u8], v: u32) -> bool
+    requires { ⌜ bodies (now s) ≡ true ⌝ }
+    ensures { λ r. ⌜ _≡_ {A = Bool} r (isObject (now (s .entry)) v) ⌝ }
+{
+    both(v < value_count(s), value_word(s, ValNo(v), 0) == 7)
+}
+
+// an object in which no name holds a dot
+fn plain_object(s: &[u8], plain: &[bool; 16384], v: u32) -> bool
+    requires { ⌜ bodies (now s) ≡ true ⌝ }
+    requires { ⌜ mosts (now s) ≡ true ⌝ }
+    requires { ⌜ Plain (now s) (now plain) ⌝ }
+    ensures { λ r. ⌜ _≡_ {A = Bool} r (plainObject (now (s .entry)) v) ⌝ }
+{
+    if !is_object(s, v) {
+        return false;
+    }
+    let at = wide(v);
+    plain[at]
+}
+
+fn maybe_value(s: &[u8], v: u32) -> bool
+    requires { ⌜ bodies (now s) ≡ true ⌝ }
+    ensures { λ r. ⌜ _≡_ {A = Bool} r (maybeValue (now (s .entry)) v) ⌝ }
+{
+    either(v == 4294967295, v < value_count(s))
+}
+
+// whether the entity at i comes before the one at j
+fn entity_before(s: &[u8], i: usize, j: usize) -> bool
+    requires { ⌜ bodies (now s) ≡ true ⌝ }
+    requires { ⌜ i < 4294967296 ⌝ }
+    requires { ⌜ j < 4294967296 ⌝ }
+    ensures { λ r. ⌜ _≡_ {A = Bool} r (entityBefore (now (s .entry)) i j) ⌝ }
+{
+    let one = list_at(s, i);
+    let other = list_at(s, j);
+    let id = list_at(s, i + 1);
+    let next = list_at(s, j + 1);
+    either(one < other, both(one == other, id < next))
+}
+
+// a string without a quotation mark
+fn entity_type(s: &[u8], unquoted: &[bool; 16384], n: u32) -> bool
+    requires { ⌜ bodies (now s) ≡ true ⌝ }
+    requires { ⌜ mosts (now s) ≡ true ⌝ }
+    requires { ⌜ Unquoted (now s) (now unquoted) ⌝ }
+    ensures { λ r. ⌜ _≡_ {A = Bool} r (isString (now (s .entry)) n and free 34 (text (now (s .entry)) n)) ⌝ }
+{
+    if string_count(s) <= n {
+        return false;
+    }
+    let at = wide(n);
+    unquoted[at]
+}
+
+fn entity_rule(s: &[u8], unquoted: &[bool; 16384], plain: &[bool; 16384], i: usize) -> bool
+    requires { ⌜ bodies (now s) ≡ true ⌝ }
+    requires { ⌜ mosts (now s) ≡ true ⌝ }
+    requires { ⌜ Unquoted (now s) (now unquoted) ⌝ }
+    requires { ⌜ Plain (now s) (now plain) ⌝ }
+    requires { ⌜ i < 4294967296 ⌝ }
+    ensures { λ r. ⌜ _≡_ {A = Bool} r (entityRule (now (s .entry)) i) ⌝ }
+{
+    let name = entity_type(s, unquoted, list_at(s, i));
+    let id = list_at(s, i + 1) < string_count(s);
+    let object = plain_object(s, plain, list_at(s, i + 2));
+    both(name, both(id, object))
+}
+
+// item i of a run of entities: its own rule, and that it comes after the one before
+fn entity_item(
+    s: &[u8],
+    unquoted: &[bool; 16384],
+    plain: &[bool; 16384],
+    first: u32,
+    i: u32,
+) -> bool
+    requires { ⌜ bodies (now s) ≡ true ⌝ }
+    requires { ⌜ mosts (now s) ≡ true ⌝ }
+    requires { ⌜ Unquoted (now s) (now unquoted) ⌝ }
+    requires { ⌜ Plain (now s) (now plain) ⌝ }
+    requires { ⌜ first + 3 * i < 4294967296 ⌝ }
+    ensures { λ r. ⌜ _≡_ {A = Bool} r (entityItem (now (s .entry)) first i) ⌝ }
+{
+    let at = wide(first) + 3 * wide(i);
+    if !entity_rule(s, unquoted, plain, at) {
+        return false;
+    }
+    if i == 0 {
+        return true;
+    }
+    entity_before(s, at - 3, at)
+}
+
+fn entity_run(
+    s: &[u8],
+    unquoted: &[bool; 16384],
+    plain: &[bool; 16384],
+    first: u32,
+    items: u32,
+) -> bool
+    requires { ⌜ bodies (now s) ≡ true ⌝ }
+    requires { ⌜ mosts (now s) ≡ true ⌝ }
+    requires { ⌜ Unquoted (now s) (now unquoted) ⌝ }
+    requires { ⌜ Plain (now s) (now plain) ⌝ }
+    ensures { λ r. ⌜ _≡_ {A = Bool} r (entityRun (now (s .entry)) first items) ⌝ }
+{
+    if wide(list_count(s)) < wide(first) + 3 * wide(items) {
+        return false;
+    }
+    let mut i = 0;
+    while i < items {
+        if !entity_item(s, unquoted, plain, first, i) {
+            return false;
+        }
+        i += 1;
+    }
+    true
+}
+
+fn point_rule(
+    s: &[u8],
+    tops: &[u32; 1024],
+    unquoted: &[bool; 16384],
+    plain: &[bool; 16384],
+    p: usize,
+) -> bool
+    requires { ⌜ bodies (now s) ≡ true ⌝ }
+    requires { ⌜ mosts (now s) ≡ true ⌝ }
+    requires { ⌜ Tops (now s) (now tops) ⌝ }
+    requires { ⌜ Unquoted (now s) (now unquoted) ⌝ }
+    requires { ⌜ Plain (now s) (now plain) ⌝ }
+    ensures { λ r. ⌜ _≡_ {A = Bool} r (pointRule (now (s .entry)) p) ⌝ }
+{
+    let namespace = string_run(s, tops, point_word(s, p, 2), point_word(s, p, 3));
+    let action = point_word(s, p, 4) < string_count(s);
+    let kind = point_word(s, p, 5) < string_count(s);
+    let logged = is_object(s, point_word(s, p, 6));
+    let context = plain_object(s, plain, point_word(s, p, 7));
+    let principal = maybe_value(s, point_word(s, p, 8));
+    let resource = maybe_value(s, point_word(s, p, 9));
+    let entities = entity_run(
+        s,
+        unquoted,
+        plain,
+        point_word(s, p, 10),
+        point_word(s, p, 11),
+    );
+    let parties = both(principal, both(resource, entities));
+    both(
+        namespace,
+        both(action, both(kind, both(logged, both(context, parties)))),
+    )
+}
+
+pub fn check_points(s: &[u8], tops: &[u32; 1024], undotted: &[bool; 16384]) -> bool
+    requires { ⌜ bodies (now s) ≡ true ⌝ }
+    requires { ⌜ mosts (now s) ≡ true ⌝ }
+    requires { ⌜ endToEnd (now s) ≡ true ⌝ }
+    requires { ⌜ allBelow (values (now s)) (valueRule (now s)) ≡ true ⌝ }
+    requires { ⌜ Tops (now s) (now tops) ⌝ }
+    requires { ⌜ Undotted (now s) (now undotted) ⌝ }
+    ensures { λ r. ⌜ _≡_ {A = Bool} r (pointRules (now (s .entry))) ⌝ }
+{
+    let unquoted = free_strings(s, 34);
+    let plain = plain_values(s, undotted);
+    let n = wide(point_count(s));
+    let mut p = 0;
+    while p < n {
+        if !point_rule(s, tops, &unquoted, &plain, p) {
+            return false;
+        }
+        p += 1;
+    }
+    true
+}

@@ -1,0 +1,2 @@
+pub mod Mosts
+pub mod Tables

@@ -1,0 +1,375 @@
+// Refusals 1 to 3: contents and bodies, mosts, strings; and what later rules ask of strings.
+use meaning::Due;
+use meaning::StrNo;
+use tables::contents_word;
+use tables::offset_of;
+use tables::size_of;
+use tables::string_word;
+use tables::text_of;
+use tables::wide;
+ghost use mathlib.Core.Path.{_≡_};
+ghost use mathlib.Core.Bool.{Bool, true, false};
+ghost use Prim.Native.Nat.{_<_, _≤_};
+ghost use Rattle.meaning.specs.Tests.{_and_, _or_, allBelow};
+ghost use Rattle.meaning.specs.Text.{before, free, utf8, first, follow, next, ended};
+ghost use Rattle.meaning.specs.Case.{strings, values, members, points, nodes, lists, vars, text};
+ghost use Rattle.meaning.specs.Check.{recordBytes, bodies, mosts, endToEnd, utf8Rule, orderRule, stringRules};
+ghost use Rattle.meaning.specs.Laws.Tests.{Filled};
+
+// ---- rules of several parts
+
+pub fn both(a: bool, b: bool) -> bool
+    ensures { λ r. ⌜ _≡_ {A = Bool} r (a and b) ⌝ }
+{
+    if a { b } else { false }
+}
+
+pub fn either(a: bool, b: bool) -> bool
+    ensures { λ r. ⌜ _≡_ {A = Bool} r (a or b) ⌝ }
+{
+    if a { true } else { b }
+}
+
+// ---- 1: contents and bodies
+
+fn record_bytes(k: usize) -> usize
+    requires { ⌜ k < 7 ⌝ }
+    ensures { λ r. ⌜ (r ≡ recordBytes k) × (0 < r) ⌝ }
+{
+    match k {
+        0 | 2 => 8,
+        1 => 16,
+        3 => 48,
+        4 => 32,
+        5 => 4,
+        _ => 1,
+    }
+}
+
+pub fn check_bodies(s: &[u8]) -> bool
+    ensures { λ r. ⌜ _≡_ {A = Bool} r (bodies (now (s .entry))) ⌝ }
+{
+    if s.len() < 64 {
+        return false;
+    }
+    if contents_word(s, 0) != 1 {
+        return false;
+    }
+    let mut at = 64;
+    let mut k = 0;
+    while k < 7 {
+        let start = wide(offset_of(s, k));
+        if start != at {
+            return false;
+        }
+        let size = wide(size_of(s, k));
+        if size % record_bytes(k) != 0 {
+            return false;
+        }
+        at += size;
+        k += 1;
+    }
+    at == s.len()
+}
+
+// ---- how many records there are
+
+pub fn string_count(s: &[u8]) -> u32
+    requires { ⌜ bodies (now s) ≡ true ⌝ }
+    ensures { λ r. ⌜ r ≡ strings (now (s .entry)) ⌝ }
+{
+    size_of(s, 0) / 8
+}
+
+pub fn value_count(s: &[u8]) -> u32
+    requires { ⌜ bodies (now s) ≡ true ⌝ }
+    ensures { λ r. ⌜ r ≡ values (now (s .entry)) ⌝ }
+{
+    size_of(s, 1) / 16
+}
+
+pub fn member_count(s: &[u8]) -> u32
+    requires { ⌜ bodies (now s) ≡ true ⌝ }
+    ensures { λ r. ⌜ r ≡ members (now (s .entry)) ⌝ }
+{
+    size_of(s, 2) / 8
+}
+
+pub fn point_count(s: &[u8]) -> u32
+    requires { ⌜ bodies (now s) ≡ true ⌝ }
+    ensures { λ r. ⌜ r ≡ points (now (s .entry)) ⌝ }
+{
+    size_of(s, 3) / 48
+}
+
+pub fn node_count(s: &[u8]) -> u32
+    requires { ⌜ bodies (now s) ≡ true ⌝ }
+    ensures { λ r. ⌜ r ≡ nodes (now (s .entry)) ⌝ }
+{
+    size_of(s, 4) / 32
+}
+
+pub fn list_count(s: &[u8]) -> u32
+    requires { ⌜ bodies (now s) ≡ true ⌝ }
+    ensures { λ r. ⌜ r ≡ lists (now (s .entry)) ⌝ }
+{
+    size_of(s, 5) / 4
+}
+
+pub fn var_count(s: &[u8]) -> u32
+    requires { ⌜ bodies (now s) ≡ true ⌝ }
+    ensures { λ r. ⌜ r ≡ vars (now (s .entry)) ⌝ }
+{
+    contents_word(s, 1)
+}
+
+// ---- 2: mosts
+
+pub fn check_mosts(s: &[u8]) -> bool
+    requires { ⌜ bodies (now s) ≡ true ⌝ }
+    ensures { λ r. ⌜ _≡_ {A = Bool} r (mosts (now (s .entry))) ⌝ }
+{
+    if 4194304 < s.len() {
+        return false;
+    }
+    if 16384 < string_count(s) {
+        return false;
+    }
+    if 16384 < value_count(s) {
+        return false;
+    }
+    if 16384 < point_count(s) {
+        return false;
+    }
+    if 1024 < node_count(s) {
+        return false;
+    }
+    var_count(s) <= 16
+}
+
+// ---- 3: strings
+
+// strings lie end to end and fill text
+fn end_to_end(s: &[u8]) -> bool
+    requires { ⌜ bodies (now s) ≡ true ⌝ }
+    ensures { λ r. ⌜ _≡_ {A = Bool} r (endToEnd (now (s .entry))) ⌝ }
+{
+    let n = string_count(s);
+    let room = wide(size_of(s, 6));
+    let mut at = 0;
+    let mut k = 0;
+    while k < n {
+        let start = wide(string_word(s, StrNo(k), 0));
+        if start != at {
+            return false;
+        }
+        at += wide(string_word(s, StrNo(k), 1));
+        if room < at {
+            return false;
+        }
+        k += 1;
+    }
+    at == room
+}
+
+fn first_due(b: u8) -> Due
+    ensures { λ r. ⌜ r ≡ first b ⌝ }
+{
+    if b < 128 {
+        return Due::Nothing;
+    }
+    if b < 194 {
+        return Due::Wrong;
+    }
+    if b < 224 {
+        return Due::One;
+    }
+    if b < 225 {
+        return Due::AfterE0;
+    }
+    if b < 237 {
+        return Due::Two;
+    }
+    if b < 238 {
+        return Due::AfterEd;
+    }
+    if b < 240 {
+        return Due::Two;
+    }
+    if b < 241 {
+        return Due::AfterF0;
+    }
+    if b < 244 {
+        return Due::Three;
+    }
+    if b < 245 {
+        return Due::AfterF4;
+    }
+    Due::Wrong
+}
+
+// a byte that follows lies from low to high
+fn follow_due(low: u8, high: u8, then: Due, b: u8) -> Due
+    ensures { λ r. ⌜ r ≡ follow low high «then» b ⌝ }
+{
+    if b < low {
+        return Due::Wrong;
+    }
+    if b <= high {
+        return then;
+    }
+    Due::Wrong
+}
+
+fn next_due(d: Due, b: u8) -> Due
+    ensures { λ r. ⌜ r ≡ next d b ⌝ }
+{
+    match d {
+        Due::Nothing => first_due(b),
+        Due::One => follow_due(128, 191, Due::Nothing, b),
+        Due::Two => follow_due(128, 191, Due::One, b),
+        Due::Three => follow_due(128, 191, Due::Two, b),
+        Due::AfterE0 => follow_due(160, 191, Due::One, b),
+        Due::AfterEd => follow_due(128, 159, Due::One, b),
+        Due::AfterF0 => follow_due(144, 191, Due::Two, b),
+        Due::AfterF4 => follow_due(128, 143, Due::Two, b),
+        Due::Wrong => Due::Wrong,
+    }
+}
+
+fn is_ended(d: Due) -> bool
+    ensures { λ r. ⌜ _≡_ {A = Bool} r (ended d) ⌝ }
+{
+    match d {
+        Due::Nothing => true,
+        Due::One => false,
+        Due::Two => false,
+        Due::Three => false,
+        Due::AfterE0 => false,
+        Due::AfterEd => false,
+        Due::AfterF0 => false,
+        Due::AfterF4 => false,
+        Due::Wrong => false,
+    }
+}
+
+fn is_utf8(t: &[u8]) -> bool
+    ensures { λ r. ⌜ _≡_ {A = Bool} r (utf8 Due.Nothing (now (t .entry))) ⌝ }
+{
+    let mut d = Due::Nothing;
+    let mut i = 0;
+    while i < t.len() {
+        d = next_due(d, t[i]);
+        i += 1;
+    }
+    is_ended(d)
+}
+
+fn check_utf8(s: &[u8]) -> bool
+    requires { ⌜ bodies (now s) ≡ true ⌝ }
+    requires { ⌜ endToEnd (now s) ≡ true ⌝ }
+    ensures { λ r. ⌜ _≡_ {A = Bool} r (allBelow (strings (now (s .entry))) (utf8Rule (now (s .entry)))) ⌝ }
+{
+    let n = string_count(s);
+    let mut k = 0;
+    while k < n {
+        if !is_utf8(text_of(s, StrNo(k))) {
+            return false;
+        }
+        k += 1;
+    }
+    true
+}
+
+fn is_before(x: &[u8], y: &[u8]) -> bool
+    ensures { λ r. ⌜ _≡_ {A = Bool} r (before (now (x .entry)) (now (y .entry))) ⌝ }
+{
+    let mut i = 0;
+    while i < x.len() {
+        if y.len() <= i {
+            return false;
+        }
+        if x[i] < y[i] {
+            return true;
+        }
+        if x[i] != y[i] {
+            return false;
+        }
+        i += 1;
+    }
+    i < y.len()
+}
+
+// string k comes after the one before it
+fn order_rule(s: &[u8], k: u32) -> bool
+    requires { ⌜ bodies (now s) ≡ true ⌝ }
+    requires { ⌜ endToEnd (now s) ≡ true ⌝ }
+    ensures { λ r. ⌜ _≡_ {A = Bool} r (orderRule (now (s .entry)) k) ⌝ }
+{
+    if k == 0 {
+        return true;
+    }
+    is_before(text_of(s, StrNo(k - 1)), text_of(s, StrNo(k)))
+}
+
+fn check_order(s: &[u8]) -> bool
+    requires { ⌜ bodies (now s) ≡ true ⌝ }
+    requires { ⌜ endToEnd (now s) ≡ true ⌝ }
+    ensures { λ r. ⌜ _≡_ {A = Bool} r (allBelow (strings (now (s .entry))) (orderRule (now (s .entry)))) ⌝ }
+{
+    let n = string_count(s);
+    let mut k = 0;
+    while k < n {
+        if !order_rule(s, k) {
+            return false;
+        }
+        k += 1;
+    }
+    true
+}
+
+pub fn check_strings(s: &[u8]) -> bool
+    requires { ⌜ bodies (now s) ≡ true ⌝ }
+    ensures { λ r. ⌜ _≡_ {A = Bool} r (stringRules (now (s .entry))) ⌝ }
+{
+    if !end_to_end(s) {
+        return false;
+    }
+    if !check_utf8(s) {
+        return false;
+    }
+    check_order(s)
+}
+
+// ---- what later rules ask: strings in which a byte does not occur
+
+fn is_free(b: u8, t: &[u8]) -> bool
+    ensures { λ r. ⌜ _≡_ {A = Bool} r (free b (now (t .entry))) ⌝ }
+{
+    let mut i = 0;
+    while i < t.len() {
+        if t[i] == b {
+            return false;
+        }
+        i += 1;
+    }
+    true
+}
+
+// which strings hold no byte b
+pub fn free_strings(s: &[u8], b: u8) -> [bool; 16384]
+    requires { ⌜ bodies (now s) ≡ true ⌝ }
+    requires { ⌜ mosts (now s) ≡ true ⌝ }
+    requires { ⌜ endToEnd (now s) ≡ true ⌝ }
+    ensures { λ r. ⌜ Filled false (λ n. free b (text (now (s .entry)) n)) r (strings (now (s .entry))) ⌝ }
+{
+    let n = string_count(s);
+    let mut out = [false; 16384];
+    let mut k = 0;
+    while k < n {
+        let at = wide(k);
+        out[at] = is_free(b, text_of(s, StrNo(k)));
+        k += 1;
+    }
+    out
+}

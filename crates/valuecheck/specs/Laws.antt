@@ -1,0 +1,140 @@
+-- Laws of blocks of members: of a run that goes on by a whole block, and of what is kept of a block
+use mathlib.Core.Path.{_≡_, refl, sym, _∙_, ap}
+use mathlib.Core.Bool.{Bool, true, false}
+use mathlib.Core.List.{List, [], _∷_}
+use mathlib.Core.Logic.{_⊎_, inl, inr, ⊎-elim}
+use Prim.Native.Nat.{ℕ, zero, suc, _+_, _*_, _/_, _%_, _<_, _≤_, max}
+use native.Mathlib.Omega.{arith}
+use native.Mathlib.Numerals.{add-one}
+use lib.Dec.{leb, ltb, eqb}
+use lib.ListN.{length, getD, set}
+use lib.Seq.{getD-set-other}
+use borrow.Author.Tests.{lt-ltb, le-ltb, ltb-true, ltb-false}
+use Rattle.meaning.specs.Tests.{_and_, choose, allBelow, greatest}
+use Rattle.meaning.specs.Case.{nothing, memberWord}
+use Rattle.meaning.specs.Check.{arrayItem, depth}
+use Rattle.meaning.specs.Laws.Tests.{Filled, stop, skip, pass, after, yes, no, all-add, all-same, all-at, shorter}
+use Rattle.valuecheck.specs.Blocks.{topOf, Depths, Marked}
+
+-- the greatest of a run and a block
+pub greatest-add : (f : ℕ → ℕ) (i n : ℕ) → greatest (i + n) f ≡ max (greatest i f) (greatest n (λ j. f (i + j)))
+unfolding greatest
+greatest-add f i zero = let q : i + 0 ≡ i = omega arith in rw q (top (greatest i f))
+  where
+    top : (x : ℕ) → x ≡ max x 0
+    top x = omega arith
+greatest-add f i (suc n) =
+    let q : i + suc n ≡ suc (i + n) = omega arith in
+    rw (q, greatest-add f i n) (regroup (greatest i f) (greatest n (λ j. f (i + j))) (f (i + n)))
+  where
+    regroup : (x y z : ℕ) → max (max x y) z ≡ max x (max y z)
+    regroup x y z = omega arith
+
+pub all-true : (test : ℕ → Bool) (n : ℕ) → ((i : ℕ) → i < n → test i ≡ true) → allBelow n test ≡ true
+unfolding allBelow
+all-true test zero h = refl
+all-true test (suc n) h = pass (all-true test n (λ i hi. h i (omega arith))) (h n (omega arith))
+
+-- ---- an array's items by the greatest value held
+
+swap : (p a q b : Bool) → ((p and a) and (q and b)) ≡ ((p and q) and (a and b))
+unfolding _and_
+swap false a q b = refl
+swap true true true b = refl
+swap true true false b = refl
+swap true false true b = refl
+swap true false false b = refl
+
+pub ltb-max : (a b v : ℕ) → ltb (max a b) v ≡ (ltb a v and ltb b v)
+ltb-max a b v = go (ltb a v) refl (ltb b v) refl
+  where
+    go : (x : Bool) → ltb a v ≡ x → (y : Bool) → ltb b v ≡ y → ltb (max a b) v ≡ (ltb a v and ltb b v)
+    go true e true f = lt-ltb _ _ (above a b (ltb-true a v e) (ltb-true b v f)) ∙ sym (pass e f)
+      where
+        above : (a b : ℕ) → a < v → b < v → max a b < v
+        above a b h l = omega arith
+    go true e false f = le-ltb _ _ (second a b (ltb-false b v f)) ∙ sym (skip _ f)
+      where
+        second : (a b : ℕ) → v ≤ b → v ≤ max a b
+        second a b h = omega arith
+    go false e y f = le-ltb _ _ (first a b (ltb-false a v e)) ∙ sym (stop _ e)
+      where
+        first : (a b : ℕ) → v ≤ a → v ≤ max a b
+        first a b h = omega arith
+
+all-under : (p : ℕ → Bool) (f : ℕ → ℕ) (v n : ℕ) → allBelow (suc n) (λ i. p i and ltb (f i) v) ≡ (allBelow (suc n) p and ltb (greatest (suc n) f) v)
+unfolding allBelow greatest
+all-under p f v zero = let q : max 0 (f 0) ≡ f 0 = omega arith in rw q (unfold _and_ in refl)
+all-under p f v (suc n) =
+    ap (λ (b : Bool). b and (p (suc n) and ltb (f (suc n)) v)) (all-under p f v n)
+    ∙ swap (allBelow (suc n) p) (ltb (greatest (suc n) f) v) (p (suc n)) (ltb (f (suc n)) v)
+    ∙ ap (λ (b : Bool). (allBelow (suc n) p and p (suc n)) and b) (sym (ltb-max (greatest (suc n) f) (f (suc n)) v))
+
+-- an array may hold a whole block just if its number is above the block's top
+top-is : (s : List ℕ) (v at : ℕ) → v < 4294967296 → ltb (topOf s at) v ≡ allBelow 512 (arrayItem s v at)
+unfolding topOf arrayItem
+top-is s v at h = go (allBelow 512 (λ i. eqb (memberWord s (at + i) 0) nothing)) refl ∙ sym (all-under (λ i. eqb (memberWord s (at + i) 0) nothing) (λ i. memberWord s (at + i) 1) v 511)
+  where
+    go : (b : Bool) → allBelow 512 (λ i. eqb (memberWord s (at + i) 0) nothing) ≡ b → ltb (choose (allBelow 512 (λ i. eqb (memberWord s (at + i) 0) nothing)) (greatest 512 (λ i. memberWord s (at + i) 1)) nothing) v ≡ (allBelow 512 (λ i. eqb (memberWord s (at + i) 0) nothing) and ltb (greatest 512 (λ i. memberWord s (at + i) 1)) v)
+    go true e = ap (λ (t : ℕ). ltb t v) (yes nothing e) ∙ sym (after e)
+    go false e = ap (λ (t : ℕ). ltb t v) (no (greatest 512 (λ i. memberWord s (at + i) 1)) e refl) ∙ le-ltb nothing v (omega arith) ∙ sym (stop _ e)
+
+shift : (s : List ℕ) (v first i j : ℕ) → arrayItem s v first (i + j) ≡ arrayItem s v (first + i) j
+unfolding arrayItem
+shift s v first i j = let q : first + (i + j) ≡ first + i + j = omega arith in rw q
+
+array-block : (s : List ℕ) (v first i : ℕ) → allBelow (i + 512) (arrayItem s v first) ≡ (allBelow i (arrayItem s v first) and allBelow 512 (arrayItem s v (first + i)))
+array-block s v first i = all-add (arrayItem s v first) i 512 ∙ ap (λ (t : Bool). allBelow i (arrayItem s v first) and t) (all-same _ _ 512 (λ j hj. shift s v first i j))
+
+module _ (s tops : List ℕ) (v first i at b n : ℕ) (t : Filled 0 (λ b. topOf s (512 * b)) tops n) (hb : b < n) (e : at ≡ first + i) (q : 512 * b ≡ at) (h : v < 4294967296) where
+  top : ltb (getD tops b 0) v ≡ allBelow 512 (arrayItem s v (first + i))
+  top = ap (λ (x : ℕ). ltb x v) (t .at b hb) ∙ top-is s v (512 * b) h ∙ ap (λ (x : ℕ). allBelow 512 (arrayItem s v x)) (q ∙ e)
+
+  pub array-more : getD tops b 0 < v → allBelow i (arrayItem s v first) ≡ true → allBelow (i + 512) (arrayItem s v first) ≡ true
+  array-more l a = array-block s v first i ∙ pass a (sym top ∙ lt-ltb _ _ l)
+
+  pub array-stop : (items : ℕ) → v ≤ getD tops b 0 → i + 512 ≤ items → false ≡ allBelow items (arrayItem s v first)
+  array-stop items l m = sym (shorter (arrayItem s v first) (i + 512) items m (array-block s v first i ∙ skip _ (sym top ∙ le-ltb _ _ l)))
+
+-- ---- what is kept of blocks
+
+-- an entry after a store is the old one or the new
+set-get : {A : Type 0} (other : A) (xs : List A) (b j : ℕ) (x : A) → (getD (set xs b x) j other ≡ getD xs j other) ⊎ ((j ≡ b) × (getD (set xs b x) j other ≡ x))
+set-get other [] zero j x = inl refl
+set-get other [] (suc b) j x = inl refl
+set-get other (y ∷ xs) zero zero x = inr (refl, refl)
+set-get other (y ∷ xs) zero (suc j) x = inl refl
+set-get other (y ∷ xs) (suc b) zero x = inl refl
+set-get other (y ∷ xs) (suc b) (suc j) x = ⊎-elim (λ e. inl e) (λ p. inr (ap suc (p .0), p .1)) (set-get other xs b j x)
+
+pub depths-none : (s blocks : List ℕ) → ((b : ℕ) → getD blocks b 0 ≡ 0) → Depths s blocks
+depths-none s blocks h = record { known = λ b f. absurd (f (h b)) }
+
+pub depths-more : (s blocks : List ℕ) (b at x : ℕ) → Depths s blocks → 512 * b ≡ at → x ≡ greatest 512 (λ j. depth s (memberWord s (at + j) 1)) → Depths s (set blocks b x)
+depths-more s blocks b at x d q e = record { known = λ j f. go j f (set-get 0 blocks b j x) }
+  where
+    go : (j : ℕ) → (getD (set blocks b x) j 0 ≡ 0 → ⊥) → ((getD (set blocks b x) j 0 ≡ getD blocks j 0) ⊎ ((j ≡ b) × (getD (set blocks b x) j 0 ≡ x))) → getD (set blocks b x) j 0 ≡ greatest 512 (λ i. depth s (memberWord s (512 * j + i) 1))
+    go j f (inl p) = p ∙ d .known j (λ z. f (p ∙ z))
+    go j f (inr p) = p .1 ∙ e ∙ ap (λ (a : ℕ). greatest 512 (λ i. depth s (memberWord s (a + i) 1))) (sym q ∙ ap (λ (a : ℕ). 512 * a) (sym (p .0)))
+
+pub marked-none : (s : List ℕ) (marks blocks : List Bool) (v : ℕ) → ((b : ℕ) → getD blocks b false ≡ false) → Marked s marks v blocks
+marked-none s marks blocks v h = record { held = λ b e j hj. let z : _≡_ {A = Bool} true false = sym e ∙ h b in absurd (never z) }
+  where
+    never : _≡_ {A = Bool} true false → ⊥
+    never e = let z : _≡_ {A = ℕ} 0 1 = cc in omega arith
+
+-- one more block that is marked throughout
+pub marked-more : (s : List ℕ) (marks blocks : List Bool) (v b at : ℕ) → Marked s marks v blocks → 512 * b ≡ at → ((j : ℕ) → j < 512 → memberWord s (at + j) 1 < v) → allBelow 512 (λ j. getD marks (memberWord s (at + j) 1) false) ≡ true → Marked s marks v (set blocks b true)
+marked-more s marks blocks v b at m q l a = record { held = λ j e i hi. go j e i hi (set-get false blocks b j true) }
+  where
+    here : (j : ℕ) → j ≡ b → at ≡ 512 * j
+    here j e = sym q ∙ ap (λ (a : ℕ). 512 * a) (sym e)
+
+    go : (j : ℕ) → getD (set blocks b true) j false ≡ true → (i : ℕ) → i < 512 → ((getD (set blocks b true) j false ≡ getD blocks j false) ⊎ ((j ≡ b) × (getD (set blocks b true) j false ≡ true))) → (memberWord s (512 * j + i) 1 < v) × (getD marks (memberWord s (512 * j + i) 1) false ≡ true)
+    go j e i hi (inl p) = m .held j (sym p ∙ e) i hi
+    go j e i hi (inr p) = (rw (here j (p .0)) at (l i hi), rw (here j (p .0)) at (all-at (λ j. getD marks (memberWord s (at + j) 1) false) 512 i a hi))
+
+-- one more value
+pub marked-next : (s : List ℕ) (marks blocks : List Bool) (v at : ℕ) (x : Bool) → at ≡ v → Marked s marks v blocks → Marked s (set marks at x) (v + 1) blocks
+marked-next s marks blocks v at x q m =
+    record { held = λ b e j hj. let h = m .held b e j hj in (omega (arith, h .0), getD-set-other marks at _ x false (λ z. absurd (omega (arith, h .0))) ∙ h .1) }

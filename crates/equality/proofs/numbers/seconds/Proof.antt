@@ -1,0 +1,16 @@
+use borrow.Author.Needs.{needs}
+use Rattle.equality.proofs.Saturates.{seconds-is}
+use Rattle.equality.proofs.numbers.seconds.Statement.{statement}
+use Rattle.equality.proofs.numbers.seconds.Tie as tie
+
+seconds-of-requires : tie.Need-seconds-of-requires
+seconds-of-requires c κs = search needs
+
+saturating-mul-requires : tie.Need-saturating-mul-requires
+saturating-mul-requires c κs = search needs
+
+returns : tie.Need-returns
+returns c = search (seconds-is, needs)
+
+pub seconds-spec : {M : Type 1} → statement M
+seconds-spec = tie.close (tie.spec seconds-of-requires saturating-mul-requires returns)

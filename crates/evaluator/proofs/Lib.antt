@@ -1,3 +1,5 @@
 pub mod Walks
 pub mod Nodes
 pub mod Verdicts
+pub mod Held
+pub mod Relations

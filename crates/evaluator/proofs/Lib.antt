@@ -3,3 +3,4 @@ pub mod Nodes
 pub mod Verdicts
 pub mod Held
 pub mod Relations
+pub mod Loops

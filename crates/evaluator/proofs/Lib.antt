@@ -4,3 +4,4 @@ pub mod Verdicts
 pub mod Held
 pub mod Relations
 pub mod Loops
+pub mod Dispatch

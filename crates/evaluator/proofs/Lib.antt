@@ -5,3 +5,5 @@ pub mod Held
 pub mod Relations
 pub mod Loops
 pub mod Dispatch
+pub mod Terms
+pub mod Asked

@@ -7,3 +7,4 @@ pub mod Loops
 pub mod Dispatch
 pub mod Terms
 pub mod Asked
+pub mod Keeping

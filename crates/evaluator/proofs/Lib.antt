@@ -8,3 +8,4 @@ pub mod Dispatch
 pub mod Terms
 pub mod Asked
 pub mod Keeping
+pub mod Sides

@@ -1,1 +1,4 @@
 pub mod Numbers
+pub mod Decimals
+pub mod Cells
+pub mod Paths

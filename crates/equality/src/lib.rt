@@ -1,7 +1,34 @@
 // Numbers and windows, decimals, equality of values, and what paths reach: what the evaluator asks of a checked case, each equal to its definition.
-mod numbers;
+use meaning::ValNo;
 
+mod decimals;
+mod numbers;
+mod paths;
+mod values;
+
+pub use decimals::cedar_decimal_value;
+pub use decimals::decimal_eq;
 pub use numbers::calculate;
 pub use numbers::in_window;
 pub use numbers::ordered;
 pub use numbers::seconds;
+pub use paths::context_at;
+pub use paths::field_at;
+pub use paths::path_descend;
+pub use paths::same_event;
+pub use paths::scope_at;
+pub use values::binding_eq;
+pub use values::binding_of;
+pub use values::dom_eq;
+
+// what a text reads as: the 64 bits of the number scaled by 10,000
+pub enum Decimal {
+    Scaled(u64),
+    NotDecimal,
+}
+
+// a value that a path reaches
+pub enum Found {
+    At(ValNo),
+    Nothing,
+}

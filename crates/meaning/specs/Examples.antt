@@ -1,12 +1,13 @@
--- E1 to E12, the sample table and the slips: one list with one claim, computed from the bytes of one case that passes the check
+-- E1 to E12, the sample table and the slips: one list with one claim, computed from the bytes of one case that passes the check; then the calls, each refusal, and parts that the case does not reach
 use mathlib.Core.Path.{_≡_, refl}
 use mathlib.Core.Bool.{Bool, true, false}
 use mathlib.Core.List.{List, [], _∷_, _++_, map}
 use mathlib.Core.Option.{Option, none, some}
 use Prim.Native.Nat.{ℕ}
 use lib.IntN.{ℤ, pos, negsuc}
+use lib.ListN.{set}
 use Rattle.meaning.specs.declared.Limits.{Limits}
-use Rattle.meaning.specs.declared.Refusal.the-variants.{NoSuchPoint, NoSuchNode, BadStart, BadLimits, StepsExhausted, RoomExhausted, BadOutput}
+use Rattle.meaning.specs.declared.Refusal.the-variants.{BadContents, TooLarge, BadStrings, BadValues, BadPoints, BadNodes, NoSuchPoint, NoSuchNode, BadStart, BadLimits, StepsExhausted, RoomExhausted, BadOutput}
 use Rattle.meaning.specs.declared.Node.{Node}
 use Rattle.meaning.specs.declared.Node.the-variants.{And, Or, Not, Formerly, Previous, Since, Predicate, Comparison, Exists, Literal, Context, Variable, Sum, Count}
 use Rattle.meaning.specs.declared.NodeNo.{NodeNo}
@@ -15,7 +16,7 @@ use Rattle.meaning.specs.declared.StrNo.{StrNo}
 use Rattle.meaning.specs.declared.Run.{Run}
 use Rattle.meaning.specs.declared.Interval.{Interval}
 use Rattle.meaning.specs.declared.TimeUnit.{TimeUnit}
-use Rattle.meaning.specs.declared.TimeUnit.the-variants.{Seconds, Hours}
+use Rattle.meaning.specs.declared.TimeUnit.the-variants.{Seconds, Minutes, Hours, Days}
 use Rattle.meaning.specs.declared.CmpOp.the-variants.{Eq, NotEq}
 use Rattle.meaning.specs.Walk.{W, Outcome, answered, refused}
 use Rattle.meaning.specs.Calls.{Call, Said, gives, refuses, Result, RowsResult}
@@ -25,7 +26,7 @@ use Rattle.meaning.specs.Text.{before, free as free·Text, first, follow
 use Rattle.meaning.specs.Case.{words, contents, offset, size, body as body·Case, bodyWord, stringWord, valueWord, memberWord, pointWord, nodeWord, list as list·Case, text, places, runOf, signed, maybe, unitOf, cmpOf, arithOf, rootFrom, under, nodeFrom, valueFrom, partAt, valueAt, entityAt, pointAt, nodeAt, caseOf, decode, sortOf, arity, child}
 use Rattle.meaning.specs.Check.{startOf, bodyRule, bodies, mosts, endBefore, placeRule, endToEnd, utf8Rule, orderRule, stringRules, memberRule, arrayItem, objectItem, valueRule, partCount, partValue, depth, depthRule, valueRules, plainNames, plain, stringRun, entityRule, entityItem, entityRun, pointRule, pointRules, pathRun, variableRun, argumentRule, argumentRun, literal, zerosFrom, ruleOf, nodeRule, height, heightRule, nodeRules, check}
 use Rattle.meaning.specs.Number.{highest, lowest, clamp, calculate, secondsOf, seconds, inWindow, sumℤ}
-use Rattle.meaning.specs.Equal.{isDigit, digits, natural, cut, unsigned, scaled, decimal, seen, decimalKey, see, sameList, sameParts, alike, sameValue, asValue, same, boundOf, integer}
+use Rattle.meaning.specs.Equal.{int, value, isDigit, digits, natural, cut, unsigned, scaled, decimal, seen, decimalKey, see, sameList, sameParts, alike, sameValue, asValue, same, boundOf, integer}
 use Rattle.meaning.specs.Look.{named, members, descend, boundAt, attributesOf, ownPart, supplied, entityOf, attribute, fromRoot, rootOf, scopeAt, contextAt, fieldAt}
 use Rattle.meaning.specs.Rows.{inCells, cells, rowOf, at, blank, with, without, withoutAll, over, onto, agree, agreeing, sameCell, sameRow, isIn, addNew, joinAll, column}
 use Rattle.meaning.specs.Walk.{give, visit, adding, dropping, _>>=_, started, after, measured, spent, most, run as run·Walk, ending, outcome}
@@ -427,6 +428,7 @@ calls :
     short 44 3 free 10 0 ∷
     short 44 3 free 1 0 ∷
     short 55 4 free 5 1 ∷
+    short 56 4 free 5 1 ∷
     short 56 3 free 5 1 ∷
     short 16 3 free 5 1 ∷
     short 55 3 (0 ∷ []) 5 1 ∷
@@ -438,6 +440,7 @@ calls :
     (refuses RoomExhausted 2 0, 7 ∷ 7 ∷ 7 ∷ 7 ∷ 7 ∷ 7 ∷ 7 ∷ []) ∷
     (refuses StepsExhausted 1 0, 7 ∷ 7 ∷ 7 ∷ 7 ∷ 7 ∷ 7 ∷ 7 ∷ []) ∷
     (refuses NoSuchPoint 0 0, 7 ∷ 7 ∷ 7 ∷ 7 ∷ 7 ∷ 7 ∷ 7 ∷ []) ∷
+    (refuses NoSuchPoint 0 0, 7 ∷ 7 ∷ 7 ∷ 7 ∷ 7 ∷ 7 ∷ 7 ∷ []) ∷
     (refuses NoSuchNode 0 0, 7 ∷ 7 ∷ 7 ∷ 7 ∷ 7 ∷ 7 ∷ 7 ∷ []) ∷
     (refuses NoSuchNode 0 0, 7 ∷ 7 ∷ 7 ∷ 7 ∷ 7 ∷ 7 ∷ 7 ∷ []) ∷
     (refuses BadStart 0 0, 7 ∷ 7 ∷ 7 ∷ 7 ∷ 7 ∷ 7 ∷ 7 ∷ []) ∷
@@ -447,14 +450,72 @@ calls :
 unfolding said free
 calls = refl
 
-rowsSaid : List ℕ → List ℕ → Said ℕ × List ℕ
+-- the rows call at point 3, in a workspace for four rows
+rowsSaid : ℕ → List ℕ → List ℕ → Said ℕ × List ℕ
 unfolding passes call free
-rowsSaid binders output = let r = rowsCall binders output (call 23 3 free (record { steps = 100; room = 2 }) (free ++ free)) in (r .result .said, r .output)
+rowsSaid n binders output =
+    let r = rowsCall binders output (call n 3 free (record { steps = 100; room = 4 }) (free ++ free ++ free ++ free)) in
+    (r .result .said, r .output)
 
-rows-call : rowsSaid (1 ∷ 2 ∷ []) (9 ∷ 9 ∷ 9 ∷ 9 ∷ 9 ∷ 9 ∷ 9 ∷ 9 ∷ 9 ∷ []) ≡ (gives 2 5 2, 2 ∷ 0 ∷ 1 ∷ 3 ∷ 2 ∷ 1 ∷ 1 ∷ 3 ∷ 9 ∷ [])
+-- two rows; an output too short; no such binder; Exists without its variable; Since without a binder; a filter pays twice; Or's rows
+rows-calls :
+    (rowsSaid 23 (1 ∷ 2 ∷ []) (9 ∷ 9 ∷ 9 ∷ 9 ∷ 9 ∷ 9 ∷ 9 ∷ 9 ∷ 9 ∷ []) ∷
+    rowsSaid 23 (1 ∷ 2 ∷ []) (9 ∷ 9 ∷ 9 ∷ 9 ∷ 9 ∷ 9 ∷ 9 ∷ []) ∷
+    rowsSaid 23 (3 ∷ []) (9 ∷ 9 ∷ 9 ∷ 9 ∷ []) ∷
+    rowsSaid 44 (0 ∷ []) (9 ∷ 9 ∷ 9 ∷ []) ∷
+    rowsSaid 11 [] (9 ∷ []) ∷
+    rowsSaid 40 [] [] ∷
+    rowsSaid 36 (0 ∷ []) (9 ∷ 9 ∷ 9 ∷ 9 ∷ 9 ∷ 9 ∷ []) ∷
+    []) ≡ (
+    (gives 2 5 2, 2 ∷ 0 ∷ 1 ∷ 3 ∷ 2 ∷ 1 ∷ 1 ∷ 3 ∷ 9 ∷ []) ∷
+    (refuses BadOutput 5 2, 9 ∷ 9 ∷ 9 ∷ 9 ∷ 9 ∷ 9 ∷ 9 ∷ []) ∷
+    (refuses BadOutput 5 2, 9 ∷ 9 ∷ 9 ∷ 9 ∷ []) ∷
+    (gives 1 2 1, 0 ∷ 0 ∷ 9 ∷ []) ∷
+    (gives 1 11 1, 9 ∷ []) ∷
+    (gives 1 2 1, []) ∷
+    (gives 3 5 3, 1 ∷ 9223372036854775807 ∷ 1 ∷ 1 ∷ 1 ∷ 18446744073709551611 ∷ []) ∷
+    [])
 unfolding rowsSaid
-rows-call = refl
+rows-calls = refl
 
-rows-short : rowsSaid (1 ∷ 2 ∷ []) (9 ∷ []) ≡ (refuses BadOutput 5 2, 9 ∷ [])
-unfolding rowsSaid
-rows-short = refl
+-- ---- refusals 1 to 6, each for one byte of the case changed: edition, V, a string, a member's value, a point's context, a node's child
+
+refusals :
+    map (λ (change : ℕ × ℕ). check (set bytes (change .0) (change .1))) (
+    (0, 2) ∷
+    (4, 17) ∷
+    (2746, 50) ∷
+    (452, 11) ∷
+    (572, 10) ∷
+    (816, 2) ∷
+    []) ≡ (some BadContents ∷ some TooLarge ∷ some BadStrings ∷ some BadValues ∷ some BadPoints ∷ some BadNodes ∷ [])
+unfolding passes
+refusals = refl
+
+-- the lowest is given
+lowest-given : check (set (set bytes 816 2) 4 17) ≡ some TooLarge
+unfolding passes
+lowest-given = refl
+
+-- ---- parts that the case does not reach: the units, a sum that leaves 64 bits on its way, the cell kept of two equal ones
+
+units :
+    map seconds (
+    record { amount = 2; unit = Seconds } ∷
+    record { amount = 2; unit = Minutes } ∷
+    record { amount = 2; unit = Hours } ∷
+    record { amount = 2; unit = Days } ∷
+    record { amount = 106751991167301; unit = Days } ∷
+    record { amount = 18446744073709551615; unit = Days } ∷
+    []) ≡ (pos 2 ∷ pos 120 ∷ pos 7200 ∷ pos 172800 ∷ pos 9223372036854775807 ∷ negsuc 86399 ∷ [])
+unfolding passes
+units = refl
+
+sum : sumOf 0 (map (λ z. some (int z) ∷ []) (negsuc 4 ∷ pos 1 ∷ pos 9223372036854775807 ∷ [])) ≡ pos 9223372036854775803
+unfolding passes
+sum = refl
+
+-- "1.0" and "1.00"
+first-kept : addNew (caseOf bytes) [] ((some (value 8) ∷ []) ∷ (some (value 9) ∷ []) ∷ []) ≡ ((some (value 8) ∷ []) ∷ [])
+unfolding passes
+first-kept = refl

@@ -172,7 +172,7 @@ pub fn text_of(s: &[u8], n: StrNo) -> &[u8]
 }
 
 // two halves of 64 bits
-fn halves(low: u32, high: u32) -> u64
+pub fn halves(low: u32, high: u32) -> u64
     ensures { λ r. ⌜ r ≡ low + 4294967296 * high ⌝ }
 {
     (low as u64) + 4294967296 * (high as u64)

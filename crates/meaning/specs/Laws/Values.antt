@@ -6,12 +6,12 @@ use Prim.Native.Nat.{ℕ, zero, suc, _+_, _*_, _<_, _≤_}
 use native.Mathlib.Omega.{arith}
 use lib.Dec.{ltb, leb, eqb, lit<}
 use borrow.Author.Tests.{leb-true, leb-false, ltb-true, ltb-false, le-leb, lt-leb}
-use Rattle.meaning.specs.Tests.{_and_, _or_, allBelow, pick, greatest}
+use Rattle.meaning.specs.Tests.{_and_, _or_, choose, within, allBelow, pick, greatest}
 use Rattle.meaning.specs.Case.{Part, Null, values, members, valueWord, memberWord, partAt, valueAt, valueFrom, places, caseOf}
 use Rattle.meaning.specs.Check.{bodies, valueRule, arrayItem, objectItem, partCount, partValue, depth, plain, plainNames, literal, nullRule, boolRule, intRule, textRule, entityValueRule, arrayRule, objectRule, noKind}
 use Rattle.meaning.specs.Equal.{see, seen, alike, sameParts, sameValue}
 use Rattle.meaning.specs.Laws.Below.{made-is}
-use Rattle.meaning.specs.Laws.Tests.{both, stop, pass, yes, no, all-at, levels-is, throughout-is}
+use Rattle.meaning.specs.Laws.Tests.{both, stop, skip, pass, yes, no, all-at, levels-is, throughout-is}
 use Rattle.meaning.specs.Laws.Bodies.{wholes, body-beyond}
 use Rattle.meaning.specs.Laws.Lists.{Every, every-map, every-place}
 
@@ -109,6 +109,35 @@ literal-is s h k hk = throughout-is (partCount s) (partValue s) (values s) (λ m
 unfoldable pub held : List Part → List ℕ
 held [] = []
 held (p ∷ ps) = p .value ∷ held ps
+
+-- the check's own words and the decoded value speak of the same parts
+module _ (s : List ℕ) where
+  run-held : (a k count : ℕ) → held (map (partAt s) (places (a + k) 1 count)) ≡ map (λ i. memberWord s (a + i) 1) (places k 1 count)
+  unfolding held partAt places
+  run-held a k zero = refl
+  run-held a k (suc count) = let z : a + k + 1 ≡ a + (k + 1) = omega arith in rw z (ap (λ rest. memberWord s (a + k) 1 ∷ rest) (run-held a (k + 1) count))
+
+  whole-run : (a count : ℕ) → held (map (partAt s) (places a 1 count)) ≡ map (λ i. memberWord s (a + i) 1) (places 0 1 count)
+  whole-run a count = let z : a + 0 ≡ a = omega arith in rw z at (run-held a 0 count)
+
+  beyond : (k b : ℕ) → 7 < k → choose (within 6 7 k) b 0 ≡ 0
+  beyond k b h = no b (skip (leb 6 k) (lt-leb k 7 h)) refl
+
+  held-by : (k a b : ℕ) → held (see (caseOf s) (valueFrom (partAt s) k a b) .parts) ≡ map (λ i. memberWord s (a + i) 1) (places 0 1 (choose (within 6 7 k) b 0))
+  unfolding valueFrom pick see seen held places choose _and_
+  held-by zero a b = refl
+  held-by (suc zero) a b = refl
+  held-by (suc (suc zero)) a b = refl
+  held-by (suc (suc (suc zero))) a b = refl
+  held-by (suc (suc (suc (suc zero)))) a b = refl
+  held-by (suc (suc (suc (suc (suc zero))))) a b = refl
+  held-by (suc (suc (suc (suc (suc (suc zero)))))) a b = whole-run a b
+  held-by (suc (suc (suc (suc (suc (suc (suc zero))))))) a b = whole-run a b
+  held-by (suc (suc (suc (suc (suc (suc (suc (suc k)))))))) a b = rw (beyond (suc (suc (suc (suc (suc (suc (suc (suc k)))))))) b (omega arith)) refl
+
+  pub held-is : (v : ℕ) → held (see (caseOf s) (valueAt s v) .parts) ≡ map (partValue s v) (places 0 1 (partCount s v))
+  unfolding valueAt partValue partCount
+  held-is v = held-by (valueWord s v 0) (valueWord s v 1) (valueWord s v 2)
 
 module _ (s : List ℕ) (h : bodies s ≡ true) (rules : allBelow (values s) (valueRule s) ≡ true) where
   -- of a run of members

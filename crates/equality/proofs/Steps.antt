@@ -1,0 +1,14 @@
+-- A run's places, one after another
+use mathlib.Core.Path.{_≡_, refl, sym, _∙_, ap}
+use mathlib.Core.List.{List, [], _∷_}
+use Prim.Native.Nat.{ℕ, zero, suc, _+_, _*_, _-_, _<_, _≤_}
+use native.Mathlib.Omega.{arith}
+use Rattle.meaning.specs.Case.{places}
+
+pub open-place : (at width n i next : ℕ) → i < n → next ≡ at + width → places at width (n - i) ≡ at ∷ places next width (n - (i + 1))
+unfolding places
+open-place at width n i next h e = let q : n - i ≡ suc (n - (i + 1)) = omega arith in rw (q, e) refl
+
+pub shut-place : (at width n i : ℕ) → n ≤ i → places at width (n - i) ≡ []
+unfolding places
+shut-place at width n i h = let q : n - i ≡ 0 = omega arith in rw q refl

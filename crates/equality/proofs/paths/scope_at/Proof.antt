@@ -1,0 +1,20 @@
+use borrow.Author.Needs.{needs}
+use Rattle.meaning.specs.Laws.Checked.{checked-bodies}
+use Rattle.equality.proofs.Attributes.{scope-none, scope-value}
+use Rattle.equality.proofs.paths.scope_at.Statement.{statement}
+use Rattle.equality.proofs.paths.scope_at.Tie as tie
+
+root-word-requires : tie.Need-root-word-requires
+root-word-requires c κs = checked-bodies (c .before .pre)
+
+returns : tie.Need-returns
+returns c = scope-none _ _ _ _ _ (c .before .root-word .ensures) (c .if1 .taken)
+
+from-value-requires : tie.Need-from-value-requires
+from-value-requires c κs = search needs
+
+returns-2 : tie.Need-returns-2
+returns-2 c = scope-value _ _ _ _ _ (c .before .before .root-word .ensures) _ _ (c .before .if1 .left) (c .from-value .ensures)
+
+pub scope-at-spec : {M : Type 1} → statement M
+scope-at-spec = tie.close (tie.spec root-word-requires returns from-value-requires returns-2)

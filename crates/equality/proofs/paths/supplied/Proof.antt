@@ -1,0 +1,38 @@
+use borrow.Author.Needs.{needs}
+use Rattle.meaning.specs.Laws.Checked.{checked-bodies}
+use Rattle.equality.proofs.Attributes.{supplied-none, supplied-found}
+use Rattle.equality.proofs.paths.supplied.Statement.{statement}
+use Rattle.equality.proofs.paths.supplied.Tie as tie
+
+attributes-of-requires : tie.Need-attributes-of-requires
+attributes-of-requires c κs = checked-bodies (c .before .pre)
+
+enum-known-object : tie.Need-enum-known-object
+enum-known-object c = search needs
+
+path-descend-requires : tie.Need-path-descend-requires
+path-descend-requires c κs = search needs
+
+binding-found-requires : tie.Need-binding-found-requires
+binding-found-requires c κs = search needs
+
+enum-told : tie.Need-enum-told
+enum-told c = search needs
+
+returns : tie.Need-returns
+returns c = supplied-found _ _ _ _ (c .before .before .before .before .before .attributes-of .ensures) _ _ _ _ (c .before .before .before .object .given .1) (c .before .path-descend .ensures) (c .binding-found .ensures)
+
+returns-2 : tie.Need-returns-2
+returns-2 c = supplied-none _ _ _ _ (c .before .before .attributes-of .ensures) (c .enum-told .given .1)
+
+pub supplied-spec : {M : Type 1} → statement M
+supplied-spec =
+    tie.close
+    (tie.spec
+    attributes-of-requires
+    enum-known-object
+    path-descend-requires
+    binding-found-requires
+    enum-told
+    returns
+    returns-2)

@@ -1,0 +1,292 @@
+// What a path of names reaches: in an object, at a point's logged fields and context, from principal and resource.
+use crate::Found;
+use crate::values::binding_of;
+use crate::values::both;
+use crate::values::long;
+use meaning::Binding;
+use meaning::Root;
+use meaning::Run;
+use meaning::StrNo;
+use meaning::ValNo;
+use tables::list_at;
+use tables::member_word;
+use tables::point_word;
+use tables::value_word;
+use tables::wide;
+ghost use mathlib.Core.Path.{_≡_};
+ghost use mathlib.Core.Bool.{Bool, true};
+ghost use mathlib.Core.List.{[], _∷_};
+ghost use mathlib.Core.Option.{some};
+ghost use Rattle.meaning.specs.Tests.{orElse};
+ghost use Rattle.meaning.specs.Case.{caseOf, valueAt, pointAt, runOf, list, maybe};
+ghost use Rattle.meaning.specs.Check.{bodies, Checked};
+ghost use Rattle.meaning.specs.Equal.{sameList};
+ghost use Rattle.meaning.specs.Look.{named, members, descend, boundAt, attributesOf, ownPart, supplied as suppliedAt, fromRoot, rootOf, fieldAt, contextAt, scopeAt};
+ghost use Rattle.meaning.specs.Rows.{inCells};
+ghost use Rattle.meaning.specs.Meaning.{names, sameEvent};
+ghost use Rattle.equality.specs.Paths.{foundAt};
+
+// ---- objects
+
+// the value under name n in value v
+fn member_named(s: &[u8], v: ValNo, n: StrNo) -> Found
+    requires { ⌜ bodies (now s) ≡ true ⌝ }
+    ensures { λ r. ⌜ foundAt r ≡ named (n .0) (members (valueAt (now (s .entry)) (v .0))) ⌝ }
+{
+    if value_word(s, v, 0) != 7 {
+        return Found::Nothing;
+    }
+    let name = n.0;
+    let mut at = wide(value_word(s, v, 1));
+    let mut left = wide(value_word(s, v, 2));
+    while 0 < left {
+        if name == member_word(s, at, 0) {
+            return Found::At(ValNo(member_word(s, at, 1)));
+        }
+        at += 1;
+        left -= 1;
+    }
+    Found::Nothing
+}
+
+// the value that a path reaches from value v
+pub fn path_descend(s: &[u8], v: ValNo, path: Run) -> Found
+    requires { ⌜ Checked (now s) ⌝ }
+    ensures { λ r. ⌜ foundAt r ≡ descend (caseOf (now (s .entry))) (v .0) (names (caseOf (now (s .entry))) path) ⌝ }
+{
+    let first = wide(path.first);
+    let count = wide(path.count);
+    let mut at = v;
+    let mut i = 0;
+    while i < count {
+        let name = list_at(s, first + i);
+        let found = member_named(s, at, StrNo(name));
+        match found {
+            Found::At(u) => {
+                at = u;
+                i += 1;
+            }
+            Found::Nothing => {
+                return Found::Nothing;
+            }
+        }
+    }
+    Found::At(at)
+}
+
+fn binding_found(s: &[u8], found: Found) -> Binding
+    requires { ⌜ Checked (now s) ⌝ }
+    ensures { λ r. ⌜ inCells (r .tag) (r .bits) ≡ boundAt (caseOf (now (s .entry))) (foundAt found) ⌝ }
+{
+    match found {
+        Found::At(v) => binding_of(s, v),
+        Found::Nothing => Binding { tag: 0, bits: 0 },
+    }
+}
+
+// ---- at a point
+
+pub fn field_at(s: &[u8], p: usize, path: Run) -> Binding
+    requires { ⌜ Checked (now s) ⌝ }
+    ensures { λ r. ⌜ inCells (r .tag) (r .bits) ≡ fieldAt (caseOf (now (s .entry))) (pointAt (now (s .entry)) p) (names (caseOf (now (s .entry))) path) ⌝ }
+{
+    let v = point_word(s, p, 6);
+    let found = path_descend(s, ValNo(v), path);
+    binding_found(s, found)
+}
+
+pub fn context_at(s: &[u8], p: usize, path: Run) -> Binding
+    requires { ⌜ Checked (now s) ⌝ }
+    ensures { λ r. ⌜ inCells (r .tag) (r .bits) ≡ contextAt (caseOf (now (s .entry))) (pointAt (now (s .entry)) p) (names (caseOf (now (s .entry))) path) ⌝ }
+{
+    let v = point_word(s, p, 7);
+    let found = path_descend(s, ValNo(v), path);
+    binding_found(s, found)
+}
+
+// the attribute object that point p has of an entity
+fn attributes_of(s: &[u8], p: usize, t: StrNo, i: StrNo) -> Found
+    requires { ⌜ bodies (now s) ≡ true ⌝ }
+    ensures { λ r. ⌜ foundAt r ≡ attributesOf (t .0) (i .0) (pointAt (now (s .entry)) p .entities) ⌝ }
+{
+    let kind = t.0;
+    let id = i.0;
+    let first = wide(point_word(s, p, 10));
+    let count = wide(point_word(s, p, 11));
+    let mut k = 0;
+    while k < count {
+        let at = first + 3 * k;
+        let type_at = list_at(s, at);
+        let id_at = list_at(s, at + 1);
+        if both(kind == type_at, id == id_at) {
+            return Found::At(ValNo(list_at(s, at + 2)));
+        }
+        k += 1;
+    }
+    Found::Nothing
+}
+
+fn is_id(s: &[u8]) -> bool
+    ensures { λ r. ⌜ _≡_ {A = Bool} r (sameList (now (s .entry)) (105 ∷ 100 ∷ [])) ⌝ }
+{
+    if s.len() != 2 {
+        return false;
+    }
+    if s[0] != b'i' {
+        return false;
+    }
+    s[1] == b'd'
+}
+
+fn is_type(s: &[u8]) -> bool
+    ensures { λ r. ⌜ _≡_ {A = Bool} r (sameList (now (s .entry)) (116 ∷ 121 ∷ 112 ∷ 101 ∷ [])) ⌝ }
+{
+    if s.len() != 4 {
+        return false;
+    }
+    if s[0] != b't' {
+        return false;
+    }
+    if s[1] != b'y' {
+        return false;
+    }
+    if s[2] != b'p' {
+        return false;
+    }
+    s[3] == b'e'
+}
+
+// `id` and `type` alone fall back to the entity's own parts
+fn own_part(s: &[u8], t: StrNo, i: StrNo, path: Run) -> Binding
+    requires { ⌜ Checked (now s) ⌝ }
+    ensures { λ r. ⌜ inCells (r .tag) (r .bits) ≡ ownPart (caseOf (now (s .entry))) (t .0) (i .0) (names (caseOf (now (s .entry))) path) ⌝ }
+{
+    if path.count != 1 {
+        return Binding { tag: 0, bits: 0 };
+    }
+    let first = wide(path.first);
+    let name = list_at(s, first);
+    if is_id(tables::text_of(s, StrNo(name))) {
+        let bits = long(i.0);
+        return Binding { tag: 3, bits };
+    }
+    if is_type(tables::text_of(s, StrNo(name))) {
+        let bits = long(t.0);
+        return Binding { tag: 3, bits };
+    }
+    Binding { tag: 0, bits: 0 }
+}
+
+// what a path reaches in the attributes that point p has of an entity
+fn supplied(s: &[u8], p: usize, t: StrNo, i: StrNo, path: Run) -> Binding
+    requires { ⌜ Checked (now s) ⌝ }
+    ensures { λ r. ⌜ inCells (r .tag) (r .bits) ≡ suppliedAt (caseOf (now (s .entry))) (attributesOf (t .0) (i .0) (pointAt (now (s .entry)) p .entities)) (names (caseOf (now (s .entry))) path) ⌝ }
+{
+    let object = attributes_of(s, p, t, i);
+    match object {
+        Found::At(v) => {
+            let found = path_descend(s, v, path);
+            binding_found(s, found)
+        }
+        Found::Nothing => Binding { tag: 0, bits: 0 },
+    }
+}
+
+// the first, or the second where there is no first
+fn or_else(a: Binding, b: Binding) -> Binding
+    ensures { λ r. ⌜ inCells (r .tag) (r .bits) ≡ orElse (inCells (a .tag) (a .bits)) (inCells (b .tag) (b .bits)) ⌝ }
+{
+    if a.tag == 0 {
+        return b;
+    }
+    if 3 < a.tag {
+        return b;
+    }
+    a
+}
+
+// a supplied attribute wins
+fn resolve_entity_attr(s: &[u8], p: usize, t: StrNo, i: StrNo, path: Run) -> Binding
+    requires { ⌜ Checked (now s) ⌝ }
+    ensures { λ r. ⌜ inCells (r .tag) (r .bits) ≡ orElse (suppliedAt (caseOf (now (s .entry))) (attributesOf (t .0) (i .0) (pointAt (now (s .entry)) p .entities)) (names (caseOf (now (s .entry))) path)) (ownPart (caseOf (now (s .entry))) (t .0) (i .0) (names (caseOf (now (s .entry))) path)) ⌝ }
+{
+    let given = supplied(s, p, t, i, path);
+    let own = own_part(s, t, i, path);
+    or_else(given, own)
+}
+
+// what a path reaches from a root that is there
+fn from_value(s: &[u8], p: usize, v: ValNo, path: Run) -> Binding
+    requires { ⌜ Checked (now s) ⌝ }
+    ensures { λ r. ⌜ inCells (r .tag) (r .bits) ≡ fromRoot (caseOf (now (s .entry))) (pointAt (now (s .entry)) p) (some (v .0)) (names (caseOf (now (s .entry))) path) ⌝ }
+{
+    if path.count == 0 {
+        return binding_of(s, v);
+    }
+    if value_word(s, v, 0) != 5 {
+        return Binding { tag: 0, bits: 0 };
+    }
+    let t = value_word(s, v, 1);
+    let i = value_word(s, v, 2);
+    resolve_entity_attr(s, p, StrNo(t), StrNo(i), path)
+}
+
+fn root_word(s: &[u8], p: usize, root: Root) -> u32
+    requires { ⌜ bodies (now s) ≡ true ⌝ }
+    ensures { λ r. ⌜ maybe r ≡ rootOf (pointAt (now (s .entry)) p) root ⌝ }
+{
+    match root {
+        Root::Principal => point_word(s, p, 8),
+        Root::Resource => point_word(s, p, 9),
+    }
+}
+
+pub fn scope_at(s: &[u8], p: usize, root: Root, path: Run) -> Binding
+    requires { ⌜ Checked (now s) ⌝ }
+    ensures { λ r. ⌜ inCells (r .tag) (r .bits) ≡ scopeAt (caseOf (now (s .entry))) (pointAt (now (s .entry)) p) root (names (caseOf (now (s .entry))) path) ⌝ }
+{
+    let v = root_word(s, p, root);
+    if v == 4294967295 {
+        return Binding { tag: 0, bits: 0 };
+    }
+    from_value(s, p, ValNo(v), path)
+}
+
+// ---- events
+
+// whether two runs of the lists hold the same words
+fn same_runs(s: &[u8], a: Run, b: Run) -> bool
+    requires { ⌜ bodies (now s) ≡ true ⌝ }
+    ensures { λ r. ⌜ _≡_ {A = Bool} r (sameList (runOf (list (now (s .entry))) a) (runOf (list (now (s .entry))) b)) ⌝ }
+{
+    let n = wide(a.count);
+    if n != wide(b.count) {
+        return false;
+    }
+    let p = wide(a.first);
+    let q = wide(b.first);
+    let mut i = 0;
+    while i < n {
+        if list_at(s, p + i) != list_at(s, q + i) {
+            return false;
+        }
+        i += 1;
+    }
+    true
+}
+
+// whether point p has this namespace, action and kind
+pub fn same_event(s: &[u8], namespace: Run, action: StrNo, kind: StrNo, p: usize) -> bool
+    requires { ⌜ Checked (now s) ⌝ }
+    ensures { λ r. ⌜ _≡_ {A = Bool} r (sameEvent (names (caseOf (now (s .entry))) namespace) (action .0) (kind .0) (pointAt (now (s .entry)) p)) ⌝ }
+{
+    if action.0 != point_word(s, p, 4) {
+        return false;
+    }
+    if kind.0 != point_word(s, p, 5) {
+        return false;
+    }
+    let first = point_word(s, p, 2);
+    let count = point_word(s, p, 3);
+    same_runs(s, namespace, Run { first, count })
+}

@@ -1,0 +1,12 @@
+pub mod Lists
+pub mod Cells
+pub mod Loops
+pub mod Keep
+pub mod Marking
+pub mod Same
+pub mod Joins
+pub mod Slots
+pub mod Pushes
+pub mod Runs
+pub mod Sums
+pub mod Out

@@ -1,0 +1,6 @@
+pub mod Table
+pub mod Slots
+pub mod Stack
+pub mod Marks
+pub mod Halves
+pub mod Laws

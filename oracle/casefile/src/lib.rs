@@ -1,0 +1,11 @@
+//! The case file of document 01: its tables as words, its records with names,
+//! a builder that sorts and numbers the strings, and a text form for people.
+
+pub mod builder;
+pub mod records;
+pub mod tables;
+pub mod text;
+
+pub use builder::Builder;
+pub use records::{Node, Point, Run, Value, Within};
+pub use tables::{Tables, NONE};

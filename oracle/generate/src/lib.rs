@@ -1,0 +1,12 @@
+//! Cases and calls to put to the model and to the Rust, all from one seed.
+
+pub mod calls;
+pub mod cases;
+pub mod damage;
+pub mod random;
+pub mod rules;
+mod rules_base;
+
+pub use calls::{Call, Kind};
+pub use cases::{Profile, RandomCase};
+pub use random::Random;

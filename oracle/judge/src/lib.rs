@@ -1,0 +1,9 @@
+//! The Rust as the judge of the model.
+
+pub mod compare;
+pub mod convert;
+pub mod examples;
+pub mod lists;
+pub mod run;
+pub mod rust;
+pub mod variants;

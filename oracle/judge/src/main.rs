@@ -1,0 +1,84 @@
+//! Runs the comparison with the Rust and writes the lists made from it.
+
+use std::process::ExitCode;
+use std::time::Instant;
+
+use generate::Random;
+use judge::examples::ask_examples;
+use judge::lists::{folder, lists};
+use judge::run::Report;
+use judge::variants::caught;
+use model::{Model, Variant};
+
+const USAGE: &str = "usage: oracle compare N SEED    put N questions to the model and to the Rust
+       oracle examples           ask E1 to E12, the sample and the counted examples of both
+       oracle variants SEED      catch every wrong variant of the model
+       oracle lists              write data/*.bin again, byte for byte";
+
+fn main() -> ExitCode {
+    let arguments: Vec<String> = std::env::args().skip(1).collect();
+    let arguments: Vec<&str> = arguments.iter().map(String::as_str).collect();
+    let number = |text: &str| text.parse::<u64>().map_err(|_| format!("`{text}` is no number"));
+    let done = match arguments[..] {
+        ["compare", questions, seed] => number(questions).and_then(|n| compare(n, number(seed)?)),
+        ["examples"] => examples(),
+        ["variants", seed] => number(seed).and_then(variants),
+        ["lists"] => write_lists(),
+        _ => Err(USAGE.to_string()),
+    };
+    match done {
+        Ok(true) => ExitCode::SUCCESS,
+        Ok(false) => ExitCode::FAILURE,
+        Err(message) => {
+            eprintln!("{message}");
+            ExitCode::from(2)
+        }
+    }
+}
+
+/// Puts questions to the model and to the Rust and prints counts by kind and all differences.
+fn compare(questions: u64, seed: u64) -> Result<bool, String> {
+    let begun = Instant::now();
+    let mut report = Report::new(Model::document());
+    report.run(&mut Random::new(seed), questions, 10);
+    println!("seed {seed}: {} questions put to both in {:.1} s", report.to_both, begun.elapsed().as_secs_f64());
+    for (kind, count) in &report.counts {
+        println!("{count:>9}  {kind}");
+    }
+    for difference in &report.differences {
+        println!("\nDIFFERENCE\n{difference}");
+    }
+    println!("{} unlisted differences", report.differences.len());
+    Ok(report.differences.is_empty())
+}
+
+fn examples() -> Result<bool, String> {
+    let (asked, differences) = ask_examples(Model::document())?;
+    for difference in &differences {
+        println!("DIFFERENCE\n{difference}");
+    }
+    println!("{asked} examples asked of both, {} differences", differences.len());
+    Ok(differences.is_empty())
+}
+
+fn write_lists() -> Result<bool, String> {
+    for list in lists()? {
+        std::fs::write(folder().join(list.name), &list.bytes).map_err(|error| format!("{}: {error}", list.name))?;
+        println!("{}: {} bytes, {}", list.name, list.bytes.len(), list.holds);
+    }
+    Ok(true)
+}
+
+fn variants(seed: u64) -> Result<bool, String> {
+    let mut missed = 0;
+    for &variant in Variant::WRONG {
+        let by = caught(variant, seed)?;
+        missed += by.is_empty() as usize;
+        println!("{variant:?}: {}", variant.says());
+        for how in if by.is_empty() { vec!["NOT CAUGHT".to_string()] } else { by } {
+            println!("    {how}");
+        }
+    }
+    println!("{} variants, {missed} not caught", Variant::WRONG.len());
+    Ok(missed == 0)
+}

@@ -1,0 +1,167 @@
+//! The comparison at scale: random cases, ample and tight calls, spoiled calls, damaged copies.
+
+use std::collections::BTreeMap;
+
+use casefile::{Node, Tables};
+use generate::calls::{output_fill, random_call, spoiled, tightened, workspace_fill, Done, Spoiled};
+use generate::cases::random_case;
+use generate::damage::damaged;
+use generate::{Call, Kind, Profile, Random, RandomCase};
+use model::{Model, Outcome, Variant};
+
+use crate::compare::{compare, Found};
+use crate::rust::RustCase;
+
+/// Ample for most random questions; the others are refused 11 or 12 by both.
+const LIMIT: u64 = 5_000;
+const ROOM: u64 = 60;
+
+/// What was put to whom, and what differed.
+pub struct Report {
+    pub model: Model,
+    /// Questions answered by the model and by the Rust.
+    pub to_both: u64,
+    pub counts: BTreeMap<String, u64>,
+    pub differences: Vec<String>,
+}
+
+impl Report {
+    pub fn new(model: Model) -> Report {
+        Report { model, to_both: 0, counts: BTreeMap::new(), differences: Vec::new() }
+    }
+
+    /// Random cases and questions until this many were put to both, or this many differences found.
+    pub fn run(&mut self, random: &mut Random, questions: u64, most_differences: usize) {
+        while self.to_both < questions && self.differences.len() < most_differences {
+            let profile = if random.percent(30) { Profile::SMALL } else { Profile::USUAL };
+            let case = random_case(random, profile);
+            self.count("random cases");
+            self.expect(&case, self.model.check(&case.bytes) == 0, "a case made by the rules is refused");
+            self.questions(random, &case, 12);
+            for _ in 0..2 {
+                self.damaged_copy(random, &case);
+            }
+        }
+    }
+
+    fn count(&mut self, what: &str) {
+        *self.counts.entry(what.to_string()).or_insert(0) += 1;
+    }
+
+    fn expect(&mut self, case: &RandomCase, kept: bool, what: &str) {
+        if !kept {
+            self.differences.push(format!("{what}\ncase {}", hex(&case.bytes)));
+        }
+    }
+
+    fn damaged_copy(&mut self, random: &mut Random, case: &RandomCase) {
+        let bytes = damaged(random, &case.bytes);
+        let refusal = self.model.check(&bytes);
+        self.count(&format!("damaged copies, check {refusal}"));
+        if refusal != 0 {
+            let call = random_call(random, case, LIMIT, ROOM);
+            let done = call.ask(self.model, &bytes);
+            let same = done.outcome == Outcome { refusal, ..Outcome::default() };
+            self.expect(case, same && buffers_kept(&call, &done, 0), "a refused case gets another refusal");
+            return;
+        }
+        // What passes the check must be safe to ask: the Rust, too, must find its way in it.
+        let tables = Tables::decode(&bytes).expect("a checked case can be read");
+        let node = |k: usize| Node::read(tables.nodes[k]).expect("a checked case has known nodes");
+        let (conditions, rest): (Vec<u32>, Vec<u32>) =
+            (0..tables.nodes.len() as u32).partition(|&k| node(k as usize).is_condition());
+        let aggregates: Vec<u32> = rest.into_iter().filter(|&k| node(k as usize).is_aggregate()).collect();
+        if !conditions.is_empty() && !aggregates.is_empty() && !tables.points.is_empty() {
+            self.questions(random, &RandomCase { tables, bytes, conditions, aggregates }, 2);
+        }
+    }
+
+    fn questions(&mut self, random: &mut Random, case: &RandomCase, count: usize) {
+        let mut rust = RustCase::new(&case.tables);
+        for _ in 0..count {
+            let call = random_call(random, case, LIMIT, ROOM);
+            let done = self.question(&call, case, &mut rust);
+            if done.outcome.refusal == 0 && random.percent(60) {
+                let tight = tightened(random, &call, &done.outcome, case.tables.variables);
+                let tight_done = self.question(&tight, case, &mut rust);
+                let kept = limits_kept(&tight, &done.outcome, &tight_done.outcome);
+                self.expect(case, kept, &format!("a limit does not decide as it must\n{tight:?}\n{tight_done:?}"));
+            }
+            if random.percent(10) {
+                let Spoiled { call, refusal } = spoiled(random, &call, case);
+                let said = self.question(&call, case, &mut rust).outcome.refusal;
+                // Refusal 13 comes after the walk, which may have ended in 11 or 12.
+                let kept = said == refusal || (refusal == 13 && (said == 11 || said == 12));
+                self.expect(case, kept, &format!("a spoiled call is refused {said}, not {refusal}\n{call:?}"));
+            }
+        }
+    }
+
+    /// Puts one question to the model and to the Rust.
+    pub fn question(&mut self, call: &Call, case: &RandomCase, rust: &mut RustCase) -> Done {
+        let done = call.ask(self.model, &case.bytes);
+        let buffers = buffers_kept(call, &done, case.tables.variables);
+        self.expect(case, buffers, &format!("a buffer is not as it must be\n{call:?}\n{done:?}"));
+        match compare(call, &done, rust) {
+            Found::Same => {
+                self.to_both += 1;
+                self.count(&format!("{:?}, {}", call.kind, said(call, &done.outcome)));
+            }
+            Found::NotForTheRust => self.count(&format!("model only: refused {}", done.outcome.refusal)),
+            Found::AnswersDiffer(how) | Found::StepsDiffer(how) => self.differs(how, call, case, rust),
+        }
+        done
+    }
+
+    /// A difference, unless it is the listed one: rows equal as in the Rust explain it.
+    fn differs(&mut self, how: String, call: &Call, case: &RandomCase, rust: &mut RustCase) {
+        let mut found = |variant| compare(call, &call.ask(Model { variant }, &case.bytes), rust);
+        let explained = found(Variant::RowsInPairOrder) == Found::Same;
+        if explained && matches!(found(Variant::Document), Found::StepsDiffer(_)) {
+            self.to_both += 1;
+            self.count("listed difference in steps: rows equal by variable");
+        } else {
+            self.differences.push(format!("{how}\n{call:?}\ncase {}", hex(&case.bytes)));
+        }
+    }
+}
+
+fn said(call: &Call, outcome: &Outcome) -> String {
+    match (outcome.refusal, call.kind) {
+        (0, Kind::Verdict) => (if outcome.answer == 1 { "yes" } else { "no" }).to_string(),
+        (0, Kind::Number) => "answered".to_string(),
+        (0, _) => format!("{} rows", if outcome.answer > 3 { "more".to_string() } else { outcome.answer.to_string() }),
+        (refusal, _) => format!("refused {refusal}"),
+    }
+}
+
+/// Document 01 on buffers: untouched by refusals 1 to 10; else the workspace's first cells are 0 and
+/// the later ones unchanged, and the output changes on an answer only, in the cells filled only.
+pub fn buffers_kept(call: &Call, done: &Done, variables: u32) -> bool {
+    let walked = done.outcome.refusal == 0 || done.outcome.refusal > 10;
+    let cleared = if walked && call.kind != Kind::Check { 2 * variables as usize * call.room as usize } else { 0 };
+    let filled = match (done.outcome.refusal, call.kind) {
+        (0, Kind::Rows) => 2 * call.binders.len() * done.outcome.answer as usize,
+        _ => 0,
+    };
+    let workspace = done.workspace.iter().enumerate();
+    let output = done.output.iter().enumerate();
+    workspace.into_iter().all(|(k, &cell)| cell == if k < cleared { 0 } else { workspace_fill(k) })
+        && output.skip(filled).all(|(k, &cell)| cell == output_fill(k))
+}
+
+/// A call refused nothing under ample limits; what it may say under tight ones.
+fn limits_kept(tight: &Call, needed: &Outcome, said: &Outcome) -> bool {
+    let enough = tight.limit >= needed.steps && tight.room >= needed.rows;
+    match said.refusal {
+        0 => enough && said == needed,
+        13 => enough && (said.steps, said.rows) == (needed.steps, needed.rows),
+        11 => tight.limit < needed.steps && said.steps == tight.limit && said.rows <= needed.rows.min(tight.room),
+        12 => tight.room < needed.rows && said.rows == tight.room && said.steps <= needed.steps.min(tight.limit),
+        _ => false,
+    }
+}
+
+pub fn hex(bytes: &[u8]) -> String {
+    bytes.iter().map(|byte| format!("{byte:02x}")).collect()
+}

@@ -1,0 +1,29 @@
+//! A model of document 01, written from that document and its readings alone:
+//! literal and slow. `Model::document()` is the document; every other variant
+//! has one rule changed and exists to be caught.
+
+mod calls;
+mod check;
+mod equality;
+mod file;
+mod utf8;
+mod variant;
+mod walk;
+
+pub use calls::{Model, Outcome, Question};
+pub use equality::decimal;
+pub use variant::Variant;
+
+/// Whether two values of a checked case are equal.
+pub fn values_equal(case: &[u8], a: u32, b: u32) -> bool {
+    equality::values_equal(file::File { bytes: case }, Variant::Document, a, b)
+}
+
+pub const MOST_FILE_BYTES: usize = 4_194_304;
+pub const MOST_RECORDS: usize = 16_384;
+pub const MOST_NODES: usize = 1_024;
+pub const MOST_VARIABLES: u32 = 16;
+pub const MOST_HEIGHT: u32 = 64;
+pub const MOST_DEPTH: u32 = 32;
+pub const MOST_STEPS: u64 = 1_000_000_000;
+pub const MOST_ROOM: u64 = 16_384;

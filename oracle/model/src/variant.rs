@@ -1,0 +1,82 @@
+//! The document, and the wrong variants that the comparison must catch.
+
+macro_rules! variants {
+    ($($name:ident: $says:literal),* $(,)?) => {
+        /// One rule changed in each; `Document` changes none.
+        #[derive(Clone, Copy, Debug, PartialEq, Eq)]
+        pub enum Variant {
+            Document,
+            $($name,)*
+        }
+
+        impl Variant {
+            /// Every wrong variant.
+            pub const WRONG: &'static [Variant] = &[$(Variant::$name),*];
+
+            /// What it gets wrong.
+            pub fn says(self) -> &'static str {
+                match self {
+                    Variant::Document => "document 01",
+                    $(Variant::$name => $says,)*
+                }
+            }
+        }
+    };
+}
+
+variants! {
+    NotEqUnresolvedYes: "an unresolved NotEq is yes",
+    FormerlyLends: "formerly on And's left lends its first row in verdict manner",
+    PredicateLendsNothing: "a Predicate on And's left lends nothing",
+    ContextAtExamined: "context and scope come from the point examined",
+    WindowOpen: "a difference equal to the span is outside the window",
+    WindowAhead: "a point later than the one examined is inside the window",
+    DifferenceWraps: "the difference of times wraps",
+    SpanWraps: "amount times unit wraps",
+    PreviousAnyTime: "previous ignores the window",
+    SinceTestsAnchor: "since tests left from j on, not from j + 1",
+    SinceSkipsNow: "since does not test left at i",
+    FormerlyUpward: "formerly in verdict manner scans upward",
+    ExistsKeepsBinding: "exists does not unbind its variable",
+    AggregateKeepsBindings: "an aggregate does not unbind its binders",
+    OrRepeats: "Or gives right's rows that are already there",
+    FormerlyOnce: "formerly gives a row once only",
+    SinceRepeats: "since gives a row again",
+    ExistsRepeats: "exists gives a row again",
+    ProjectionRepeats: "projection keeps every occurrence",
+    SumSaturates: "the sum is clamped at each addition",
+    ArithmeticWraps: "arithmetic wraps",
+    OrderingOfEquals: "Le and Ge hold of equal values that are no Ints",
+    DecimalByText: "decimals are equal by text only",
+    DecimalFiveDigits: "a decimal may have five digits after the point",
+    WildcardNeedsNoField: "a wildcard needs no field",
+    VariableTwice: "a variable seen twice need not agree",
+    OwnPartWins: "an entity's own id or type wins over a supplied one",
+    PartIsNoString: "an entity's own part differs from a String of the same text",
+    EqNeverBinds: "Eq in row manner binds nothing",
+    TpBoundEmpty: "Tp in row manner gives an empty row where it was bound",
+    PredicateGivesBound: "a Predicate's row holds the variables that were bound before",
+    FirstUnresolvedStops: "a comparison leaves right alone where left is unresolved",
+    FilterPaysOnce: "a filter in row manner pays one step",
+    LendingIsFree: "a Predicate tried as And's left costs no step",
+    AndDropsLeftRows: "And drops each left row once it is read",
+    ExistsHoldsOn: "exists in verdict manner never drops its rows",
+    StepsOneShort: "steps are exhausted one step early",
+    RoomOneShort: "room is exhausted one row early",
+    BindersFirst: "a binder not below V is refused before the walk",
+    StartIntByNumber: "a starting binding may name an Int by its value number",
+    MostStepsRefused: "a step limit of exactly the most is refused",
+    WorkspaceLeft: "the workspace is left as it was",
+    OutputCut: "an output too short is filled as far as it goes",
+    Depth33: "value depth 33 passes",
+    Height65: "node height 65 passes",
+    NamesRepeat: "an object may hold a name twice",
+    SurrogatesPass: "UTF-8 surrogates pass",
+    DotUnderArray: "a dot inside context passes under an array",
+    QuotedTypePasses: "a quotation mark in an entity list's type passes",
+    NullLiteralPasses: "a Null deep in a literal passes",
+    AggregateArgument: "a Predicate's argument may be an aggregate",
+    EmptyRunAnywhere: "a run of no items may start anywhere",
+    EntityRepeats: "an entity list may hold an entity twice",
+    RowsInPairOrder: "rows are equal only with their pairs in the same order, as in the Rust",
+}

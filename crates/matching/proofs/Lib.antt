@@ -1,0 +1,4 @@
+pub mod Comparing
+pub mod Leaves
+pub mod Fields
+pub mod Events

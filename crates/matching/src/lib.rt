@@ -1,0 +1,25 @@
+// What the evaluators do besides control: leaf terms, a Predicate matched at a point, Tp, two sides compared or combined. Each equals its definition.
+use meaning::Env;
+
+mod predicates;
+mod sides;
+
+pub use predicates::match_predicate;
+pub use predicates::tp_row;
+pub use sides::arithmetic;
+pub use sides::compare;
+pub use sides::is_int;
+pub use sides::resolve_leaf;
+pub use sides::unbound_variable;
+
+// a row of newly bound variables, if yes
+pub struct Matched {
+    pub yes: bool,
+    pub row: Env,
+}
+
+// an unbound variable, or what is none
+pub enum Variable {
+    Is(u32),
+    Not,
+}

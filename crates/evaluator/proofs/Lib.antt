@@ -1,0 +1,11 @@
+pub mod Walks
+pub mod Nodes
+pub mod Verdicts
+pub mod Held
+pub mod Relations
+pub mod Loops
+pub mod Dispatch
+pub mod Terms
+pub mod Asked
+pub mod Keeping
+pub mod Sides

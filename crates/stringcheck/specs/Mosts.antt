@@ -2,12 +2,12 @@
 use mathlib.Core.Path.{_≡_}
 use mathlib.Core.Bool.{true}
 use mathlib.Core.List.{List}
-use Prim.Native.Nat.{ℕ, _+_, _/_, _≤_}
+use Prim.Native.Nat.{ℕ, _≤_}
 use native.Mathlib.Omega.{arith}
 use lib.Dec.{lit<}
 use lib.ListN.{length}
 use borrow.Author.Tests.{leb-true}
-use Rattle.meaning.specs.Case.{offset, size, strings, values, members, nodes, lists, vars}
+use Rattle.meaning.specs.Case.{strings, values, members, nodes, lists, vars}
 use Rattle.meaning.specs.Check.{bodies, mosts}
 use Rattle.meaning.specs.Laws.Tests.{both}
 use Rattle.meaning.specs.Laws.Bodies.{body-ends}

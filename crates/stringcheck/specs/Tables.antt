@@ -1,14 +1,14 @@
 -- Laws of local tables that are filled from the front, and of what stands beyond the strings
-use mathlib.Core.Path.{_≡_, refl, ap}
+use mathlib.Core.Path.{_≡_, refl}
 use mathlib.Core.Bool.{true}
 use mathlib.Core.List.{List, []}
-use Prim.Native.Nat.{ℕ, zero, suc, _+_, _*_, _/_, _%_, _<_, _≤_}
+use Prim.Native.Nat.{ℕ, zero, suc, _+_, _*_, _<_, _≤_}
 use native.Mathlib.Omega.{arith}
 use lib.Dec.{lit<}
 use lib.ListN.{length, getD, set, replicate}
 use Rattle.meaning.specs.Tests.{pick}
-use Rattle.meaning.specs.Case.{size, strings, bodyWord, stringWord, text}
-use Rattle.meaning.specs.Check.{bodies, recordBytes}
+use Rattle.meaning.specs.Case.{strings, stringWord, text}
+use Rattle.meaning.specs.Check.{bodies}
 use Rattle.meaning.specs.Laws.Tests.{Filled, filled-more}
 use Rattle.meaning.specs.Laws.Bodies.{wholes, body-beyond}
 

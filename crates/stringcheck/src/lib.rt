@@ -159,8 +159,8 @@ fn end_to_end(s: &[u8]) -> bool
     let mut at = 0;
     let mut k = 0;
     while k < n {
-        let start = wide(string_word(s, StrNo(k), 0));
-        if start != at {
+        let begin = wide(string_word(s, StrNo(k), 0));
+        if begin != at {
             return false;
         }
         at += wide(string_word(s, StrNo(k), 1));

@@ -13,7 +13,7 @@ use Rattle.meaning.specs.Check.{bodies, mosts, depth, partCount, partValue}
 use Rattle.meaning.specs.Laws.Tests.{Filled, greatest-more, greatest-same, all-add, all-same}
 use Rattle.meaning.specs.Laws.Values.{Runs, leaf, holder}
 use Rattle.stringcheck.specs.Mosts.{value-most, member-most}
-use Rattle.valuecheck.specs.Blocks.{Lower, Depths}
+use Rattle.valuecheck.specs.Blocks.{Lower}
 use Rattle.valuecheck.specs.Laws.{greatest-add}
 
 pub record Holds (s : List ℕ) (v first items : ℕ) : Type 0 where

@@ -356,7 +356,8 @@ fn parts_marked(s: &[u8], marks: &[bool; 16384], blocks: &mut [bool; 1024], v: u
     ensures { λ r. ⌜ _≡_ {A = Bool} r (allBelow (partCount (now (s .entry)) v) (λ i. getD (now (marks .entry)) (partValue (now (s .entry)) v i) false)) ⌝ }
     ensures { λ r. ⌜ Marked (now (s .entry)) (now (marks .entry)) v (now (blocks .exit)) ⌝ }
 {
-    if value_word(s, ValNo(v), 0) < 6 {
+    let kind = value_word(s, ValNo(v), 0);
+    if kind < 6 {
         return true;
     }
     let first = wide(value_word(s, ValNo(v), 1));

@@ -1,6 +1,4 @@
-use borrow.Author.Needs.{needs}
-use mathlib.Core.Path.{_≡_, refl, sym}
-use Rattle.meaning.specs.Tests.{_and_}
+use mathlib.Core.Path.{sym}
 use Rattle.meaning.specs.Laws.Tests.{stop, after}
 use Rattle.stringcheck.proofs.both.Statement.{statement}
 use Rattle.stringcheck.proofs.both.Tie as tie

@@ -1,19 +1,16 @@
 use borrow.Author.Needs.{needs}
 use mathlib.Core.Path.{_≡_, refl, sym, _∙_, ap}
-use mathlib.Core.Bool.{Bool, true, false, not}
-use mathlib.Core.List.{List, [], _∷_}
-use Prim.Native.Nat.{ℕ, zero, suc, _≤_, _<_, _+_, _-_, _*_, _/_}
-use native.Mathlib.Omega.{arith}
+use mathlib.Core.Bool.{true, false, not}
+use mathlib.Core.List.{List}
+use Prim.Native.Nat.{ℕ, _≤_, _<_, _+_, _-_}
 use native.Mathlib.Numerals.{add-one}
-use lib.Dec.{leb, ltb, eqb}
-use lib.ListN.{length, getD, drop, set, length-set, drop-of-length-le}
+use lib.Dec.{eqb}
+use lib.ListN.{length, getD, drop, drop-of-length-le}
 use lib.Seq.{drop-cons}
-use borrow.Author.Tests.{lt-leb, le-leb, lt-ltb, le-ltb, ne-eqb, eq-eqb, not-true, not-false, leb-true}
-use Rattle.meaning.specs.Tests.{_and_, allBelow}
+use borrow.Author.Tests.{ne-eqb, eq-eqb}
+use Rattle.meaning.specs.Tests.{_and_}
 use Rattle.meaning.specs.Text.{free}
-use Rattle.meaning.specs.Meaning.{both}
-use Rattle.meaning.specs.Laws.Tests.{stop, after, record-no, record-yes, all-end, Filled, filled-none, filled-more}
-use Rattle.meaning.specs.Laws.Bodies.{long}
+use Rattle.meaning.specs.Laws.Tests.{stop, after}
 use Rattle.stringcheck.proofs.is_free.Statement.{statement}
 use Rattle.stringcheck.proofs.is_free.Tie as tie
 

@@ -1,5 +1,5 @@
 use borrow.Author.Needs.{needs}
-use mathlib.Core.Path.{_≡_, sym, _∙_, ap}
+use mathlib.Core.Path.{sym, _∙_, ap}
 use Rattle.meaning.specs.declared.Due.{Due}
 use Rattle.meaning.specs.Text.{next}
 use Rattle.stringcheck.proofs.next_due.Statement.{statement}

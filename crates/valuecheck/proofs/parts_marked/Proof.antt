@@ -39,10 +39,10 @@ whole : (s : List ℕ) (marks : List Bool) (v first items i : ℕ) → Holds s v
 whole s marks v first items i h a b e = let q : i ≡ partCount s v = omega (arith, h .count) in sym (rw q at e)
 
 abbrev Inv-loop : tie.InvT-loop
-Inv-loop s marks blocks₀ v first items i₀ blocks i = (i ≤ items) × (allBelow i (λ j. getD marks (partValue s v j) false) ≡ true) × Marked s marks v blocks × Holds s v first items
+Inv-loop s marks blocks₀ v kind first items i₀ blocks i = (i ≤ items) × (allBelow i (λ j. getD marks (partValue s v j) false) ≡ true) × Marked s marks v blocks × Holds s v first items
 
 abbrev μ-loop : tie.MeasureT-loop
-μ-loop s marks blocks₀ v first items i₀ blocks i = items - i
+μ-loop s marks blocks₀ v kind first items i₀ blocks i = items - i
 
 value-word-requires : tie.Need-value-word-requires Inv-loop μ-loop
 value-word-requires c κs = search needs

@@ -7,7 +7,7 @@ use mathlib.Core.Bool.{Bool, false, true}
 use mathlib.Core.List.{List, [], _∷_}
 use mathlib.Core.Path.{_∙_, _≡_, refl, sym}
 use native.Mathlib.Omega.{arith}
-use Rattle.meaning.specs.Case.{memberWord, members, nothing, text, valueWord}
+use Rattle.meaning.specs.Case.{memberWord, nothing, text, valueWord}
 use Rattle.meaning.specs.Check.{arrayItem, arrayRule, bodies, boolRule, entityValueRule, intRule, mosts, noKind, nullRule, objectRule, partCount, plainNames, textRule, valueRule}
 use Rattle.meaning.specs.Laws.Tests.{Filled, all-at, all-end, both, no, record-no, record-yes, yes}
 use Rattle.meaning.specs.Laws.Values.{holder}
@@ -15,7 +15,6 @@ use Rattle.meaning.specs.Tests.{_and_, _or_, allBelow, choose, pick}
 use Rattle.meaning.specs.Text.{before, free}
 use Rattle.stringcheck.specs.Mosts.{string-most}
 use Rattle.stringcheck.specs.Tables.{text-beyond}
-use Rattle.valuecheck.proofs.Parts.{holds}
 use Rattle.valuecheck.specs.Laws.{all-true}
 use Rattle.meaning.specs.Case.{strings}
 use Rattle.valuecheck.proofs.plain_names.Statement.{statement}

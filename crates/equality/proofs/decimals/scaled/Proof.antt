@@ -1,4 +1,5 @@
 use borrow.Author.Needs.{needs}
+use native.Mathlib.Omega.{arith}
 use mathlib.Core.Path.{sym, _∙_}
 use borrow.Author.Tests.{not-false}
 use Rattle.equality.proofs.Scaling.{no-whole, no-fraction, long-fraction, no-digits, no-digits-after, too-large, reads}
@@ -12,7 +13,7 @@ returns-2 : tie.Need-returns-2
 returns-2 c = search (no-fraction, needs)
 
 returns-3 : tie.Need-returns-3
-returns-3 c = search (long-fraction, needs)
+returns-3 c = long-fraction (c .before .before .before .before .before .args .minus) (c .before .before .before .before .before .args .whole .now) (c .before .before .before .before .before .args .frac .now) (omega arith)
 
 is-digits-requires : tie.Need-is-digits-requires
 is-digits-requires c κs = search needs

@@ -1,4 +1,3 @@
-use borrow.Author.Needs.{needs}
 use mathlib.Core.Path.{_∙_}
 use native.Mathlib.Omega.{arith}
 use Rattle.equality.proofs.Reach.{NamedFrom, no-object, is-object, named-start, member-found, member-passed, member-none}
@@ -39,7 +38,7 @@ member-word-requires-2 : tie.Need-member-word-requires-2 Inv-loop μ-loop
 member-word-requires-2 c κs = c .before .before .before .before .before .before .before .before .before .before .before .pre
 
 returns-2 : tie.Need-returns-2 Inv-loop μ-loop
-returns-2 c = member-found _ _ _ _ _ _ (c .before .before .before .before .loop .inv) _ (is-object _ _ _ _ _ (c .before .before .before .before .before .before .before .before .before .before .value-word .ensures) (c .before .before .before .before .before .before .before .before .before .if1 .left) (c .before .before .before .before .before .before .before .wide .ensures ∙ c .before .before .before .before .before .before .before .before .value-word2 .ensures) (c .before .before .before .before .before .wide2 .ensures ∙ c .before .before .before .before .before .before .value-word3 .ensures)) _ _ (c .before .before .before .loop-test .taken) (c .before .before .member-word .ensures) (c .before .if2 .taken) (c .member-word2 .ensures)
+returns-2 c = member-found _ _ _ _ _ _ (c .before .before .before .before .loop .inv) _ (is-object _ _ _ _ _ (c .before .before .before .before .before .before .before .before .before .before .value-word .ensures) (c .before .before .before .before .before .before .before .before .before .if1 .left) (c .before .before .before .before .before .before .before .wide .ensures ∙ c .before .before .before .before .before .before .before .before .value-word2 .ensures) (c .before .before .before .before .before .wide2 .ensures ∙ c .before .before .before .before .before .before .value-word3 .ensures)) _ _ (omega arith) (c .before .before .member-word .ensures) (c .before .if2 .taken) (c .member-word2 .ensures)
 
 add-at : tie.Need-add-at Inv-loop μ-loop
 add-at c = let b = c .before .before .before .loop .inv .inside in omega arith
@@ -51,10 +50,10 @@ loop-less : tie.Need-loop-less Inv-loop μ-loop
 loop-less c = omega arith
 
 loop-again : tie.Need-loop-again Inv-loop μ-loop
-loop-again c = member-passed _ _ _ _ _ _ (c .before .before .before .loop .inv) _ (c .before .before .loop-test .taken) (c .before .member-word .ensures) (c .if2 .left)
+loop-again c = member-passed _ _ _ _ _ _ (c .before .before .before .loop .inv) _ (omega arith) (c .before .member-word .ensures) (c .if2 .left)
 
 returns-3 : tie.Need-returns-3 Inv-loop μ-loop
-returns-3 c = member-none _ _ _ _ _ _ (c .before .loop .inv) _ (is-object _ _ _ _ _ (c .before .before .before .before .before .before .before .value-word .ensures) (c .before .before .before .before .before .before .if1 .left) (c .before .before .before .before .wide .ensures ∙ c .before .before .before .before .before .value-word2 .ensures) (c .before .before .wide2 .ensures ∙ c .before .before .before .value-word3 .ensures)) (c .loop-test .left)
+returns-3 c = member-none _ _ _ _ _ _ (c .before .loop .inv) _ (is-object _ _ _ _ _ (c .before .before .before .before .before .before .before .value-word .ensures) (c .before .before .before .before .before .before .if1 .left) (c .before .before .before .before .wide .ensures ∙ c .before .before .before .before .before .value-word2 .ensures) (c .before .before .wide2 .ensures ∙ c .before .before .before .value-word3 .ensures)) (omega arith)
 
 pub member-named-spec : {M : Type 1} → statement M
 member-named-spec =

@@ -1,0 +1,4 @@
+pub mod Promises
+pub mod Start
+pub mod Opening
+pub mod Given

@@ -1,0 +1,238 @@
+// The three asking calls on a case that has passed the check, for callers that ask many questions of one case.
+use super::SaidNumber;
+use super::SaidRows;
+use super::SaidVerdict;
+use super::opening::Against;
+use super::opening::Sort;
+use super::opening::open;
+use evaluator::Call;
+use meaning::Limits;
+use meaning::Meter;
+use meaning::NodeNo;
+use meaning::Refusal;
+use rows::Relation;
+use rows::Shape;
+ghost use mathlib.Core.Path.{_≡_};
+ghost use mathlib.Core.Bool.{Bool};
+ghost use Prim.Native.Nat.{_≤_, _*_};
+ghost use lib.Dec.{leb};
+ghost use lib.ListN.{take, length};
+ghost use Rattle.meaning.specs.Check.{Checked};
+ghost use Rattle.meaning.specs.Calls.{allUnder};
+ghost use Rattle.rows.specs.Table.{Fit, rowsIn};
+ghost use Rattle.calls.specs.Promises.{callOf, Verdicts, Numbers, Rowed};
+ghost use Rattle.calls.specs.Given.{TellsVerdict, TellsNumber, Given};
+
+fn told_verdict(v: evaluator::Verdict) -> SaidVerdict
+    ensures { λ r. ⌜ TellsVerdict v r ⌝ }
+{
+    match v {
+        evaluator::Verdict::Answer(b, m) => SaidVerdict::Gives(b, m.steps, m.most),
+        evaluator::Verdict::Refused(c, m) => SaidVerdict::Refuses(c, m.steps, m.most),
+    }
+}
+
+fn told_number(v: evaluator::Number) -> SaidNumber
+    ensures { λ r. ⌜ TellsNumber v r ⌝ }
+{
+    match v {
+        evaluator::Number::Answer(u, m) => SaidNumber::Gives(u, m.steps, m.most),
+        evaluator::Number::Refused(c, m) => SaidNumber::Refuses(c, m.steps, m.most),
+    }
+}
+
+pub fn verdict(
+    file: &[u8],
+    point: usize,
+    node: NodeNo,
+    start: &[u64],
+    limits: Limits,
+    work: &mut [u64],
+) -> SaidVerdict
+    requires { ⌜ Checked (now file) ⌝ }
+    ensures { λ r. ⌜ Verdicts (callOf (now (file .entry)) point (node .0) (now (start .entry)) limits (now (work .entry))) (now (work .exit)) r ⌝ }
+{
+    let opening = open(file, Sort::Condition, point, node, start, limits, &work[..]);
+    let env = opening.env;
+    let against = opening.against;
+    match against {
+        Against::Refused(refusal) => SaidVerdict::Refuses(refusal, 0, 0),
+        Against::Nothing => {
+            let vars = env.count;
+            let cells = 2 * vars * limits.room;
+            let call = Call {
+                limits,
+                vars,
+                asked: point,
+            };
+            let started = Meter {
+                steps: 0,
+                held: 0,
+                most: 0,
+            };
+            let v = evaluator::eval_condition(
+                file,
+                &mut work[..cells],
+                call,
+                env,
+                node,
+                point,
+                started,
+            );
+            rows::output::clear(work, cells);
+            told_verdict(v)
+        }
+    }
+}
+
+pub fn number(
+    file: &[u8],
+    point: usize,
+    node: NodeNo,
+    start: &[u64],
+    limits: Limits,
+    work: &mut [u64],
+) -> SaidNumber
+    requires { ⌜ Checked (now file) ⌝ }
+    ensures { λ r. ⌜ Numbers (callOf (now (file .entry)) point (node .0) (now (start .entry)) limits (now (work .entry))) (now (work .exit)) r ⌝ }
+{
+    let opening = open(file, Sort::Aggregate, point, node, start, limits, &work[..]);
+    let env = opening.env;
+    let against = opening.against;
+    match against {
+        Against::Refused(refusal) => SaidNumber::Refuses(refusal, 0, 0),
+        Against::Nothing => {
+            let vars = env.count;
+            let cells = 2 * vars * limits.room;
+            let call = Call {
+                limits,
+                vars,
+                asked: point,
+            };
+            let started = Meter {
+                steps: 0,
+                held: 0,
+                most: 0,
+            };
+            let v = evaluator::eval_agg_expr(
+                file,
+                &mut work[..cells],
+                call,
+                env,
+                node,
+                point,
+                started,
+            );
+            rows::output::clear(work, cells);
+            told_number(v)
+        }
+    }
+}
+
+// whether all binders are variables of the case
+fn all_under(vars: usize, binders: &[u32]) -> bool
+    ensures { λ r. ⌜ _≡_ {A = Bool} r (allUnder vars (now (binders .entry))) ⌝ }
+{
+    let n = binders.len();
+    let mut k = n;
+    while 0 < k {
+        k -= 1;
+        let x = tables::wide(binders[k]);
+        if vars <= x {
+            return false;
+        }
+    }
+    true
+}
+
+// whether so many cells of so many rows are at hand
+fn fits(rows: usize, binders: usize, cells: usize) -> bool
+    requires { ⌜ rows ≤ 16384 ⌝ }
+    ensures { λ r. ⌜ _≡_ {A = Bool} r (leb (rows * (2 * binders)) cells) ⌝ }
+{
+    if rows == 0 {
+        return true;
+    }
+    binders <= cells / (2 * rows)
+}
+
+// the rows held, projected on the binders, put into the output
+fn give_rows(
+    s: &[u8],
+    work: &mut [u64],
+    shape: Shape,
+    m: Meter,
+    binders: &[u32],
+    output: &mut [u64],
+) -> SaidRows
+    requires { ⌜ Checked (now s) ⌝ }
+    requires { ⌜ Fit shape (now work) × (m .held ≤ shape .room) ⌝ }
+    ensures { λ r. ⌜ Given (now (s .entry)) (shape .vars) m (now (binders .entry)) (take (m .held) (rowsIn shape (now (work .entry)))) (now (output .entry)) (now (output .exit)) r × (length (now (work .exit)) ≡ length (now (work .entry))) ⌝ }
+{
+    if !all_under(shape.vars, binders) {
+        return SaidRows::Refuses(Refusal::BadOutput, m.steps, m.most);
+    }
+    let kept = rows::project_dedup_on(s, work, shape, 0, m.held, binders);
+    if !fits(kept, binders.len(), output.len()) {
+        return SaidRows::Refuses(Refusal::BadOutput, m.steps, m.most);
+    }
+    rows::output::write_rows(work, shape, 0, kept, binders, output);
+    SaidRows::Gives(kept, m.steps, m.most)
+}
+
+pub fn rows(
+    file: &[u8],
+    point: usize,
+    node: NodeNo,
+    start: &[u64],
+    limits: Limits,
+    binders: &[u32],
+    work: &mut [u64],
+    output: &mut [u64],
+) -> SaidRows
+    requires { ⌜ Checked (now file) ⌝ }
+    ensures { λ r. ⌜ Rowed (callOf (now (file .entry)) point (node .0) (now (start .entry)) limits (now (work .entry))) (now (binders .entry)) (now (output .entry)) (now (work .exit)) (now (output .exit)) r ⌝ }
+{
+    let opening = open(file, Sort::Condition, point, node, start, limits, &work[..]);
+    let env = opening.env;
+    let against = opening.against;
+    match against {
+        Against::Refused(refusal) => SaidRows::Refuses(refusal, 0, 0),
+        Against::Nothing => {
+            let vars = env.count;
+            let room = limits.room;
+            let cells = 2 * vars * room;
+            let call = Call {
+                limits,
+                vars,
+                asked: point,
+            };
+            let started = Meter {
+                steps: 0,
+                held: 0,
+                most: 0,
+            };
+            let found = evaluator::match_occurrences(
+                file,
+                &mut work[..cells],
+                call,
+                env,
+                node,
+                point,
+                started,
+            );
+            match found {
+                Relation::Held(m) => {
+                    let shape = Shape { vars, room };
+                    let given = give_rows(file, &mut work[..cells], shape, m, binders, output);
+                    rows::output::clear(work, cells);
+                    given
+                }
+                Relation::Refused(refusal, m) => {
+                    rows::output::clear(work, cells);
+                    SaidRows::Refuses(refusal, m.steps, m.most)
+                }
+            }
+        }
+    }
+}

@@ -1,0 +1,95 @@
+// What the outside calls: the check of a case, the verdict of a condition, the number of an aggregate, the rows of a condition.
+pub mod checked;
+mod opening;
+mod start;
+
+use casecheck::Checking;
+use meaning::Limits;
+use meaning::NodeNo;
+use meaning::Refusal;
+ghost use mathlib.Core.Path.{_≡_};
+ghost use Rattle.casecheck.specs.Answer.{asChecking};
+ghost use Rattle.calls.specs.Promises.{callOf, Verdicts, Numbers, Rowed};
+
+// an answer or a refusal, each with the steps spent and the greatest number of rows held
+pub enum SaidVerdict {
+    Gives(bool, u64, usize),
+    Refuses(Refusal, u64, usize),
+}
+
+// the 64 bits of an aggregate's number
+pub enum SaidNumber {
+    Gives(u64, u64, usize),
+    Refuses(Refusal, u64, usize),
+}
+
+// how many rows the output has
+pub enum SaidRows {
+    Gives(usize, u64, usize),
+    Refuses(Refusal, u64, usize),
+}
+
+pub fn check(file: &[u8]) -> Checking
+    ensures { λ r. ⌜ r ≡ asChecking (now (file .entry)) ⌝ }
+{
+    casecheck::check(file)
+}
+
+pub fn verdict(
+    file: &[u8],
+    point: usize,
+    node: NodeNo,
+    start: &[u64],
+    limits: Limits,
+    work: &mut [u64],
+) -> SaidVerdict
+    ensures { λ r. ⌜ Verdicts (callOf (now (file .entry)) point (node .0) (now (start .entry)) limits (now (work .entry))) (now (work .exit)) r ⌝ }
+{
+    match casecheck::check(file) {
+        Checking::Passes(_) => checked::verdict(file, point, node, start, limits, work),
+        Checking::Refused(refusal) => SaidVerdict::Refuses(refusal, 0, 0),
+    }
+}
+
+pub fn number(
+    file: &[u8],
+    point: usize,
+    node: NodeNo,
+    start: &[u64],
+    limits: Limits,
+    work: &mut [u64],
+) -> SaidNumber
+    ensures { λ r. ⌜ Numbers (callOf (now (file .entry)) point (node .0) (now (start .entry)) limits (now (work .entry))) (now (work .exit)) r ⌝ }
+{
+    match casecheck::check(file) {
+        Checking::Passes(_) => checked::number(file, point, node, start, limits, work),
+        Checking::Refused(refusal) => SaidNumber::Refuses(refusal, 0, 0),
+    }
+}
+
+pub fn rows(
+    file: &[u8],
+    point: usize,
+    node: NodeNo,
+    start: &[u64],
+    limits: Limits,
+    binders: &[u32],
+    work: &mut [u64],
+    output: &mut [u64],
+) -> SaidRows
+    ensures { λ r. ⌜ Rowed (callOf (now (file .entry)) point (node .0) (now (start .entry)) limits (now (work .entry))) (now (binders .entry)) (now (output .entry)) (now (work .exit)) (now (output .exit)) r ⌝ }
+{
+    match casecheck::check(file) {
+        Checking::Passes(_) => checked::rows(
+            file,
+            point,
+            node,
+            start,
+            limits,
+            binders,
+            work,
+            output,
+        ),
+        Checking::Refused(refusal) => SaidRows::Refuses(refusal, 0, 0),
+    }
+}

@@ -1,0 +1,143 @@
+// 7 to 10: what is against a call of a checked case, or the environment that it starts with.
+use super::start::start_env;
+use meaning::Env;
+use meaning::Limits;
+use meaning::Node;
+use meaning::NodeNo;
+use meaning::Refusal;
+use stringcheck::node_count;
+use stringcheck::point_count;
+ghost use mathlib.Core.Path.{_≡_};
+ghost use mathlib.Core.Bool.{Bool, true};
+ghost use Prim.Native.Nat.{_≤_, _*_};
+ghost use lib.Dec.{ltb};
+ghost use Rattle.meaning.specs.Tests.{_or_};
+ghost use Rattle.meaning.specs.Case.{conditions, sortOf};
+ghost use Rattle.meaning.specs.Check.{Checked};
+ghost use Rattle.meaning.specs.Calls.{isSort};
+ghost use Rattle.calls.specs.Promises.{callOf};
+ghost use Rattle.calls.specs.Opening.{sortFor, turnedDown, Opens};
+
+// the sort of node that a call answers
+pub enum Sort {
+    Condition,
+    Aggregate,
+}
+
+pub enum Against {
+    Nothing,
+    Refused(Refusal),
+}
+
+// what is against a call, and the environment where nothing is
+pub struct Opening {
+    pub against: Against,
+    pub env: Env,
+}
+
+fn is_sort(sort: Sort, node: Node) -> bool
+    ensures { λ r. ⌜ _≡_ {A = Bool} r (isSort (sortFor sort) (sortOf node)) ⌝ }
+{
+    match node {
+        Node::And(_, _) => is_condition(sort),
+        Node::Or(_, _) => is_condition(sort),
+        Node::Not(_) => is_condition(sort),
+        Node::Formerly(_, _) => is_condition(sort),
+        Node::Previous(_, _) => is_condition(sort),
+        Node::Since(_, _, _) => is_condition(sort),
+        Node::Predicate {
+            namespace: _,
+            action: _,
+            kind: _,
+            arguments: _,
+        } => is_condition(sort),
+        Node::Comparison(_, _, _) => is_condition(sort),
+        Node::Exists(_, _) => is_condition(sort),
+        Node::Tp(_) => is_condition(sort),
+        Node::Literal(_) => false,
+        Node::Context(_) => false,
+        Node::Scope(_, _) => false,
+        Node::Variable(_) => false,
+        Node::Wildcard => false,
+        Node::Aggregate(_) => false,
+        Node::Arithmetic(_, _, _) => false,
+        Node::Sum {
+            variable: _,
+            binders: _,
+            body: _,
+        } => !is_condition(sort),
+        Node::Count {
+            binders: _,
+            body: _,
+        } => !is_condition(sort),
+        Node::Broken => false,
+    }
+}
+
+fn is_condition(sort: Sort) -> bool
+    ensures { λ r. ⌜ _≡_ {A = Bool} r (isSort (sortFor sort) conditions) ⌝ }
+{
+    match sort {
+        Sort::Condition => true,
+        Sort::Aggregate => false,
+    }
+}
+
+// limits above their most, or a workspace too short for the rows
+fn beyond(vars: usize, limits: Limits, cells: usize) -> bool
+    requires { ⌜ vars ≤ 16 ⌝ }
+    ensures { λ r. ⌜ _≡_ {A = Bool} r (ltb 1000000000 (limits .steps) or (ltb 16384 (limits .room) or ltb cells (2 * vars * limits .room))) ⌝ }
+{
+    if 1000000000 < limits.steps {
+        return true;
+    }
+    if 16384 < limits.room {
+        return true;
+    }
+    cells < 2 * vars * limits.room
+}
+
+fn refused(refusal: Refusal, env: Env) -> Opening
+    ensures { λ r. ⌜ r ≡ turnedDown refusal env ⌝ }
+{
+    Opening {
+        against: Against::Refused(refusal),
+        env,
+    }
+}
+
+pub fn open(
+    s: &[u8],
+    sort: Sort,
+    point: usize,
+    node: NodeNo,
+    start: &[u64],
+    limits: Limits,
+    work: &[u64],
+) -> Opening
+    requires { ⌜ Checked (now s) ⌝ }
+    ensures { λ r. ⌜ Opens (sortFor sort) (callOf (now (s .entry)) point (node .0) (now (start .entry)) limits (now (work .entry))) r ⌝ }
+{
+    let first = start_env(s, start);
+    let env = first.env;
+    let nd = tables::node_at(s, node);
+    if point_count(s) as usize <= point {
+        return refused(Refusal::NoSuchPoint, env);
+    }
+    if node_count(s) <= node.0 {
+        return refused(Refusal::NoSuchNode, env);
+    }
+    if !is_sort(sort, nd) {
+        return refused(Refusal::NoSuchNode, env);
+    }
+    if !first.ok {
+        return refused(Refusal::BadStart, env);
+    }
+    if beyond(env.count, limits, work.len()) {
+        return refused(Refusal::BadLimits, env);
+    }
+    Opening {
+        against: Against::Nothing,
+        env,
+    }
+}

@@ -134,13 +134,13 @@ fn all_under(vars: usize, binders: &[u32]) -> bool
     ensures { λ r. ⌜ _≡_ {A = Bool} r (allUnder vars (now (binders .entry))) ⌝ }
 {
     let n = binders.len();
-    let mut k = n;
-    while 0 < k {
-        k -= 1;
+    let mut k = 0;
+    while k < n {
         let x = tables::wide(binders[k]);
         if vars <= x {
             return false;
         }
+        k += 1;
     }
     true
 }
@@ -167,7 +167,7 @@ fn give_rows(
 ) -> SaidRows
     requires { ⌜ Checked (now s) ⌝ }
     requires { ⌜ Fit shape (now work) × (m .held ≤ shape .room) ⌝ }
-    ensures { λ r. ⌜ Given (now (s .entry)) (shape .vars) m (now (binders .entry)) (take (m .held) (rowsIn shape (now (work .entry)))) (now (output .entry)) (now (output .exit)) r × (length (now (work .exit)) ≡ length (now (work .entry))) ⌝ }
+    ensures { λ r. ⌜ Given (now (s .entry)) (shape .vars) m (now (binders .entry)) (take (m .held) (rowsIn shape (now (work .entry)))) (now (output .entry)) (now (output .exit)) r ⌝ }
 {
     if !all_under(shape.vars, binders) {
         return SaidRows::Refuses(Refusal::BadOutput, m.steps, m.most);

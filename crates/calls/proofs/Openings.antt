@@ -13,7 +13,7 @@ use mir.Val.{Fits}
 use mir.Syntax.{w64}
 use types.Run.{OneOf}
 use denote.Enum.Declared.{tagOf}
-use borrow.Author.Tests.{le-leb, lt-leb, lt-ltb, le-ltb, ltb-false, not-true, not-false}
+use borrow.Author.Tests.{leb-true, le-leb, lt-leb, lt-ltb, le-ltb, ltb-false, not-true, not-false}
 use Rattle.meaning.proofs.Node.{the-type}
 use Rattle.meaning.specs.declared.Limits.{Limits}
 use Rattle.meaning.specs.declared.Node.{Node}
@@ -22,11 +22,12 @@ use Rattle.meaning.specs.declared.Refusal.{Refusal}
 use Rattle.meaning.specs.declared.Refusal.the-variants.{NoSuchPoint, NoSuchNode, BadStart, BadLimits}
 use Rattle.meaning.specs.Tests.{_and_, _or_, choose, onlyIf, isSome, pick}
 use Rattle.meaning.specs.Case.{Sort, conditions, terms, aggregates, broken, sortOf, points, nodes, vars, nodeAt, caseOf, decode}
-use Rattle.meaning.specs.Check.{Checked}
+use Rattle.meaning.specs.Check.{Checked, bodies}
 use Rattle.meaning.specs.Rows.{rowOf}
 use Rattle.meaning.specs.Calls.{Call, isSort, beyond, against, startRow, startOr}
 use Rattle.meaning.specs.Laws.Tests.{both, yes, no}
-use Rattle.meaning.specs.Laws.Checked.{points-most}
+use Rattle.meaning.specs.Laws.Checked.{checked-bodies, points-most}
+use Rattle.meaning.specs.Laws.Nodes.{node-beyond}
 use Rattle.calls.specs.declared.opening.Sort.{Sort as Wanted}
 use Rattle.calls.specs.declared.opening.Sort.the-variants.{Condition, Aggregate as Aggregates}
 use Rattle.calls.specs.declared.opening.Opening.{Opening}
@@ -110,6 +111,23 @@ module _ (sort : Wanted) (nd : Node) (r : Bool) where
   unfolding sortFor
   sort-aggregate e is = rw e is
 
+-- beyond the table no node is of a sort that is asked for
+broken-none : (sort : Sort) → isSort sort (sortOf Broken) ≡ false
+unfolding isSort sortOf
+broken-none conditions = refl
+broken-none terms = refl
+broken-none aggregates = refl
+broken-none broken = refl
+
+no-sort-beyond : (sort : Sort) (s : List ℕ) (n : ℕ) → bodies s ≡ true → (leb (nodes s) n or not (isSort sort (sortOf (nodeAt s n)))) ≡ not (isSort sort (sortOf (nodeAt s n)))
+unfolding _or_
+no-sort-beyond sort s n h =
+    go (leb (nodes s) n) refl
+  where
+    go : (b : Bool) → leb (nodes s) n ≡ b → (b or not (isSort sort (sortOf (nodeAt s n)))) ≡ not (isSort sort (sortOf (nodeAt s n)))
+    go true e = rw (node-beyond s h n (leb-true (nodes s) n e), broken-none sort)
+    go false e = refl
+
 -- ---- limits
 
 neither : (a b : Bool) → (a or b) ≡ false → (a ≡ false) × (b ≡ false)
@@ -165,60 +183,53 @@ module _ (sort : Sort) (c : Call) (first : Start) where
     unfolding against decode
     no-such-point le is = refused-with NoSuchPoint (yes _ (le-leb (points (c .file)) (c .point) (omega arith))) is
 
-    module _ (there : c .point < many) (count : ℕ) (nodes-are : count ≡ nodes (c .file)) where
+    module _ (there : c .point < many) (passed : Checked (c .file)) (nd : Node) (node-is : nd ≡ nodeAt (c .file) (c .node)) (right : Bool) (sorted : right ≡ isSort sort (sortOf nd)) where
       past-point : {x : Option Refusal} → node-next ≡ x → against sort (decode (c .file)) c ≡ x
       unfolding against decode caseOf
       past-point e = no _ (lt-leb (points (c .file)) (c .point) (omega arith)) e
 
-      pub no-such-node : {r : Opening} → count ≤ c .node → r ≡ turnedDown NoSuchNode (first .env) → Opens sort c r
-      unfolding _or_
-      no-such-node le is = refused-with NoSuchNode (past-point (yes _ (rw (le-leb (nodes (c .file)) (c .node) (omega arith))))) is
+      node-test : (leb (nodes (c .file)) (c .node) or not (isSort sort (sortOf (nodeAt (c .file) (c .node))))) ≡ not right
+      node-test =
+          no-sort-beyond sort (c .file) (c .node) (checked-bodies passed)
+          ∙ ap not (sym (sorted ∙ ap (λ (n : Node). isSort sort (sortOf n)) node-is))
 
-      module _ (known : c .node < count) (nd : Node) (node-is : nd ≡ nodeAt (c .file) (c .node)) (right : Bool) (sort-is : right ≡ isSort sort (sortOf nd)) where
-        right-is : right ≡ isSort sort (sortOf (nodeAt (c .file) (c .node)))
-        right-is = sort-is ∙ ap (λ (n : Node). isSort sort (sortOf n)) node-is
+      pub no-such-node : {r : Opening} → not right ≡ true → r ≡ turnedDown NoSuchNode (first .env) → Opens sort c r
+      no-such-node wrong is = refused-with NoSuchNode (past-point (yes _ (node-test ∙ wrong))) is
 
-        node-test : (leb (nodes (c .file)) (c .node) or not (isSort sort (sortOf (nodeAt (c .file) (c .node))))) ≡ not right
-        unfolding _or_
-        node-test = rw (lt-leb (nodes (c .file)) (c .node) (omega arith), ← right-is)
+      module _ (fine : not right ≡ false) (starts : Starts (c .file) (c .start) first) where
+        past-node : {x : Option Refusal} → start-next ≡ x → against sort (decode (c .file)) c ≡ x
+        past-node e = past-point (no _ (node-test ∙ fine) e)
 
-        pub other-sort : {r : Opening} → not right ≡ true → r ≡ turnedDown NoSuchNode (first .env) → Opens sort c r
-        other-sort wrong is = refused-with NoSuchNode (past-point (yes _ (node-test ∙ wrong))) is
+        start-test : isSome (startRow (decode (c .file)) (vars (c .file)) (c .start)) ≡ first .ok
+        start-test = rw (← starts .is) (some-if (first .ok) (rowOf (first .env)))
 
-        module _ (fine : not right ≡ false) (starts : Starts (c .file) (c .start) first) where
-          past-node : {x : Option Refusal} → start-next ≡ x → against sort (decode (c .file)) c ≡ x
-          past-node e = past-point (no _ (node-test ∙ fine) e)
+        pub bad-start : {r : Opening} → not (first .ok) ≡ true → r ≡ turnedDown BadStart (first .env) → Opens sort c r
+        bad-start wrong is = refused-with BadStart (past-node (yes _ (ap not start-test ∙ wrong))) is
 
-          start-test : isSome (startRow (decode (c .file)) (vars (c .file)) (c .start)) ≡ first .ok
-          start-test = rw (← starts .is) (some-if (first .ok) (rowOf (first .env)))
+        module _ (good : not (first .ok) ≡ false) (over : Bool) (over-is : over ≡ overLimits (first .env .count) (c .limits) (length (c .workspace))) where
+          past-start : {x : Option Refusal} → limits-last ≡ x → against sort (decode (c .file)) c ≡ x
+          past-start e = past-node (no _ (ap not start-test ∙ good) e)
 
-          pub bad-start : {r : Opening} → not (first .ok) ≡ true → r ≡ turnedDown BadStart (first .env) → Opens sort c r
-          bad-start wrong is = refused-with BadStart (past-node (yes _ (ap not start-test ∙ wrong))) is
+          beyond-is : beyond (decode (c .file)) c ≡ over
+          unfolding beyond decode
+          beyond-is = rw (over-is, starts .count)
 
-          module _ (good : not (first .ok) ≡ false) (over : Bool) (over-is : over ≡ overLimits (first .env .count) (c .limits) (length (c .workspace))) where
-            past-start : {x : Option Refusal} → limits-last ≡ x → against sort (decode (c .file)) c ≡ x
-            past-start e = past-node (no _ (ap not start-test ∙ good) e)
+          pub bad-limits : {r : Opening} → over ≡ true → r ≡ turnedDown BadLimits (first .env) → Opens sort c r
+          unfolding onlyIf
+          bad-limits wrong is = refused-with BadLimits (past-start (rw (beyond-is, wrong))) is
 
-            beyond-is : beyond (decode (c .file)) c ≡ over
-            unfolding beyond decode
-            beyond-is = rw (over-is, starts .count)
-
-            pub bad-limits : {r : Opening} → over ≡ true → r ≡ turnedDown BadLimits (first .env) → Opens sort c r
-            unfolding onlyIf
-            bad-limits wrong is = refused-with BadLimits (past-start (rw (beyond-is, wrong))) is
-
-            pub opened : Checked (c .file) → over ≡ false → Opens sort c (record { against = Nothing; env = first .env })
-            unfolding onlyIf refusalIn startOr
-            opened passed fits =
-                let limits = beyond-not (first .env .count) (c .limits) (length (c .workspace)) (sym over-is ∙ fits) in
-                record {
-                  is = sym (past-start (rw (beyond-is, fits)));
-                  opened = record {
-                    sized = starts .sized;
-                    count = starts .count;
-                    bindings = ap startOr (rw (not-false (first .ok) good) at (starts .is));
-                    point = omega (arith, points-most passed);
-                    room = limits .0;
-                    cells = limits .1;
-                  };
-                }
+          pub opened : over ≡ false → Opens sort c (record { against = Nothing; env = first .env })
+          unfolding onlyIf refusalIn startOr
+          opened fits =
+              let limits = beyond-not (first .env .count) (c .limits) (length (c .workspace)) (sym over-is ∙ fits) in
+              record {
+                is = sym (past-start (rw (beyond-is, fits)));
+                opened = record {
+                  sized = starts .sized;
+                  count = starts .count;
+                  bindings = ap startOr (rw (not-false (first .ok) good) at (starts .is));
+                  point = omega (arith, points-most passed);
+                  room = limits .0;
+                  cells = limits .1;
+                };
+              }

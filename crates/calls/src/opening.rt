@@ -5,7 +5,6 @@ use meaning::Limits;
 use meaning::Node;
 use meaning::NodeNo;
 use meaning::Refusal;
-use stringcheck::node_count;
 use stringcheck::point_count;
 ghost use mathlib.Core.Path.{_≡_};
 ghost use mathlib.Core.Bool.{Bool};
@@ -123,14 +122,14 @@ pub fn open(
     if point_count(s) as usize <= point {
         return refused(Refusal::NoSuchPoint, env);
     }
-    if node_count(s) <= node.0 {
-        return refused(Refusal::NoSuchNode, env);
-    }
+    // beyond the table a node is Broken, of neither sort
     let asked = tables::node_at(s, node);
-    if !is_sort(sort, asked) {
+    let sorted = is_sort(sort, asked);
+    let started = first.ok;
+    if !sorted {
         return refused(Refusal::NoSuchNode, env);
     }
-    if !first.ok {
+    if !started {
         return refused(Refusal::BadStart, env);
     }
     if beyond(env.count, limits, work.len()) {

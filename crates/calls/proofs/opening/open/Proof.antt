@@ -1,5 +1,5 @@
 use Rattle.meaning.specs.Laws.Checked.{checked-bodies}
-use Rattle.calls.proofs.Openings.{no-such-point, no-such-node, other-sort, bad-start, bad-limits, opened}
+use Rattle.calls.proofs.Openings.{no-such-point, no-such-node, bad-start, bad-limits, opened}
 use borrow.Author.Needs.{needs}
 use Rattle.calls.proofs.opening.open.Statement.{statement}
 use Rattle.calls.proofs.opening.open.Tie as tie
@@ -19,8 +19,11 @@ refused-requires c κs = search needs
 returns : tie.Need-returns
 returns c = search (no-such-point, needs)
 
-node-count-requires : tie.Need-node-count-requires
-node-count-requires c κs = search (checked-bodies, needs)
+node-at-requires : tie.Need-node-at-requires
+node-at-requires c κs = search (checked-bodies, needs)
+
+is-sort-requires : tie.Need-is-sort-requires
+is-sort-requires c κs = search needs
 
 refused-requires-2 : tie.Need-refused-requires-2
 refused-requires-2 c κs = search needs
@@ -28,35 +31,23 @@ refused-requires-2 c κs = search needs
 returns-2 : tie.Need-returns-2
 returns-2 c = search (no-such-node, needs)
 
-node-at-requires : tie.Need-node-at-requires
-node-at-requires c κs = search (checked-bodies, needs)
-
-is-sort-requires : tie.Need-is-sort-requires
-is-sort-requires c κs = search needs
-
 refused-requires-3 : tie.Need-refused-requires-3
 refused-requires-3 c κs = search needs
 
 returns-3 : tie.Need-returns-3
-returns-3 c = search (other-sort, needs)
+returns-3 c = search (bad-start, needs)
+
+beyond-requires : tie.Need-beyond-requires
+beyond-requires c κs = search needs
 
 refused-requires-4 : tie.Need-refused-requires-4
 refused-requires-4 c κs = search needs
 
 returns-4 : tie.Need-returns-4
-returns-4 c = search (bad-start, needs)
-
-beyond-requires : tie.Need-beyond-requires
-beyond-requires c κs = search needs
-
-refused-requires-5 : tie.Need-refused-requires-5
-refused-requires-5 c κs = search needs
+returns-4 c = search (bad-limits, needs)
 
 returns-5 : tie.Need-returns-5
-returns-5 c = search (bad-limits, needs)
-
-returns-6 : tie.Need-returns-6
-returns-6 c = search (opened, needs)
+returns-5 c = search (opened, needs)
 
 pub open-spec : {M : Type 1} → statement M
 open-spec =
@@ -67,16 +58,13 @@ open-spec =
     cast-if1
     refused-requires
     returns
-    node-count-requires
-    refused-requires-2
-    returns-2
     node-at-requires
     is-sort-requires
+    refused-requires-2
+    returns-2
     refused-requires-3
     returns-3
+    beyond-requires
     refused-requires-4
     returns-4
-    beyond-requires
-    refused-requires-5
-    returns-5
-    returns-6)
+    returns-5)

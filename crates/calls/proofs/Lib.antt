@@ -1,5 +1,7 @@
-pub mod Asked
+pub mod Starts
+pub mod Openings
 pub mod Told
-pub mod Unchecked
+pub mod Asked
 pub mod Given
 pub mod RowsAsked
+pub mod Unchecked

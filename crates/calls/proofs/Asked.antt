@@ -98,6 +98,10 @@ module _ {s : List ℕ} {point n : ℕ} {start : List ℕ} {limits : Limits} {wo
           held = omega arith;
         }
 
+    pub ready-started : Ready s (walking limits (o .env) point) (o .env) started (take (cellsFor (o .env) limits) work)
+    unfolding started
+    ready-started = ready
+
     pub clear-in : (part : List ℕ) → length part ≡ length (take (cellsFor (o .env) limits) work) → cellsFor (o .env) limits ≤ length (part ++ drop (cellsFor (o .env) limits) work)
     clear-in part long = omega (arith, length-append part (drop (cellsFor (o .env) limits) work), part-long)
 

@@ -93,6 +93,10 @@ fits-some rows binders n nonzero = go (leb binders (n / (2 * rows))) refl
         e
         ∙ sym (lt-leb (rows * (2 * binders)) n (not-le (λ h. absurd (omega (arith, leb-false binders (n / (2 * rows)) e, le-div-iff-mul-le {k = 2 * rows} {x = binders} {y = n} (omega (arith, nonzero)) .1 (subst (λ (k : ℕ). k ≤ n) (sym (swap rows binders)) h))))))
 
+pub fits-are : (rows : ℕ) (binders output : List ℕ) {t : Bool} → t ≡ leb (rows * (2 * length binders)) (length output) → not t ≡ false → (rows - 0) * (2 * length binders) ≤ length output
+fits-are rows binders output {t} is sure =
+    subst (λ (k : ℕ). k * (2 * length binders) ≤ length output) (sym (sub-zero rows)) (leb-true _ _ (sym is ∙ not-false t sure))
+
 -- ---- rows given or refused
 
 module _ (s : List ℕ) (shape : Shape) (m : Meter) (binders w out : List ℕ) where
@@ -132,10 +136,10 @@ module _ (s : List ℕ) (shape : Shape) (m : Meter) (binders w out : List ℕ) w
         record {
           said = ap (λ (k : ℕ). gives k (m .steps) (m .most)) kept-many ∙ sym (ap (saidOf kept m) fits);
           written =
-            writing .is
-            ∙ ap (λ (l : List Row). filled binders l ++ drop (0 + length (filled binders l)) out) (reduces .rows)
-            ∙ ap (λ (k : ℕ). filled binders kept ++ drop k out) (zero-add (length (filled binders kept)))
-            ∙ sym (ap (outputOf binders out kept) fits);
+              writing .is
+              ∙ ap (λ (l : List Row). filled binders l ++ drop (0 + length (filled binders l)) out) (reduces .rows)
+              ∙ ap (λ (k : ℕ). filled binders kept ++ drop k out) (zero-add (length (filled binders kept)))
+              ∙ sym (ap (outputOf binders out kept) fits);
         }
 
     pub write-fit : length w′ ≡ length w → Fit shape w′
@@ -143,6 +147,3 @@ module _ (s : List ℕ) (shape : Shape) (m : Meter) (binders w out : List ℕ) w
 
     pub write-high : n ≤ shape .room
     write-high = omega (arith, reduces .high)
-
-    pub write-cells : {u : Bool} → u ≡ leb (n * (2 * length binders)) (length out) → not u ≡ false → (n - 0) * (2 * length binders) ≤ length out
-    write-cells {u} is sure = subst (λ (k : ℕ). k * (2 * length binders) ≤ length out) (sym (sub-zero n)) (leb-true _ _ (sym is ∙ not-false u sure))

@@ -7,11 +7,12 @@ use native.Mathlib.Nat.{mul-comm}
 use native.Mathlib.Omega.{arith}
 use lib.ListN.{length, take, drop, length-append}
 use lib.Seq.{length-take-le, take-at, drop-at}
+use Rattle.meaning.specs.declared.Env.{Env}
 use Rattle.meaning.specs.declared.Limits.{Limits}
 use Rattle.meaning.specs.declared.Meter.{Meter}
 use Rattle.meaning.specs.declared.Refusal.{Refusal}
 use Rattle.meaning.specs.Walk.{W, started, Outcome, answered, refused, outcome}
-use Rattle.meaning.specs.Case.{decode}
+use Rattle.meaning.specs.Case.{decode, vars}
 use Rattle.meaning.specs.Check.{Checked}
 use Rattle.meaning.specs.Rows.{Row}
 use Rattle.meaning.specs.Calls.{Call, RowsResult, asking, walked, told, cleared, workspaceAfter, result, projected, outputFits, toOutput, rowsGiven, rowsCall}
@@ -19,7 +20,8 @@ use Rattle.rows.specs.declared.Relation.{Relation}
 use Rattle.rows.specs.declared.Relation.the-variants.{Held, Refused}
 use Rattle.rows.specs.Table.{Fit, rowsIn}
 use Rattle.rows.specs.Stack.{shapeOf, relationOf, Grown, Stacked, Related}
-use Rattle.evaluator.specs.Asks.{Relates, nodeRows, rowsFor}
+use Rattle.evaluator.specs.declared.Call.{Call as WalkCall}
+use Rattle.evaluator.specs.Asks.{Ready, Relates, nodeRows, rowsFor}
 use Rattle.calls.specs.declared.opening.Sort.the-variants.{Condition}
 use Rattle.calls.specs.declared.opening.Against.the-variants.{Nothing}
 use Rattle.calls.specs.declared.opening.Against.the-variants.{Refused as TurnedDown}
@@ -28,8 +30,8 @@ use Rattle.calls.specs.declared.SaidRows.{SaidRows}
 use Rattle.calls.specs.declared.SaidRows.the-variants.{Refuses}
 use Rattle.calls.specs.Promises.{callOf, asRows, Rowed}
 use Rattle.calls.specs.Opening.{sortFor, Opens}
-use Rattle.calls.specs.Given.{keptOf, fitting, saidOf, outputOf, Given}
-use Rattle.calls.proofs.Asked.{cellsFor, walking, atStart, opened, asked-not, part-long, clear-in, walked-as, workspace-as}
+use Rattle.calls.specs.Given.{keptOf, fitting, saidOf, outputOf, saidFrom, outputFrom, TellsRows, Given}
+use Rattle.calls.proofs.Asked.{cellsFor, walking, atStart, opened, asked-not, walked-as, workspace-as}
 
 -- ---- a relation that is held is an answer, its rows at the bottom; one that is refused, a refusal
 
@@ -54,51 +56,55 @@ module _ {l : Limits} {w : W (List Row)} {before after : List Row} {r : Relation
       go (answered rows m′) e = let z : Refused k m ≡ Held m′ = cc (related .is, is, e) in let y : _≡_ {A = ℕ} 0 1 = cc in absurd (omega arith)
       go (refused n m′) e = let z : Refused k m ≡ Refused n m′ = cc (related .is, is, e) in let x : k ≡ n = cc in let y : m ≡ m′ = cc in e ∙ cc (x, y)
 
--- ---- what is given, as the call says it
+-- ---- what a walk for rows tells
+
+module _ (s : List ℕ) (c : WalkCall) (e : Env) (n : ℕ) (binders output : List ℕ) {before after : List ℕ} {r : Relation} (relates : Relates s c e (nodeRows n (c .asked)) atStart before after r) where
+  pub held-in : {m : Meter} → r ≡ Held m → m .held ≤ c .limits .room
+  held-in is = holds (relates .comes) is .1
+
+  pub rows-given : {m : Meter} {output′ : List ℕ} {said : SaidRows} → r ≡ Held m → Given s (c .vars) m binders (take (m .held) (rowsIn (shapeOf (c .vars) (c .limits)) after)) output output′ said → TellsRows s (c .vars) binders output (outcome (c .limits) started (rowsFor s c e (nodeRows n (c .asked)))) output′ said
+  unfolding saidFrom outputFrom started
+  rows-given is given =
+      let o = holds (relates .comes) is .0 in
+      record { said = given .said ∙ ap (saidFrom s (c .vars) binders output) (sym o); written = given .written ∙ ap (outputFrom s (c .vars) binders output) (sym o) }
+
+  pub rows-stopped : {k : Refusal} {m : Meter} → r ≡ Refused k m → TellsRows s (c .vars) binders output (outcome (c .limits) started (rowsFor s c e (nodeRows n (c .asked)))) output (Refuses k (m .steps) (m .most))
+  unfolding saidFrom outputFrom started asRows
+  rows-stopped is =
+      let o = stops (relates .comes) is in
+      record { said = ap (saidFrom s (c .vars) binders output) (sym o); written = ap (outputFrom s (c .vars) binders output) (sym o) }
+
+pub part-fit : {s : List ℕ} {c : WalkCall} {e : Env} {m : Meter} {before : List ℕ} {after : List ℕ} → Ready s c e m before → length after ≡ length before → Fit (shapeOf (c .vars) (c .limits)) after
+part-fit ready long = record { vars = ready .fit .vars; room = ready .fit .room; wide = omega (arith, ready .fit .wide) }
+
+-- ---- the rows call
 
 given-as : (c : Call) (binders output : List ℕ) (kept : List Row) (m : Meter) (fits : Bool) → toOutput c binders output kept m fits ≡ record {
-    result = record { said = saidOf kept m fits; workspace = cleared (2 * decode (c .file) .vars * c .limits .room) (c .workspace) };
-    output = outputOf binders output kept fits;
-  }
+  result = record { said = saidOf kept m fits; workspace = cleared (2 * decode (c .file) .vars * c .limits .room) (c .workspace) };
+  output = outputOf binders output kept fits;
+}
 unfolding toOutput result told workspaceAfter saidOf outputOf
 given-as c binders output kept m true = refl
 given-as c binders output kept m false = refl
 
-module _ (s : List ℕ) (point n : ℕ) (start : List ℕ) (limits : Limits) (work : List ℕ) (binders output : List ℕ) {o : Opening} (checked : Checked s) (opens : Opens (sortFor Condition) (callOf s point n start limits work) o) where
-  pub rows-refused : {k : Refusal} → o .against ≡ TurnedDown k → Rowed (callOf s point n start limits work) binders output work output (Refuses k 0 0)
-  unfolding rowsCall rowsGiven asRows result told workspaceAfter sortFor
-  rows-refused {k} is = record { is = sym (ap (rowsGiven (callOf s point n start limits work) binders output) (asked-not checked opens (λ m q. m .rows q) k is)) }
+told-as : (c : Call) (binders output : List ℕ) (o : Outcome (List Row)) → rowsGiven c binders output (walked o) ≡ record {
+  result = record { said = saidFrom (c .file) (vars (c .file)) binders output o; workspace = cleared (2 * decode (c .file) .vars * c .limits .room) (c .workspace) };
+  output = outputFrom (c .file) (vars (c .file)) binders output o;
+}
+unfolding rowsGiven result told workspaceAfter saidFrom outputFrom projected outputFits decode
+told-as c binders output (answered rows m) =
+    given-as c binders output (keptOf (c .file) binders rows) m (fitting (vars (c .file)) binders output (keptOf (c .file) binders rows))
+told-as c binders output (refused n m) = refl
 
-  module _ (is : o .against ≡ Nothing) {part : List ℕ} {rel : Relation} (relates : Relates s (walking limits (o .env) point) (o .env) (nodeRows n point) atStart (take (cellsFor (o .env) limits) work) part rel) (long : length part ≡ length (take (cellsFor (o .env) limits) work)) where
-    part-is : take (cellsFor (o .env) limits) (part ++ drop (cellsFor (o .env) limits) work) ≡ part
-    part-is = take-at part (drop (cellsFor (o .env) limits) work) (cellsFor (o .env) limits) (long ∙ part-long checked opens is)
+pub rows-refused : (s : List ℕ) (point n : ℕ) (start : List ℕ) (limits : Limits) (work : List ℕ) (binders output : List ℕ) {o : Opening} {k : Refusal} → Checked s → Opens (sortFor Condition) (callOf s point n start limits work) o → o .against ≡ TurnedDown k → Rowed (callOf s point n start limits work) binders output work output (Refuses k 0 0)
+unfolding rowsCall rowsGiven asRows result told workspaceAfter sortFor
+rows-refused s point n start limits work binders output {k = k} checked opens is =
+    record { is = sym (ap (rowsGiven (callOf s point n start limits work) binders output) (asked-not checked opens (λ m q. m .rows q) k is)) }
 
-    pub part-again : length (take (cellsFor (o .env) limits) (part ++ drop (cellsFor (o .env) limits) work)) ≡ cellsFor (o .env) limits
-    part-again = ap length part-is ∙ long ∙ part-long checked opens is
-
-    pub part-fit : Fit (shapeOf (o .env .count) limits) (take (cellsFor (o .env) limits) (part ++ drop (cellsFor (o .env) limits) work))
-    part-fit = record {
-      vars = opened opens is .sized .few;
-      room = opened opens is .room;
-      wide = omega (arith, part-again, mul-comm (limits .room) (2 * o .env .count));
+pub rows-told : (s : List ℕ) (point n : ℕ) (start : List ℕ) (limits : Limits) (work : List ℕ) (binders output : List ℕ) {o : Opening} (part : List ℕ) {after output′ : List ℕ} {r : SaidRows} → Checked s → Opens (sortFor Condition) (callOf s point n start limits work) o → o .against ≡ Nothing → TellsRows s (o .env .count) binders output (outcome limits started (rowsFor s (walking limits (o .env) point) (o .env) (nodeRows n point))) output′ r → length part ≡ length (take (cellsFor (o .env) limits) work) → after ≡ cleared (cellsFor (o .env) limits) (part ++ drop (cellsFor (o .env) limits) work) → Rowed (callOf s point n start limits work) binders output after output′ r
+unfolding rowsCall rowsFor sortFor
+rows-told s point n start limits work binders output {o} part checked opens is tells long after =
+    let a = walked-as checked opens is (λ m q. m .rows q) in
+    record {
+      is = sym (ap (rowsGiven (callOf s point n start limits work) binders output) a ∙ told-as (callOf s point n start limits work) binders output _ ∙ sym (cc (tells .said, tells .written, workspace-as checked opens is part long after, opened opens is .count)));
     }
-
-    pub clear-again : (part′ : List ℕ) → length part′ ≡ length (take (cellsFor (o .env) limits) (part ++ drop (cellsFor (o .env) limits) work)) → cellsFor (o .env) limits ≤ length (part′ ++ drop (cellsFor (o .env) limits) (part ++ drop (cellsFor (o .env) limits) work))
-    clear-again part′ long′ = omega (arith, length-append part′ (drop (cellsFor (o .env) limits) (part ++ drop (cellsFor (o .env) limits) work)), part-again)
-
-    pub held-in : {m : Meter} → rel ≡ Held m → m .held ≤ limits .room
-    held-in held = holds (relates .comes) held .1
-
-    pub rows-stopped : {k : Refusal} {m : Meter} {after : List ℕ} → rel ≡ Refused k m → after ≡ cleared (cellsFor (o .env) limits) (part ++ drop (cellsFor (o .env) limits) work) → Rowed (callOf s point n start limits work) binders output after output (Refuses k (m .steps) (m .most))
-    unfolding rowsCall rowsGiven asRows result told workspaceAfter sortFor rowsFor started
-    rows-stopped {k} {m} stopped after = record {
-      is = cc (walked-as checked opens is (λ m q. m .rows q), stops (relates .comes) stopped, workspace-as checked opens is part long after);
-    }
-
-    pub rows-told : {m : Meter} {part′ : List ℕ} {after output′ : List ℕ} {r : SaidRows} → rel ≡ Held m
-        → Given s (o .env .count) m binders (take (m .held) (rowsIn (shapeOf (o .env .count) limits) (take (cellsFor (o .env) limits) (part ++ drop (cellsFor (o .env) limits) work)))) output output′ r
-        → length part′ ≡ length (take (cellsFor (o .env) limits) (part ++ drop (cellsFor (o .env) limits) work))
-        → after ≡ cleared (cellsFor (o .env) limits) (part′ ++ drop (cellsFor (o .env) limits) (part ++ drop (cellsFor (o .env) limits) work))
-        → Rowed (callOf s point n start limits work) binders output after output′ r
-    unfolding rowsCall rowsGiven projected outputFits decode sortFor rowsFor started
-    rows-told {m} {part′} {after} {output′} {r} held given long′ cleared-as = ?

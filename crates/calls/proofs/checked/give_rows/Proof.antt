@@ -1,5 +1,5 @@
 use borrow.Author.Needs.{needs}
-use Rattle.calls.proofs.Given.{few-kept, given-not-under, given-too-long, given-written, variables, write-fit, write-high, write-cells}
+use Rattle.calls.proofs.Given.{few-kept, given-not-under, given-too-long, given-written, variables, write-fit, write-high, fits-are}
 use Rattle.calls.proofs.checked.give_rows.Statement.{statement}
 use Rattle.calls.proofs.checked.give_rows.Tie as tie
 use Rattle.calls.proofs.checked.give_rows.Reads as reads
@@ -36,7 +36,7 @@ returns-2 c = search (given-too-long, needs)
 -- src/checked.rt:179:5
 write-rows-requires : tie.Need-write-rows-requires
 write-rows-requires c κs =
-    (search (write-fit, needs), search needs, search (write-high, needs), search (variables, needs), search (write-cells, needs))
+    (search (write-fit, needs), search needs, search (write-high, needs), search (variables, needs), search (fits-are, needs))
 
 -- src/checked.rt:160:1
 same-length-2 : tie.Need-same-length-2

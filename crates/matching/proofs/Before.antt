@@ -9,7 +9,6 @@ use mir.Syntax.{w64}
 use Rattle.meaning.specs.declared.Interval.{Interval}
 use Rattle.meaning.specs.Number.{seconds, inWindow}
 use Rattle.meaning.specs.Case.{pointAt}
-use Rattle.matching.specs.declared.Earlier.{Earlier}
 use Rattle.matching.specs.declared.Earlier.the-variants.{At, Nowhere}
 use Rattle.matching.specs.Asking.{atIf, pointBefore}
 

@@ -71,8 +71,7 @@ same-rows (Rows.Refuses n s m) (Rows.Refuses n′ s′ m′) e = cc
 
 pub one-rows : {c : Call} {binders output after after′ out out′ : List ℕ} {r r′ : SaidRows} → Rowed c binders output after out r → Rowed c binders output after′ out′ r′ → (r ≡ r′) × (after ≡ after′) × (out ≡ out′)
 one-rows {r = r} {r′} p q =
-    let e = p .is ∙ sym (q .is) in
-    (
+    let e = p .is ∙ sym (q .is) in (
       same-rows r r′ (ap (λ (x : RowsResult). x .result .said) e),
       ap (λ (x : RowsResult). x .result .workspace) e,
       ap (λ (x : RowsResult). x .output) e,

@@ -5,14 +5,13 @@ use mathlib.Core.List.{List, [], _∷_, _++_}
 use mathlib.Core.Option.{Option, none, some}
 use Prim.Native.Nat.{ℕ}
 use lib.Dec.{ltb}
-use lib.IntN.{ℤ}
 use lib.ListN.{length, drop}
 use mir.Val.{ofZ}
 use mir.Syntax.{w64}
 use Rattle.meaning.specs.declared.Refusal.{Refusal}
 use Rattle.meaning.specs.Tests.{choose}
 use Rattle.meaning.specs.Case.{vars, strings, values, points, nodes}
-use Rattle.meaning.specs.Calls.{numberOf, checkCall, verdictCall, numberCall, rowsCall, Call, Said, gives, refuses, Result, RowsResult}
+use Rattle.meaning.specs.Calls.{numberOf, checkCall, verdictCall, numberCall, rowsCall, Call, Said, gives, refuses, Result}
 
 -- told that the cells for the answer are too few, before anything is done
 abbrev pub tooFew : ℕ

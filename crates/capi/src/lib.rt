@@ -9,7 +9,6 @@ use telling::tell_contents;
 use telling::tell_number;
 use telling::tell_rows;
 use telling::tell_verdict;
-ghost use mathlib.Core.Path.{_≡_};
 ghost use Rattle.meaning.specs.Check.{Checked};
 ghost use Rattle.calls.specs.Promises.{callOf};
 ghost use Rattle.capi.specs.Seen.{Checks, TellsVerdict, TellsNumber, TellsRows};

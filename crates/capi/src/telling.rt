@@ -4,7 +4,7 @@ use calls::SaidRows;
 use calls::SaidVerdict;
 use casecheck::Contents;
 ghost use mathlib.Core.Path.{_≡_};
-ghost use mathlib.Core.List.{List, [], _∷_, _++_};
+ghost use mathlib.Core.List.{[], _∷_, _++_};
 ghost use Prim.Native.Nat.{ℕ, _≤_};
 ghost use lib.ListN.{length, drop};
 ghost use mir.Val.{ofZ};

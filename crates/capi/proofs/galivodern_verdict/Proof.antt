@@ -3,27 +3,21 @@ use Rattle.capi.proofs.Seeing.{verdict-told, verdict-unasked}
 use Rattle.capi.proofs.galivodern_verdict.Statement.{statement}
 use Rattle.capi.proofs.galivodern_verdict.Tie as tie
 
--- src/lib.rt:48:9
 returns : tie.Need-returns
 returns c = verdict-unasked _ (c .before .before .before .before .before .args .told .now) (c .if1 .taken)
 
--- src/lib.rt:51:9
 verdict-requires : tie.Need-verdict-requires
 verdict-requires c κs = search needs
 
--- src/lib.rt:52:5
 tell-verdict-requires : tie.Need-tell-verdict-requires
 tell-verdict-requires c κs = search needs
 
--- src/lib.rt:34:1
 same-length : tie.Need-same-length
 same-length c = search needs
 
--- src/lib.rt:34:1
 same-length-2 : tie.Need-same-length-2
 same-length-2 c = search needs
 
--- src/lib.rt:34:1
 returns-2 : tie.Need-returns-2
 returns-2 c = verdict-told (c .before .before .before .before .before .before .before .before .if1 .left) (c .before .before .before .before .before .before .verdict .ensures) (c .before .before .tell-verdict .ensures .0) (c .before .before .tell-verdict .ensures .1)
 

@@ -5,23 +5,18 @@ use Rattle.capi.proofs.Cells.{three}
 use Rattle.capi.proofs.telling.tell.Statement.{statement}
 use Rattle.capi.proofs.telling.tell.Tie as tie
 
--- src/telling.rt:32:5
 slice-write-lent : tie.Need-slice-write-lent
 slice-write-lent c = search needs
 
--- src/telling.rt:33:5
 slice-write-lent-2 : tie.Need-slice-write-lent-2
 slice-write-lent-2 c = omega (arith, length-set (c .args .lent .now) 0 (c .args .answer), c .pre)
 
--- src/telling.rt:34:5
 slice-write-lent-3 : tie.Need-slice-write-lent-3
 slice-write-lent-3 c = search needs
 
--- src/telling.rt:28:1
 same-length : tie.Need-same-length
 same-length c = search needs
 
--- src/telling.rt:28:1
 returns : tie.Need-returns
 returns c = three _ _ _ (c .args .lent .now) (c .pre)
 

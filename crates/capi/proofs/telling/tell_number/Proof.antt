@@ -9,40 +9,31 @@ use Rattle.capi.proofs.Said.{told-so, first-cell}
 use Rattle.capi.proofs.telling.tell_number.Statement.{statement}
 use Rattle.capi.proofs.telling.tell_number.Tie as tie
 
--- src/telling.rt:64:27
 enum-known-said : tie.Need-enum-known-said
 enum-known-said c = search needs
 
--- src/telling.rt:65:13
 tell-requires : tie.Need-tell-requires
 tell-requires c κs = search needs
 
--- src/telling.rt:68:29
 enum-known-said-2 : tie.Need-enum-known-said-2
 enum-known-said-2 c = search needs
 
--- src/telling.rt:69:13
 tell-requires-2 : tie.Need-tell-requires-2
 tell-requires-2 c κs = search needs
 
--- src/telling.rt:70:13
 number-requires : tie.Need-number-requires
 number-requires c κs = search needs
 
--- src/telling.rt:59:1
 same-length : tie.Need-same-length
 same-length c = search needs
 
--- src/telling.rt:59:1
 returns : tie.Need-returns
 unfolding saidNumber toldCells asNumber
 returns c = let h : Fits w64 (c .before .before .before .before .before .said .given .0 .0) = search (c .before .before .before .before .known-told .given, c .before .before .before .before .before .before .before .before .good, needs) in told-so asNumber (ofZ w64) (c .before .before .before .before .before .before .before .before .args .lent .now) (c .before .before .before .before .before .said .given .1) refl (c .before .before .tell .ensures ∙ first-cell _ _ _ (sym (ofZ-toZ h)))
 
--- src/telling.rt:59:1
 same-length-2 : tie.Need-same-length-2
 same-length-2 c = search needs
 
--- src/telling.rt:59:1
 returns-2 : tie.Need-returns-2
 unfolding saidNumber toldCells asNumber
 returns-2 c = told-so asNumber (ofZ w64) (c .before .before .before .before .before .before .before .before .before .args .lent .now) (c .before .before .before .before .before .before .said2 .given .1) (c .number .ensures .0) (c .before .before .before .tell2 .ensures)

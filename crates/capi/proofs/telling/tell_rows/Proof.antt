@@ -7,40 +7,31 @@ use Rattle.capi.proofs.Said.{told-so}
 use Rattle.capi.proofs.telling.tell_rows.Statement.{statement}
 use Rattle.capi.proofs.telling.tell_rows.Tie as tie
 
--- src/telling.rt:80:25
 enum-known-said : tie.Need-enum-known-said
 enum-known-said c = search needs
 
--- src/telling.rt:81:13
 tell-requires : tie.Need-tell-requires
 tell-requires c κs = search needs
 
--- src/telling.rt:84:27
 enum-known-said-2 : tie.Need-enum-known-said-2
 enum-known-said-2 c = search needs
 
--- src/telling.rt:85:13
 tell-requires-2 : tie.Need-tell-requires-2
 tell-requires-2 c κs = search needs
 
--- src/telling.rt:86:13
 number-requires : tie.Need-number-requires
 number-requires c κs = search needs
 
--- src/telling.rt:75:1
 same-length : tie.Need-same-length
 same-length c = search needs
 
--- src/telling.rt:75:1
 returns : tie.Need-returns
 unfolding saidNumber toldCells asRows
 returns c = told-so asRows (λ (n : ℕ). n) (c .before .before .before .before .before .before .before .before .args .lent .now) (c .before .before .before .before .before .said .given .1) refl (c .before .before .tell .ensures)
 
--- src/telling.rt:75:1
 same-length-2 : tie.Need-same-length-2
 same-length-2 c = search needs
 
--- src/telling.rt:75:1
 returns-2 : tie.Need-returns-2
 unfolding saidNumber toldCells asRows
 returns-2 c = told-so asRows (λ (n : ℕ). n) (c .before .before .before .before .before .before .before .before .before .args .lent .now) (c .before .before .before .before .before .before .said2 .given .1) (c .number .ensures .0) (c .before .before .before .tell2 .ensures)

@@ -6,44 +6,34 @@ use Rattle.capi.proofs.Said.{told-so, first-cell}
 use Rattle.capi.proofs.telling.tell_verdict.Statement.{statement}
 use Rattle.capi.proofs.telling.tell_verdict.Tie as tie
 
--- src/telling.rt:48:28
 enum-known-said : tie.Need-enum-known-said
 enum-known-said c = search needs
 
--- src/telling.rt:49:18
 yes-cell-requires : tie.Need-yes-cell-requires
 yes-cell-requires c κs = search needs
 
--- src/telling.rt:49:13
 tell-requires : tie.Need-tell-requires
 tell-requires c κs = search needs
 
--- src/telling.rt:52:30
 enum-known-said-2 : tie.Need-enum-known-said-2
 enum-known-said-2 c = search needs
 
--- src/telling.rt:53:13
 tell-requires-2 : tie.Need-tell-requires-2
 tell-requires-2 c κs = search needs
 
--- src/telling.rt:54:13
 number-requires : tie.Need-number-requires
 number-requires c κs = search needs
 
--- src/telling.rt:43:1
 same-length : tie.Need-same-length
 same-length c = search needs
 
--- src/telling.rt:43:1
 returns : tie.Need-returns
 unfolding saidNumber toldCells asVerdict
 returns c = told-so asVerdict yesCell (c .before .before .before .before .before .before .before .before .before .args .lent .now) (c .before .before .before .before .before .before .said .given .1) refl (c .before .before .tell .ensures ∙ first-cell _ _ _ (c .before .before .before .before .yes-cell .ensures))
 
--- src/telling.rt:43:1
 same-length-2 : tie.Need-same-length-2
 same-length-2 c = search needs
 
--- src/telling.rt:43:1
 returns-2 : tie.Need-returns-2
 unfolding saidNumber toldCells asVerdict
 returns-2 c = told-so asVerdict yesCell (c .before .before .before .before .before .before .before .before .before .args .lent .now) (c .before .before .before .before .before .before .said2 .given .1) (c .number .ensures .0) (c .before .before .before .tell2 .ensures)

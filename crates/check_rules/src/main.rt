@@ -2,33 +2,12 @@
 use casecheck::Checking;
 use casecheck::check;
 use libc::STDOUT_FILENO;
-use meaning::Refusal;
+use program_parts::refusal_number;
 use tables::wide;
 use tables::word_at;
 ghost use mathlib.Core.Path.{_≡_};
 ghost use Prim.Native.Nat.{_<_};
 ghost use lib.ListN.{length};
-ghost use Rattle.meaning.specs.Calls.{numberOf};
-
-fn refusal_number(r: Refusal) -> usize
-    ensures { λ n. ⌜ (n ≡ numberOf r) × (n < 14) ⌝ }
-{
-    match r {
-        Refusal::BadContents => 1,
-        Refusal::TooLarge => 2,
-        Refusal::BadStrings => 3,
-        Refusal::BadValues => 4,
-        Refusal::BadPoints => 5,
-        Refusal::BadNodes => 6,
-        Refusal::NoSuchPoint => 7,
-        Refusal::NoSuchNode => 8,
-        Refusal::BadStart => 9,
-        Refusal::BadLimits => 10,
-        Refusal::StepsExhausted => 11,
-        Refusal::RoomExhausted => 12,
-        Refusal::BadOutput => 13,
-    }
-}
 
 // what the check says of a file: 0 where it passes
 fn answer_number(file: &[u8]) -> usize

@@ -3,7 +3,7 @@ use meaning::Refusal;
 use tables::halves;
 use tables::word_at;
 ghost use mathlib.Core.Path.{_≡_};
-ghost use Prim.Native.Nat.{_<_};
+ghost use Prim.Native.Nat.{_+_, _*_, _<_};
 ghost use lib.ListN.{getD};
 ghost use Rattle.meaning.specs.Case.{words};
 ghost use Rattle.meaning.specs.Calls.{numberOf};
@@ -49,7 +49,9 @@ pub fn byte(list: &[u8], i: usize) -> u8
 }
 
 // the 64 bits of words i and i + 1 of a list
-pub fn cell(list: &[u8], i: usize) -> u64 {
+pub fn cell(list: &[u8], i: usize) -> u64
+    ensures { λ r. ⌜ r ≡ getD (words (now (list .entry))) i 0 + 4294967296 * getD (words (now (list .entry))) (i + 1) 0 ⌝ }
+{
     if list.len() / 4 <= i {
         return 0;
     }

@@ -58,6 +58,9 @@ fn is_complete(list: &[u8], t: Tally) -> bool {
     if t.calls != word(list, 1) as u64 {
         return false;
     }
+    if list.len() % 4 != 0 {
+        return false;
+    }
     t.at == list.len() / 4
 }
 

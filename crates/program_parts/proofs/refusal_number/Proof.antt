@@ -1,8 +1,8 @@
 use borrow.Author.Needs.{needs}
 use mathlib.Core.Path.{ap, sym}
 use Rattle.meaning.specs.Calls.{numberOf}
-use Rattle.check_rules.proofs.refusal_number.Statement.{statement}
-use Rattle.check_rules.proofs.refusal_number.Tie as tie
+use Rattle.program_parts.proofs.refusal_number.Statement.{statement}
+use Rattle.program_parts.proofs.refusal_number.Tie as tie
 
 enum-told : tie.Need-enum-told
 enum-told c = search needs

@@ -4,6 +4,7 @@ use crate::listed::Listed;
 use crate::listed::is_known;
 use crate::listed::listed_at;
 use crate::listed::size;
+use crate::report;
 use crate::said::Said;
 use crate::said::said_by;
 use crate::tally::Tally;
@@ -89,6 +90,9 @@ fn call<'a>(list: &'a [u8], file: &'a [u8], t: Tally) -> Tally {
         return broken(t);
     }
     let same = is_as_listed(list, file, at + 12, c);
+    if !same {
+        report::differs(t.cases, at);
+    }
     compared(t, c.kind, c.refusal, same, at + size(c))
 }
 

@@ -19,6 +19,15 @@ fn line(compared: u64, differ: u64) {
     text(b"\n");
 }
 
+// a call that answers otherwise: which case it is on, counted from 1, and where it stands in the list
+pub fn differs(case: u64, at: usize) {
+    text(b"differs: case ");
+    number(case);
+    text(b", call at word ");
+    number(at as u64);
+    text(b"\n");
+}
+
 fn kinds(t: Tally) {
     text(b"call compared differ\n");
     text(b"check");

@@ -1,7 +1,8 @@
 // Asks a case's last node at every point, and prints each verdict with its steps and the greatest number of rows held.
-mod ask;
 mod input;
+mod plan;
 mod print;
+mod table;
 
 use libc::STDERR_FILENO;
 use libc::STDIN_FILENO;
@@ -13,7 +14,7 @@ fn main() {
         return;
     }
     if words < 2 {
-        input::answer(STDIN_FILENO, b"standard input");
+        input::print_table_of(STDIN_FILENO, b"standard input");
         return;
     }
     let mut path = io::buffer();
@@ -27,6 +28,6 @@ fn main() {
         os::fail(&path[..n]);
         return;
     }
-    input::answer(file, &path[..n]);
+    input::print_table_of(file, &path[..n]);
     libc::close(file);
 }

@@ -3,9 +3,10 @@ use crate::print::count;
 use equality::Decimal;
 use meaning::StrNo;
 use meaning::ValNo;
+use program_parts::byte;
+use program_parts::word;
 use tables::halves;
 use tables::wide;
-use tables::word_at;
 ghost use Rattle.meaning.specs.Check.{Checked};
 
 fn plus(a: usize, b: usize) -> usize {
@@ -17,22 +18,6 @@ fn one(yes: bool) -> usize {
         return 1;
     }
     0
-}
-
-// word i of the list, 0 beyond its end
-fn word(list: &[u8], i: usize) -> u32 {
-    if list.len() / 4 <= i {
-        return 0;
-    }
-    word_at(list, i)
-}
-
-// byte i of the list, 0 beyond its end
-fn byte(list: &[u8], i: usize) -> u8 {
-    if list.len() <= i {
-        return 0;
-    }
-    list[i]
 }
 
 // how many bytes of the case stand in the list, after its length

@@ -1,0 +1,32 @@
+-- What the program asks of a file, or what it refuses it with
+use mathlib.Core.List.{List}
+use mathlib.Core.Option.{Option, none, some}
+use Prim.Native.Nat.{ℕ, _-_}
+use lib.Dec.{eqb, ltb}
+use lib.ListN.{length}
+use Rattle.meaning.specs.declared.Refusal.{Refusal}
+use Rattle.meaning.specs.declared.Refusal.the-variants.{TooLarge, NoSuchNode}
+use Rattle.meaning.specs.Tests.{choose}
+use Rattle.meaning.specs.Case.{nodes, points, vars, conditions, sortOf, nodeAt}
+use Rattle.meaning.specs.Check.{check}
+use Rattle.meaning.specs.Calls.{isSort}
+use Rattle.bench.specs.declared.plan.Asking.{Asking}
+use Rattle.bench.specs.declared.plan.Plan.{Plan}
+use Rattle.bench.specs.declared.plan.Plan.the-variants.{Ask, Refuse}
+
+-- the last node, at every point
+abbrev pub askingOf : List ℕ → Asking
+askingOf s = record { node = record { 0 = nodes s - 1 }; points = points s; vars = vars s }
+
+-- no last node, or one that is no condition, is refused
+unfoldable pub planChecked : List ℕ → Plan
+planChecked s =
+    choose (eqb (nodes s) 0) (Refuse NoSuchNode)
+    (choose (isSort conditions (sortOf (nodeAt s (nodes s - 1)))) (Ask (askingOf s)) (Refuse NoSuchNode))
+
+unfoldable pub planAfter : Option Refusal → List ℕ → Plan
+planAfter none s = planChecked s
+planAfter (some n) s = Refuse n
+
+unfoldable pub planOf : List ℕ → Plan
+planOf s = choose (ltb 65536 (length s)) (Refuse TooLarge) (planAfter (check s) s)

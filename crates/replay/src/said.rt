@@ -1,0 +1,93 @@
+// What a public call says, in the list's terms.
+use crate::listed::Listed;
+use calls::SaidNumber;
+use calls::SaidRows;
+use calls::SaidVerdict;
+use casecheck::Checking;
+use meaning::Limits;
+use meaning::NodeNo;
+use meaning::Refusal;
+
+// a refusal's number or 0, the answer's 64 bits, steps spent, greatest number of rows held
+pub struct Said {
+    pub refusal: usize,
+    pub answer: u64,
+    pub steps: u64,
+    pub held: u64,
+}
+
+fn gives(answer: u64, steps: u64, held: usize) -> Said {
+    Said {
+        refusal: 0,
+        answer,
+        steps,
+        held: held as u64,
+    }
+}
+
+fn refuses(refusal: Refusal, steps: u64, held: usize) -> Said {
+    Said {
+        refusal: refusals::number(refusal) as usize,
+        answer: 0,
+        steps,
+        held: held as u64,
+    }
+}
+
+fn by_check(file: &[u8]) -> Said {
+    let checking = calls::check(file);
+    match checking {
+        Checking::Passes(_) => gives(0, 0, 0),
+        Checking::Refused(r) => refuses(r, 0, 0),
+    }
+}
+
+fn of_verdict(said: SaidVerdict) -> Said {
+    match said {
+        SaidVerdict::Gives(yes, steps, held) => {
+            if yes {
+                return gives(1, steps, held);
+            }
+            gives(0, steps, held)
+        }
+        SaidVerdict::Refuses(r, steps, held) => refuses(r, steps, held),
+    }
+}
+
+fn of_number(said: SaidNumber) -> Said {
+    match said {
+        SaidNumber::Gives(bits, steps, held) => gives(bits, steps, held),
+        SaidNumber::Refuses(r, steps, held) => refuses(r, steps, held),
+    }
+}
+
+fn of_rows(said: SaidRows) -> Said {
+    match said {
+        SaidRows::Gives(n, steps, held) => gives(n as u64, steps, held),
+        SaidRows::Refuses(r, steps, held) => refuses(r, steps, held),
+    }
+}
+
+// the call put to the public call of its kind
+pub fn said_by(
+    file: &[u8],
+    c: Listed,
+    start: &[u64],
+    binders: &[u32],
+    work: &mut [u64],
+    output: &mut [u64],
+) -> Said {
+    let point = c.point;
+    let node = NodeNo(c.node);
+    let limits = Limits {
+        steps: c.limit,
+        room: c.room,
+    };
+    let kind = c.kind;
+    match kind {
+        0 => by_check(file),
+        1 => of_verdict(calls::verdict(file, point, node, start, limits, work)),
+        2 => of_number(calls::number(file, point, node, start, limits, work)),
+        _ => of_rows(calls::rows(file, point, node, start, limits, binders, work, output)),
+    }
+}

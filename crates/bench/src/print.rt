@@ -1,7 +1,6 @@
 // What the program writes to standard output.
 use libc::STDOUT_FILENO;
 use meaning::Refusal;
-use program_parts::refusal_number;
 
 fn text(t: &[u8]) {
     io::write_all(STDOUT_FILENO, t);
@@ -13,7 +12,7 @@ fn number(n: u64) {
 
 fn refusal(r: Refusal) {
     text(b"refused ");
-    number(refusal_number(r) as u64);
+    number(refusals::number(r));
 }
 
 // no table, but why there is none

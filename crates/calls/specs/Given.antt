@@ -8,6 +8,7 @@ use lib.ListN.{length, drop}
 use Rattle.meaning.specs.declared.Meter.{Meter}
 use Rattle.meaning.specs.declared.Refusal.the-variants.{BadOutput}
 use Rattle.meaning.specs.Tests.{_and_}
+use Rattle.meaning.specs.Walk.{Outcome, answered, refused}
 use Rattle.meaning.specs.Case.{caseOf}
 use Rattle.meaning.specs.Rows.{Row, onto, addNew}
 use Rattle.meaning.specs.Calls.{Said, gives, refuses, walked, told, filled, allUnder}
@@ -37,6 +38,21 @@ outputOf binders output kept false = output
 pub record Given (s : List ℕ) (v : ℕ) (m : Meter) (binders : List ℕ) (rows : List Row) (output after : List ℕ) (r : SaidRows) : Type 0 where
   pub said : asRows r ≡ saidOf (keptOf s binders rows) m (fitting v binders output (keptOf s binders rows))
   pub written : after ≡ outputOf binders output (keptOf s binders rows) (fitting v binders output (keptOf s binders rows))
+
+-- what the walk for rows came to, told, and the output after it
+unfoldable pub saidFrom : List ℕ → ℕ → List ℕ → List ℕ → Outcome (List Row) → Said ℕ
+saidFrom s v binders output (answered rows m) =
+    saidOf (keptOf s binders rows) m (fitting v binders output (keptOf s binders rows))
+saidFrom s v binders output (refused n m) = refuses n (m .steps) (m .most)
+
+unfoldable pub outputFrom : List ℕ → ℕ → List ℕ → List ℕ → Outcome (List Row) → List ℕ
+outputFrom s v binders output (answered rows m) =
+    outputOf binders output (keptOf s binders rows) (fitting v binders output (keptOf s binders rows))
+outputFrom s v binders output (refused n m) = output
+
+pub record TellsRows (s : List ℕ) (v : ℕ) (binders output : List ℕ) (o : Outcome (List Row)) (after : List ℕ) (r : SaidRows) : Type 0 where
+  pub said : asRows r ≡ saidFrom s v binders output o
+  pub written : after ≡ outputFrom s v binders output o
 
 -- a walk's verdict or number, told
 pub record TellsVerdict (v : WalkVerdict) (r : SaidVerdict) : Type 0 where

@@ -1,10 +1,14 @@
 -- What is against a call of a checked case, and what it starts with where nothing is
 use mathlib.Core.Path.{_≡_}
+use mathlib.Core.Bool.{Bool}
 use mathlib.Core.Option.{Option, none, some}
 use Prim.Native.Nat.{ℕ, _*_, _≤_, _<_}
+use lib.Dec.{ltb}
 use lib.ListN.{length}
 use Rattle.meaning.specs.declared.Env.{Env}
+use Rattle.meaning.specs.declared.Limits.{Limits}
 use Rattle.meaning.specs.declared.Refusal.{Refusal}
+use Rattle.meaning.specs.Tests.{_or_}
 use Rattle.meaning.specs.Case.{conditions, aggregates, decode, vars}
 use Rattle.meaning.specs.Case.{Sort as NodeSort}
 use Rattle.meaning.specs.Rows.{rowOf}
@@ -19,6 +23,10 @@ use Rattle.calls.specs.declared.opening.Opening.{Opening}
 unfoldable pub sortFor : Sort → NodeSort
 sortFor Condition = conditions
 sortFor Aggregate = aggregates
+
+-- the definition's test of limits, by the numbers that it reads: variables, limits, cells of the workspace
+abbrev pub overLimits : ℕ → Limits → ℕ → Bool
+overLimits v limits cells = ltb 1000000000 (limits .steps) or (ltb 16384 (limits .room) or ltb cells (2 * v * limits .room))
 
 unfoldable pub refusalIn : Against → Option Refusal
 refusalIn Nothing = none

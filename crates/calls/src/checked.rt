@@ -6,6 +6,7 @@ use super::opening::Against;
 use super::opening::Sort;
 use super::opening::open;
 use evaluator::Call;
+use meaning::Env;
 use meaning::Limits;
 use meaning::Meter;
 use meaning::NodeNo;
@@ -14,14 +15,16 @@ use rows::Relation;
 use rows::Shape;
 ghost use mathlib.Core.Path.{_≡_};
 ghost use mathlib.Core.Bool.{Bool};
-ghost use Prim.Native.Nat.{_≤_, _*_};
+ghost use Prim.Native.Nat.{_≤_, _<_, _*_};
 ghost use lib.Dec.{leb};
 ghost use lib.ListN.{take, length};
+ghost use Rattle.meaning.specs.Walk.{started, outcome};
 ghost use Rattle.meaning.specs.Check.{Checked};
 ghost use Rattle.meaning.specs.Calls.{allUnder};
 ghost use Rattle.rows.specs.Table.{Fit, rowsIn};
+ghost use Rattle.evaluator.specs.Asks.{Ready, rowsFor, nodeRows};
 ghost use Rattle.calls.specs.Promises.{callOf, Verdicts, Numbers, Rowed};
-ghost use Rattle.calls.specs.Given.{TellsVerdict, TellsNumber, Given};
+ghost use Rattle.calls.specs.Given.{TellsVerdict, TellsNumber, TellsRows, Given};
 
 fn told_verdict(v: evaluator::Verdict) -> SaidVerdict
     ensures { λ r. ⌜ TellsVerdict v r ⌝ }
@@ -134,13 +137,13 @@ fn all_under(vars: usize, binders: &[u32]) -> bool
     ensures { λ r. ⌜ _≡_ {A = Bool} r (allUnder vars (now (binders .entry))) ⌝ }
 {
     let n = binders.len();
-    let mut k = n;
-    while 0 < k {
-        k -= 1;
+    let mut k = 0;
+    while k < n {
         let x = tables::wide(binders[k]);
         if vars <= x {
             return false;
         }
+        k += 1;
     }
     true
 }
@@ -167,7 +170,7 @@ fn give_rows(
 ) -> SaidRows
     requires { ⌜ Checked (now s) ⌝ }
     requires { ⌜ Fit shape (now work) × (m .held ≤ shape .room) ⌝ }
-    ensures { λ r. ⌜ Given (now (s .entry)) (shape .vars) m (now (binders .entry)) (take (m .held) (rowsIn shape (now (work .entry)))) (now (output .entry)) (now (output .exit)) r × (length (now (work .exit)) ≡ length (now (work .entry))) ⌝ }
+    ensures { λ r. ⌜ Given (now (s .entry)) (shape .vars) m (now (binders .entry)) (take (m .held) (rowsIn shape (now (work .entry)))) (now (output .entry)) (now (output .exit)) r ⌝ }
 {
     if !all_under(shape.vars, binders) {
         return SaidRows::Refuses(Refusal::BadOutput, m.steps, m.most);
@@ -178,6 +181,39 @@ fn give_rows(
     }
     rows::output::write_rows(work, shape, 0, kept, binders, output);
     SaidRows::Gives(kept, m.steps, m.most)
+}
+
+// the walk for rows, and what it gives
+fn walk_rows(
+    s: &[u8],
+    part: &mut [u64],
+    call: Call,
+    env: Env,
+    node: NodeNo,
+    binders: &[u32],
+    output: &mut [u64],
+) -> SaidRows
+    requires { ⌜ Ready (now s) call env started (now part) ⌝ }
+    requires { ⌜ call .asked < 16384 ⌝ }
+    ensures { λ r. ⌜ TellsRows (now (s .entry)) (call .vars) (now (binders .entry)) (now (output .entry)) (outcome (call .limits) started (rowsFor (now (s .entry)) call env (nodeRows (node .0) (call .asked)))) (now (output .exit)) r ⌝ }
+{
+    let started = Meter {
+        steps: 0,
+        held: 0,
+        most: 0,
+    };
+    let found = evaluator::match_occurrences(s, part, call, env, node, call.asked, started);
+    match found {
+        Relation::Held(m) => {
+            let limits = call.limits;
+            let shape = Shape {
+                vars: call.vars,
+                room: limits.room,
+            };
+            give_rows(s, part, shape, m, binders, output)
+        }
+        Relation::Refused(refusal, m) => SaidRows::Refuses(refusal, m.steps, m.most),
+    }
 }
 
 pub fn rows(
@@ -200,39 +236,15 @@ pub fn rows(
         Against::Refused(refusal) => SaidRows::Refuses(refusal, 0, 0),
         Against::Nothing => {
             let vars = env.count;
-            let room = limits.room;
-            let cells = 2 * vars * room;
+            let cells = 2 * vars * limits.room;
             let call = Call {
                 limits,
                 vars,
                 asked: point,
             };
-            let started = Meter {
-                steps: 0,
-                held: 0,
-                most: 0,
-            };
-            let found = evaluator::match_occurrences(
-                file,
-                &mut work[..cells],
-                call,
-                env,
-                node,
-                point,
-                started,
-            );
-            match found {
-                Relation::Held(m) => {
-                    let shape = Shape { vars, room };
-                    let given = give_rows(file, &mut work[..cells], shape, m, binders, output);
-                    rows::output::clear(work, cells);
-                    given
-                }
-                Relation::Refused(refusal, m) => {
-                    rows::output::clear(work, cells);
-                    SaidRows::Refuses(refusal, m.steps, m.most)
-                }
-            }
+            let given = walk_rows(file, &mut work[..cells], call, env, node, binders, output);
+            rows::output::clear(work, cells);
+            given
         }
     }
 }

@@ -5,18 +5,15 @@ use meaning::Limits;
 use meaning::Node;
 use meaning::NodeNo;
 use meaning::Refusal;
-use stringcheck::node_count;
 use stringcheck::point_count;
 ghost use mathlib.Core.Path.{_≡_};
-ghost use mathlib.Core.Bool.{Bool, true};
-ghost use Prim.Native.Nat.{_≤_, _*_};
-ghost use lib.Dec.{ltb};
-ghost use Rattle.meaning.specs.Tests.{_or_};
-ghost use Rattle.meaning.specs.Case.{conditions, sortOf};
+ghost use mathlib.Core.Bool.{Bool};
+ghost use Prim.Native.Nat.{_≤_};
+ghost use Rattle.meaning.specs.Case.{conditions, aggregates, sortOf};
 ghost use Rattle.meaning.specs.Check.{Checked};
 ghost use Rattle.meaning.specs.Calls.{isSort};
 ghost use Rattle.calls.specs.Promises.{callOf};
-ghost use Rattle.calls.specs.Opening.{sortFor, turnedDown, Opens};
+ghost use Rattle.calls.specs.Opening.{sortFor, overLimits, turnedDown, Opens};
 
 // the sort of node that a call answers
 pub enum Sort {
@@ -38,55 +35,56 @@ pub struct Opening {
 fn is_sort(sort: Sort, node: Node) -> bool
     ensures { λ r. ⌜ _≡_ {A = Bool} r (isSort (sortFor sort) (sortOf node)) ⌝ }
 {
+    match sort {
+        Sort::Condition => is_condition(node),
+        Sort::Aggregate => is_aggregate(node),
+    }
+}
+
+fn is_condition(node: Node) -> bool
+    ensures { λ r. ⌜ _≡_ {A = Bool} r (isSort conditions (sortOf node)) ⌝ }
+{
     match node {
-        Node::And(_, _) => is_condition(sort),
-        Node::Or(_, _) => is_condition(sort),
-        Node::Not(_) => is_condition(sort),
-        Node::Formerly(_, _) => is_condition(sort),
-        Node::Previous(_, _) => is_condition(sort),
-        Node::Since(_, _, _) => is_condition(sort),
-        Node::Predicate {
+        Node::And(_, _)
+        | Node::Or(_, _)
+        | Node::Not(_)
+        | Node::Formerly(_, _)
+        | Node::Previous(_, _)
+        | Node::Since(_, _, _)
+        | Node::Predicate {
             namespace: _,
             action: _,
             kind: _,
             arguments: _,
-        } => is_condition(sort),
-        Node::Comparison(_, _, _) => is_condition(sort),
-        Node::Exists(_, _) => is_condition(sort),
-        Node::Tp(_) => is_condition(sort),
-        Node::Literal(_) => false,
-        Node::Context(_) => false,
-        Node::Scope(_, _) => false,
-        Node::Variable(_) => false,
-        Node::Wildcard => false,
-        Node::Aggregate(_) => false,
-        Node::Arithmetic(_, _, _) => false,
+        }
+        | Node::Comparison(_, _, _)
+        | Node::Exists(_, _)
+        | Node::Tp(_) => true,
+        _ => false,
+    }
+}
+
+fn is_aggregate(node: Node) -> bool
+    ensures { λ r. ⌜ _≡_ {A = Bool} r (isSort aggregates (sortOf node)) ⌝ }
+{
+    match node {
         Node::Sum {
             variable: _,
             binders: _,
             body: _,
-        } => !is_condition(sort),
-        Node::Count {
+        }
+        | Node::Count {
             binders: _,
             body: _,
-        } => !is_condition(sort),
-        Node::Broken => false,
-    }
-}
-
-fn is_condition(sort: Sort) -> bool
-    ensures { λ r. ⌜ _≡_ {A = Bool} r (isSort (sortFor sort) conditions) ⌝ }
-{
-    match sort {
-        Sort::Condition => true,
-        Sort::Aggregate => false,
+        } => true,
+        _ => false,
     }
 }
 
 // limits above their most, or a workspace too short for the rows
 fn beyond(vars: usize, limits: Limits, cells: usize) -> bool
     requires { ⌜ vars ≤ 16 ⌝ }
-    ensures { λ r. ⌜ _≡_ {A = Bool} r (ltb 1000000000 (limits .steps) or (ltb 16384 (limits .room) or ltb cells (2 * vars * limits .room))) ⌝ }
+    ensures { λ r. ⌜ _≡_ {A = Bool} r (overLimits vars limits cells) ⌝ }
 {
     if 1000000000 < limits.steps {
         return true;
@@ -106,6 +104,7 @@ fn refused(refusal: Refusal, env: Env) -> Opening
     }
 }
 
+// the lowest of 7 to 10 that is broken, or none
 pub fn open(
     s: &[u8],
     sort: Sort,
@@ -120,17 +119,17 @@ pub fn open(
 {
     let first = start_env(s, start);
     let env = first.env;
-    let nd = tables::node_at(s, node);
     if point_count(s) as usize <= point {
         return refused(Refusal::NoSuchPoint, env);
     }
-    if node_count(s) <= node.0 {
+    // beyond the table a node is Broken, of neither sort
+    let asked = tables::node_at(s, node);
+    let sorted = is_sort(sort, asked);
+    let started = first.ok;
+    if !sorted {
         return refused(Refusal::NoSuchNode, env);
     }
-    if !is_sort(sort, nd) {
-        return refused(Refusal::NoSuchNode, env);
-    }
-    if !first.ok {
+    if !started {
         return refused(Refusal::BadStart, env);
     }
     if beyond(env.count, limits, work.len()) {

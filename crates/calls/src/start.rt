@@ -2,14 +2,14 @@
 use meaning::Binding;
 use meaning::Env;
 use meaning::ValNo;
+use rows::env::bind;
 use stringcheck::string_count;
 use stringcheck::value_count;
 use stringcheck::var_count;
 use tables::Value;
 ghost use mathlib.Core.Path.{_≡_};
-ghost use mathlib.Core.Bool.{Bool, true};
-ghost use Prim.Native.Nat.{_<_};
-ghost use Rattle.meaning.specs.Case.{decode, valueAt, values, strings, vars};
+ghost use mathlib.Core.Bool.{Bool, not};
+ghost use Rattle.meaning.specs.Case.{decode, valueAt};
 ghost use Rattle.meaning.specs.Check.{Checked};
 ghost use Rattle.meaning.specs.Calls.{isInt, wellFormed};
 ghost use Rattle.calls.specs.Start.{Starts};
@@ -23,18 +23,12 @@ pub struct Start {
 // whether a value is no Int
 fn is_no_int(s: &[u8], v: ValNo) -> bool
     requires { ⌜ Checked (now s) ⌝ }
-    ensures { λ r. ⌜ _≡_ {A = Bool} r (mathlib.Core.Bool.not (isInt (valueAt (now (s .entry)) (v .0)))) ⌝ }
+    ensures { λ r. ⌜ _≡_ {A = Bool} r (not (isInt (valueAt (now (s .entry)) (v .0)))) ⌝ }
 {
     let value = tables::value_at(s, v);
     match value {
-        Value::Null => true,
-        Value::Bool(_) => true,
         Value::Int(_) => false,
-        Value::Decimal(_) => true,
-        Value::Text(_) => true,
-        Value::Entity(_, _) => true,
-        Value::Array(_) => true,
-        Value::Object(_) => true,
+        _ => true,
     }
 }
 
@@ -78,13 +72,13 @@ pub fn start_env(s: &[u8], start: &[u64]) -> Start
     let mut x = v;
     while 0 < x {
         x -= 1;
-        let tag = start[2 * x];
-        let bits = start[2 * x + 1];
-        if well_formed(s, tag, bits) {
-            env.slots[x] = Binding { tag, bits };
-            continue;
+        let at = 2 * x;
+        let tag = start[at];
+        let bits = start[at + 1];
+        if !well_formed(s, tag, bits) {
+            return Start { ok: false, env };
         }
-        return Start { ok: false, env };
+        env = bind(env, x, Binding { tag, bits });
     }
     Start { ok: true, env }
 }

@@ -2,7 +2,6 @@
 use casecheck::Checking;
 use casecheck::check;
 use libc::STDOUT_FILENO;
-use program_parts::refusal_number;
 use tables::wide;
 use tables::word_at;
 ghost use mathlib.Core.Path.{_≡_};
@@ -16,7 +15,7 @@ fn answer_number(file: &[u8]) -> usize
     let answer = check(file);
     match answer {
         Checking::Passes(contents) => 0,
-        Checking::Refused(r) => refusal_number(r),
+        Checking::Refused(r) => refusals::number(r) as usize,
     }
 }
 

@@ -2,3 +2,4 @@ pub mod Comparing
 pub mod Leaves
 pub mod Fields
 pub mod Events
+pub mod Before

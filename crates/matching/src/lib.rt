@@ -1,9 +1,11 @@
-// What the evaluators do besides control: leaf terms, a Predicate matched at a point, Tp, two sides compared or combined. Each equals its definition.
+// What the evaluators do besides control: leaf terms, a Predicate matched at a point, Tp, the point before, two sides compared or combined. Each equals its definition.
 use meaning::Env;
 
+mod points;
 mod predicates;
 mod sides;
 
+pub use points::previous_point;
 pub use predicates::match_predicate;
 pub use predicates::tp_row;
 pub use sides::arithmetic;
@@ -22,4 +24,10 @@ pub struct Matched {
 pub enum Variable {
     Is(u32),
     Not,
+}
+
+// a point that was sought, if there is one
+pub enum Earlier {
+    At(usize),
+    Nowhere,
 }

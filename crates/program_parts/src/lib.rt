@@ -1,32 +1,10 @@
-// What several programs share: words, cells and bytes of a packed list, 0 beyond its end, and a refusal's number.
-use meaning::Refusal;
+// What several programs share: words, cells and bytes of a packed list, 0 beyond its end.
 use tables::halves;
 use tables::word_at;
 ghost use mathlib.Core.Path.{_≡_};
-ghost use Prim.Native.Nat.{_+_, _*_, _<_};
+ghost use Prim.Native.Nat.{_+_, _*_};
 ghost use lib.ListN.{getD};
 ghost use Rattle.meaning.specs.Case.{words};
-ghost use Rattle.meaning.specs.Calls.{numberOf};
-
-pub fn refusal_number(r: Refusal) -> usize
-    ensures { λ n. ⌜ (n ≡ numberOf r) × (n < 14) ⌝ }
-{
-    match r {
-        Refusal::BadContents => 1,
-        Refusal::TooLarge => 2,
-        Refusal::BadStrings => 3,
-        Refusal::BadValues => 4,
-        Refusal::BadPoints => 5,
-        Refusal::BadNodes => 6,
-        Refusal::NoSuchPoint => 7,
-        Refusal::NoSuchNode => 8,
-        Refusal::BadStart => 9,
-        Refusal::BadLimits => 10,
-        Refusal::StepsExhausted => 11,
-        Refusal::RoomExhausted => 12,
-        Refusal::BadOutput => 13,
-    }
-}
 
 // word i of a list
 pub fn word(list: &[u8], i: usize) -> u32

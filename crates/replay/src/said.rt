@@ -7,7 +7,6 @@ use casecheck::Checking;
 use meaning::Limits;
 use meaning::NodeNo;
 use meaning::Refusal;
-use program_parts::refusal_number;
 
 // a refusal's number or 0, the answer's 64 bits, steps spent, greatest number of rows held
 pub struct Said {
@@ -28,7 +27,7 @@ fn gives(answer: u64, steps: u64, held: usize) -> Said {
 
 fn refuses(refusal: Refusal, steps: u64, held: usize) -> Said {
     Said {
-        refusal: refusal_number(refusal),
+        refusal: refusals::number(refusal) as usize,
         answer: 0,
         steps,
         held: held as u64,

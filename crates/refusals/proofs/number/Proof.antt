@@ -1,8 +1,8 @@
 use borrow.Author.Needs.{needs}
 use mathlib.Core.Path.{ap, sym}
 use Rattle.meaning.specs.Calls.{numberOf}
-use Rattle.program_parts.proofs.refusal_number.Statement.{statement}
-use Rattle.program_parts.proofs.refusal_number.Tie as tie
+use Rattle.refusals.proofs.number.Statement.{statement}
+use Rattle.refusals.proofs.number.Tie as tie
 
 enum-told : tie.Need-enum-told
 enum-told c = search needs
@@ -95,8 +95,8 @@ returns-13 : tie.Need-returns-13
 unfolding numberOf
 returns-13 c = (sym (ap numberOf (c .enum-told13 .given .1)), search needs)
 
-pub refusal-number-spec : {M : Type 1} → statement M
-refusal-number-spec =
+pub number-spec : {M : Type 1} → statement M
+number-spec =
     tie.close
     (tie.spec
     enum-told

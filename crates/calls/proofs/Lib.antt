@@ -1,0 +1,7 @@
+pub mod Starts
+pub mod Openings
+pub mod Told
+pub mod Asked
+pub mod Given
+pub mod RowsAsked
+pub mod Unchecked

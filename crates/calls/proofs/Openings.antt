@@ -1,0 +1,235 @@
+-- What is against a call, test by test
+use mathlib.Core.Path.{_≡_, refl, ap, sym, _∙_}
+use mathlib.Core.Bool.{Bool, true, false, not}
+use mathlib.Core.List.{List, [], _∷_}
+use mathlib.Core.Option.{Option, some}
+use Prim.Native.Nat.{ℕ, _*_, _≤_, _<_}
+use mathlib.Core.Logic.{inl, inr}
+use native.Mathlib.Omega.{arith}
+use native.Mathlib.Nat.{mul-le-mul, mul-le-mul-left}
+use lib.Dec.{leb, ltb}
+use lib.ListN.{length}
+use mir.Val.{Fits}
+use mir.Syntax.{w64}
+use types.Run.{OneOf}
+use denote.Enum.Declared.{tagOf}
+use borrow.Author.Tests.{leb-true, le-leb, lt-leb, lt-ltb, le-ltb, ltb-false, not-true, not-false}
+use Rattle.meaning.proofs.Node.{the-type}
+use Rattle.meaning.specs.declared.Limits.{Limits}
+use Rattle.meaning.specs.declared.Node.{Node}
+use Rattle.meaning.specs.declared.Node.the-variants.{And, Or, Not, Formerly, Previous, Since, Predicate, Comparison, Exists, Tp, Literal, Context, Scope, Variable, Wildcard, Aggregate, Arithmetic, Sum, Count, Broken}
+use Rattle.meaning.specs.declared.Refusal.{Refusal}
+use Rattle.meaning.specs.declared.Refusal.the-variants.{NoSuchPoint, NoSuchNode, BadStart, BadLimits}
+use Rattle.meaning.specs.Tests.{_and_, _or_, choose, onlyIf, isSome, pick}
+use Rattle.meaning.specs.Case.{Sort, conditions, terms, aggregates, broken, sortOf, points, nodes, vars, nodeAt, caseOf, decode}
+use Rattle.meaning.specs.Check.{Checked, bodies}
+use Rattle.meaning.specs.Rows.{rowOf}
+use Rattle.meaning.specs.Calls.{Call, isSort, beyond, against, startRow, startOr}
+use Rattle.meaning.specs.Laws.Tests.{both, yes, no}
+use Rattle.meaning.specs.Laws.Checked.{checked-bodies, points-most}
+use Rattle.meaning.specs.Laws.Nodes.{node-beyond}
+use Rattle.calls.specs.declared.opening.Sort.{Sort as Wanted}
+use Rattle.calls.specs.declared.opening.Sort.the-variants.{Condition, Aggregate as Aggregates}
+use Rattle.calls.specs.declared.opening.Opening.{Opening}
+use Rattle.calls.specs.declared.opening.Against.the-variants.{Nothing}
+use Rattle.calls.specs.declared.start.Start.{Start}
+use Rattle.calls.specs.Start.{Starts}
+use Rattle.calls.specs.Opening.{sortFor, overLimits, refusalIn, turnedDown, Opens}
+
+-- ---- sorts, by the number of a node's variant
+
+sorts : List Sort
+sorts =
+    conditions ∷ conditions ∷ conditions ∷ conditions ∷ conditions ∷ conditions ∷ conditions ∷ conditions ∷ conditions ∷ conditions
+    ∷ terms ∷ terms ∷ terms ∷ terms ∷ terms ∷ terms ∷ terms ∷ aggregates ∷ aggregates ∷ broken ∷ []
+
+sort-is : (nd : Node) → sortOf nd ≡ pick sorts (tagOf the-type nd) broken
+unfolding sortOf sorts pick
+sort-is (And l r) = refl
+sort-is (Or l r) = refl
+sort-is (Not n) = refl
+sort-is (Formerly span n) = refl
+sort-is (Previous span n) = refl
+sort-is (Since l r span) = refl
+sort-is (Predicate namespace action kind arguments) = refl
+sort-is (Comparison op l r) = refl
+sort-is (Exists x n) = refl
+sort-is (Tp x) = refl
+sort-is (Literal v) = refl
+sort-is (Context path) = refl
+sort-is (Scope root path) = refl
+sort-is (Variable x) = refl
+sort-is Wildcard = refl
+sort-is (Aggregate n) = refl
+sort-is (Arithmetic op l r) = refl
+sort-is (Sum x binders n) = refl
+sort-is (Count binders n) = refl
+sort-is Broken = refl
+
+-- what a test says of each number it says of one of them
+allOf : (ℕ → Bool) → List ℕ → Bool
+allOf test [] = true
+allOf test (k ∷ ks) = test k and allOf test ks
+
+one-of : (test : ℕ → Bool) (ks : List ℕ) (n : ℕ) → allOf test ks ≡ true → OneOf ks n → test n ≡ true
+unfolding allOf
+one-of test [] n all h = absurd h
+one-of test (k ∷ []) n all h = rw h (both _ _ all .0)
+one-of test (k ∷ j ∷ ks) n all (inl h) = rw h (both _ _ all .0)
+one-of test (k ∷ j ∷ ks) n all (inr h) = one-of test (j ∷ ks) n (both _ _ all .1) h
+
+module _ (sort : Sort) (ks : List ℕ) (nd : Node) (h : OneOf ks (tagOf the-type nd)) where
+  is-of : allOf (λ k. isSort sort (pick sorts k broken)) ks ≡ true → true ≡ isSort sort (sortOf nd)
+  is-of all = sym (rw (sort-is nd) (one-of (λ k. isSort sort (pick sorts k broken)) ks (tagOf the-type nd) all h))
+
+  is-not-of : allOf (λ k. not (isSort sort (pick sorts k broken))) ks ≡ true → false ≡ isSort sort (sortOf nd)
+  is-not-of all = sym (rw (sort-is nd) (not-true _ (one-of (λ k. not (isSort sort (pick sorts k broken))) ks (tagOf the-type nd) all h)))
+
+module _ (nd : Node) where
+  pub condition : OneOf (0 ∷ 1 ∷ 2 ∷ 3 ∷ 4 ∷ 5 ∷ 6 ∷ 7 ∷ 8 ∷ 9 ∷ []) (tagOf the-type nd) → true ≡ isSort conditions (sortOf nd)
+  unfolding allOf isSort pick sorts _and_
+  condition h = is-of conditions (0 ∷ 1 ∷ 2 ∷ 3 ∷ 4 ∷ 5 ∷ 6 ∷ 7 ∷ 8 ∷ 9 ∷ []) nd h refl
+
+  pub no-condition : OneOf (10 ∷ 11 ∷ 12 ∷ 13 ∷ 14 ∷ 15 ∷ 16 ∷ 17 ∷ 18 ∷ 19 ∷ []) (tagOf the-type nd) → false ≡ isSort conditions (sortOf nd)
+  unfolding allOf isSort pick sorts _and_
+  no-condition h = is-not-of conditions (10 ∷ 11 ∷ 12 ∷ 13 ∷ 14 ∷ 15 ∷ 16 ∷ 17 ∷ 18 ∷ 19 ∷ []) nd h refl
+
+  pub aggregate : OneOf (17 ∷ 18 ∷ []) (tagOf the-type nd) → true ≡ isSort aggregates (sortOf nd)
+  unfolding allOf isSort pick sorts _and_
+  aggregate h = is-of aggregates (17 ∷ 18 ∷ []) nd h refl
+
+  pub no-aggregate : OneOf (0 ∷ 1 ∷ 2 ∷ 3 ∷ 4 ∷ 5 ∷ 6 ∷ 7 ∷ 8 ∷ 9 ∷ 10 ∷ 11 ∷ 12 ∷ 13 ∷ 14 ∷ 15 ∷ 16 ∷ 19 ∷ []) (tagOf the-type nd) → false ≡ isSort aggregates (sortOf nd)
+  unfolding allOf isSort pick sorts _and_
+  no-aggregate h = is-not-of aggregates (0 ∷ 1 ∷ 2 ∷ 3 ∷ 4 ∷ 5 ∷ 6 ∷ 7 ∷ 8 ∷ 9 ∷ 10 ∷ 11 ∷ 12 ∷ 13 ∷ 14 ∷ 15 ∷ 16 ∷ 19 ∷ []) nd h refl
+
+module _ (sort : Wanted) (nd : Node) (r : Bool) where
+  pub sort-condition : sort ≡ Condition → r ≡ isSort conditions (sortOf nd) → r ≡ isSort (sortFor sort) (sortOf nd)
+  unfolding sortFor
+  sort-condition e is = rw e is
+
+  pub sort-aggregate : sort ≡ Aggregates → r ≡ isSort aggregates (sortOf nd) → r ≡ isSort (sortFor sort) (sortOf nd)
+  unfolding sortFor
+  sort-aggregate e is = rw e is
+
+-- beyond the table no node is of a sort that is asked for
+broken-none : (sort : Sort) → isSort sort (sortOf Broken) ≡ false
+unfolding isSort sortOf
+broken-none conditions = refl
+broken-none terms = refl
+broken-none aggregates = refl
+broken-none broken = refl
+
+no-sort-beyond : (sort : Sort) (s : List ℕ) (n : ℕ) → bodies s ≡ true → (leb (nodes s) n or not (isSort sort (sortOf (nodeAt s n)))) ≡ not (isSort sort (sortOf (nodeAt s n)))
+unfolding _or_
+no-sort-beyond sort s n h =
+    go (leb (nodes s) n) refl
+  where
+    go : (b : Bool) → leb (nodes s) n ≡ b → (b or not (isSort sort (sortOf (nodeAt s n)))) ≡ not (isSort sort (sortOf (nodeAt s n)))
+    go true e = rw (node-beyond s h n (leb-true (nodes s) n e), broken-none sort)
+    go false e = refl
+
+-- ---- limits
+
+neither : (a b : Bool) → (a or b) ≡ false → (a ≡ false) × (b ≡ false)
+unfolding _or_
+neither true b e = (e, cc)
+neither false b e = (refl, e)
+
+module _ (vars : ℕ) (limits : Limits) (cells : ℕ) where
+  pub steps-beyond : 1000000000 < limits .steps → true ≡ overLimits vars limits cells
+  unfolding _or_
+  steps-beyond h = rw (lt-ltb 1000000000 (limits .steps) h)
+
+  module _ (few : limits .steps ≤ 1000000000) where
+    pub room-beyond : 16384 < limits .room → true ≡ overLimits vars limits cells
+    unfolding _or_
+    room-beyond h = rw (le-ltb 1000000000 (limits .steps) few, lt-ltb 16384 (limits .room) h)
+
+    pub cells-beyond : limits .room ≤ 16384 → ltb cells (2 * vars * limits .room) ≡ overLimits vars limits cells
+    unfolding _or_
+    cells-beyond h = rw (le-ltb 1000000000 (limits .steps) few, le-ltb 16384 (limits .room) h)
+
+  beyond-not : overLimits vars limits cells ≡ false → (limits .room ≤ 16384) × (2 * vars * limits .room ≤ cells)
+  beyond-not e =
+      let room-on = neither (ltb 1000000000 (limits .steps)) _ e .1 in
+      (ltb-false 16384 (limits .room) (neither _ _ room-on .0), ltb-false cells (2 * vars * limits .room) (neither _ _ room-on .1))
+
+pub room-fits : {v n : ℕ} → v ≤ 16 → n ≤ 16384 → Fits w64 (2 * v * n)
+room-fits {v} {n} few small = record { fits = omega (arith, mul-le-mul (mul-le-mul-left 2 few) small) }
+
+some-if : {A : Type 0} (b : Bool) (x : A) → isSome (onlyIf b x) ≡ b
+unfolding isSome onlyIf
+some-if true x = refl
+some-if false x = refl
+
+-- ---- a call, refused or opened
+
+module _ (sort : Sort) (c : Call) (first : Start) where
+  abbrev limits-last : Option Refusal
+  limits-last = onlyIf (beyond (decode (c .file)) c) BadLimits
+
+  abbrev start-next : Option Refusal
+  start-next = choose (not (isSome (startRow (decode (c .file)) (vars (c .file)) (c .start)))) (some BadStart) limits-last
+
+  abbrev node-next : Option Refusal
+  node-next = choose (leb (nodes (c .file)) (c .node) or not (isSort sort (sortOf (nodeAt (c .file) (c .node))))) (some NoSuchNode) start-next
+
+  refused-with : (n : Refusal) {r : Opening} → against sort (decode (c .file)) c ≡ some n → r ≡ turnedDown n (first .env) → Opens sort c r
+  unfolding refusalIn
+  refused-with n e is = rw is (record { is = sym e; opened = tt })
+
+  module _ (many : ℕ) (points-are : many ≡ points (c .file)) where
+    pub no-such-point : {r : Opening} → many ≤ c .point → r ≡ turnedDown NoSuchPoint (first .env) → Opens sort c r
+    unfolding against decode
+    no-such-point le is = refused-with NoSuchPoint (yes _ (le-leb (points (c .file)) (c .point) (omega arith))) is
+
+    module _ (there : c .point < many) (passed : Checked (c .file)) (nd : Node) (node-is : nd ≡ nodeAt (c .file) (c .node)) (right : Bool) (sorted : right ≡ isSort sort (sortOf nd)) where
+      past-point : {x : Option Refusal} → node-next ≡ x → against sort (decode (c .file)) c ≡ x
+      unfolding against decode caseOf
+      past-point e = no _ (lt-leb (points (c .file)) (c .point) (omega arith)) e
+
+      node-test : (leb (nodes (c .file)) (c .node) or not (isSort sort (sortOf (nodeAt (c .file) (c .node))))) ≡ not right
+      node-test =
+          no-sort-beyond sort (c .file) (c .node) (checked-bodies passed)
+          ∙ ap not (sym (sorted ∙ ap (λ (n : Node). isSort sort (sortOf n)) node-is))
+
+      pub no-such-node : {r : Opening} → not right ≡ true → r ≡ turnedDown NoSuchNode (first .env) → Opens sort c r
+      no-such-node wrong is = refused-with NoSuchNode (past-point (yes _ (node-test ∙ wrong))) is
+
+      module _ (fine : not right ≡ false) (starts : Starts (c .file) (c .start) first) where
+        past-node : {x : Option Refusal} → start-next ≡ x → against sort (decode (c .file)) c ≡ x
+        past-node e = past-point (no _ (node-test ∙ fine) e)
+
+        start-test : isSome (startRow (decode (c .file)) (vars (c .file)) (c .start)) ≡ first .ok
+        start-test = rw (← starts .is) (some-if (first .ok) (rowOf (first .env)))
+
+        pub bad-start : {r : Opening} → not (first .ok) ≡ true → r ≡ turnedDown BadStart (first .env) → Opens sort c r
+        bad-start wrong is = refused-with BadStart (past-node (yes _ (ap not start-test ∙ wrong))) is
+
+        module _ (good : not (first .ok) ≡ false) (over : Bool) (over-is : over ≡ overLimits (first .env .count) (c .limits) (length (c .workspace))) where
+          past-start : {x : Option Refusal} → limits-last ≡ x → against sort (decode (c .file)) c ≡ x
+          past-start e = past-node (no _ (ap not start-test ∙ good) e)
+
+          beyond-is : beyond (decode (c .file)) c ≡ over
+          unfolding beyond decode
+          beyond-is = rw (over-is, starts .count)
+
+          pub bad-limits : {r : Opening} → over ≡ true → r ≡ turnedDown BadLimits (first .env) → Opens sort c r
+          unfolding onlyIf
+          bad-limits wrong is = refused-with BadLimits (past-start (rw (beyond-is, wrong))) is
+
+          pub opened : over ≡ false → Opens sort c (record { against = Nothing; env = first .env })
+          unfolding onlyIf refusalIn startOr
+          opened fits =
+              let limits = beyond-not (first .env .count) (c .limits) (length (c .workspace)) (sym over-is ∙ fits) in
+              record {
+                is = sym (past-start (rw (beyond-is, fits)));
+                opened = record {
+                  sized = starts .sized;
+                  count = starts .count;
+                  bindings = ap startOr (rw (not-false (first .ok) good) at (starts .is));
+                  point = omega (arith, points-most passed);
+                  room = limits .0;
+                  cells = limits .1;
+                };
+              }

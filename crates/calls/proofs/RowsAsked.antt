@@ -1,0 +1,110 @@
+-- The rows call put together: its walk, the rows given, its workspace cleared
+use mathlib.Core.Path.{_≡_, refl, ap, sym, subst, _∙_}
+use mathlib.Core.Bool.{Bool, true, false}
+use mathlib.Core.List.{List, [], _++_}
+use Prim.Native.Nat.{ℕ, _*_, _≤_}
+use native.Mathlib.Nat.{mul-comm}
+use native.Mathlib.Omega.{arith}
+use lib.ListN.{length, take, drop, length-append}
+use lib.Seq.{length-take-le, take-at, drop-at}
+use Rattle.meaning.specs.declared.Env.{Env}
+use Rattle.meaning.specs.declared.Limits.{Limits}
+use Rattle.meaning.specs.declared.Meter.{Meter}
+use Rattle.meaning.specs.declared.Refusal.{Refusal}
+use Rattle.meaning.specs.Walk.{W, started, Outcome, answered, refused, outcome}
+use Rattle.meaning.specs.Case.{decode, vars}
+use Rattle.meaning.specs.Check.{Checked}
+use Rattle.meaning.specs.Rows.{Row}
+use Rattle.meaning.specs.Calls.{Call, RowsResult, asking, walked, told, cleared, workspaceAfter, result, projected, outputFits, toOutput, rowsGiven, rowsCall}
+use Rattle.rows.specs.declared.Relation.{Relation}
+use Rattle.rows.specs.declared.Relation.the-variants.{Held, Refused}
+use Rattle.rows.specs.Table.{Fit, rowsIn}
+use Rattle.rows.specs.Stack.{shapeOf, relationOf, Grown, Stacked, Related}
+use Rattle.evaluator.specs.declared.Call.{Call as WalkCall}
+use Rattle.evaluator.specs.Asks.{Ready, Relates, nodeRows, rowsFor}
+use Rattle.calls.specs.declared.opening.Sort.the-variants.{Condition}
+use Rattle.calls.specs.declared.opening.Against.the-variants.{Nothing}
+use Rattle.calls.specs.declared.opening.Against.the-variants.{Refused as TurnedDown}
+use Rattle.calls.specs.declared.opening.Opening.{Opening}
+use Rattle.calls.specs.declared.SaidRows.{SaidRows}
+use Rattle.calls.specs.declared.SaidRows.the-variants.{Refuses}
+use Rattle.calls.specs.Promises.{callOf, asRows, Rowed}
+use Rattle.calls.specs.Opening.{sortFor, Opens}
+use Rattle.calls.specs.Given.{keptOf, fitting, saidOf, outputOf, saidFrom, outputFrom, TellsRows, Given}
+use Rattle.calls.proofs.Asked.{cellsFor, walking, atStart, opened, asked-not, walked-as, workspace-as}
+
+-- ---- a relation that is held is an answer, its rows at the bottom; one that is refused, a refusal
+
+module _ {l : Limits} {w : W (List Row)} {before after : List Row} {r : Relation} (related : Related l atStart w before after r) where
+  holds : {m : Meter} → r ≡ Held m → (outcome l atStart w ≡ answered (take (m .held) after) m) × (m .held ≤ l .room)
+  unfolding relationOf
+  holds {m} is = go (outcome l atStart w) refl
+    where
+      go : (o : Outcome (List Row)) → outcome l atStart w ≡ o → (outcome l atStart w ≡ answered (take (m .held) after) m) × (m .held ≤ l .room)
+      go (answered rows m′) e =
+          let grown : Grown l atStart m′ before after rows = subst (Stacked l atStart before after) e (related .stack) in
+          let z : Held m ≡ Held m′ = cc (related .is, is, e) in
+          let y : m ≡ m′ = cc in
+          (e ∙ cc (grown .lies, y), rw y (grown .fits))
+      go (refused n m′) e = let z : Held m ≡ Refused n m′ = cc (related .is, is, e) in let y : _≡_ {A = ℕ} 0 1 = cc in absurd (omega arith)
+
+  stops : {k : Refusal} {m : Meter} → r ≡ Refused k m → outcome l atStart w ≡ refused k m
+  unfolding relationOf
+  stops {k} {m} is = go (outcome l atStart w) refl
+    where
+      go : (o : Outcome (List Row)) → outcome l atStart w ≡ o → outcome l atStart w ≡ refused k m
+      go (answered rows m′) e = let z : Refused k m ≡ Held m′ = cc (related .is, is, e) in let y : _≡_ {A = ℕ} 0 1 = cc in absurd (omega arith)
+      go (refused n m′) e = let z : Refused k m ≡ Refused n m′ = cc (related .is, is, e) in let x : k ≡ n = cc in let y : m ≡ m′ = cc in e ∙ cc (x, y)
+
+-- ---- what a walk for rows tells
+
+module _ (s : List ℕ) (c : WalkCall) (e : Env) (n : ℕ) (binders output : List ℕ) {before after : List ℕ} {r : Relation} (relates : Relates s c e (nodeRows n (c .asked)) atStart before after r) where
+  pub held-in : {m : Meter} → r ≡ Held m → m .held ≤ c .limits .room
+  held-in is = holds (relates .comes) is .1
+
+  pub rows-given : {m : Meter} {output′ : List ℕ} {said : SaidRows} → r ≡ Held m → Given s (c .vars) m binders (take (m .held) (rowsIn (shapeOf (c .vars) (c .limits)) after)) output output′ said → TellsRows s (c .vars) binders output (outcome (c .limits) started (rowsFor s c e (nodeRows n (c .asked)))) output′ said
+  unfolding saidFrom outputFrom started
+  rows-given is given =
+      let o = holds (relates .comes) is .0 in
+      record { said = given .said ∙ ap (saidFrom s (c .vars) binders output) (sym o); written = given .written ∙ ap (outputFrom s (c .vars) binders output) (sym o) }
+
+  pub rows-stopped : {k : Refusal} {m : Meter} → r ≡ Refused k m → TellsRows s (c .vars) binders output (outcome (c .limits) started (rowsFor s c e (nodeRows n (c .asked)))) output (Refuses k (m .steps) (m .most))
+  unfolding saidFrom outputFrom started asRows
+  rows-stopped is =
+      let o = stops (relates .comes) is in
+      record { said = ap (saidFrom s (c .vars) binders output) (sym o); written = ap (outputFrom s (c .vars) binders output) (sym o) }
+
+pub part-fit : {s : List ℕ} {c : WalkCall} {e : Env} {m : Meter} {before : List ℕ} {after : List ℕ} → Ready s c e m before → length after ≡ length before → Fit (shapeOf (c .vars) (c .limits)) after
+part-fit ready long = record { vars = ready .fit .vars; room = ready .fit .room; wide = omega (arith, ready .fit .wide) }
+
+-- ---- the rows call
+
+given-as : (c : Call) (binders output : List ℕ) (kept : List Row) (m : Meter) (fits : Bool) → toOutput c binders output kept m fits ≡ record {
+  result = record { said = saidOf kept m fits; workspace = cleared (2 * decode (c .file) .vars * c .limits .room) (c .workspace) };
+  output = outputOf binders output kept fits;
+}
+unfolding toOutput result told workspaceAfter saidOf outputOf
+given-as c binders output kept m true = refl
+given-as c binders output kept m false = refl
+
+told-as : (c : Call) (binders output : List ℕ) (o : Outcome (List Row)) → rowsGiven c binders output (walked o) ≡ record {
+  result = record { said = saidFrom (c .file) (vars (c .file)) binders output o; workspace = cleared (2 * decode (c .file) .vars * c .limits .room) (c .workspace) };
+  output = outputFrom (c .file) (vars (c .file)) binders output o;
+}
+unfolding rowsGiven result told workspaceAfter saidFrom outputFrom projected outputFits decode
+told-as c binders output (answered rows m) =
+    given-as c binders output (keptOf (c .file) binders rows) m (fitting (vars (c .file)) binders output (keptOf (c .file) binders rows))
+told-as c binders output (refused n m) = refl
+
+pub rows-refused : (s : List ℕ) (point n : ℕ) (start : List ℕ) (limits : Limits) (work : List ℕ) (binders output : List ℕ) {o : Opening} {k : Refusal} → Checked s → Opens (sortFor Condition) (callOf s point n start limits work) o → o .against ≡ TurnedDown k → Rowed (callOf s point n start limits work) binders output work output (Refuses k 0 0)
+unfolding rowsCall rowsGiven asRows result told workspaceAfter sortFor
+rows-refused s point n start limits work binders output {k = k} checked opens is =
+    record { is = sym (ap (rowsGiven (callOf s point n start limits work) binders output) (asked-not checked opens (λ m q. m .rows q) k is)) }
+
+pub rows-told : (s : List ℕ) (point n : ℕ) (start : List ℕ) (limits : Limits) (work : List ℕ) (binders output : List ℕ) {o : Opening} (part : List ℕ) {after output′ : List ℕ} {r : SaidRows} → Checked s → Opens (sortFor Condition) (callOf s point n start limits work) o → o .against ≡ Nothing → TellsRows s (o .env .count) binders output (outcome limits started (rowsFor s (walking limits (o .env) point) (o .env) (nodeRows n point))) output′ r → length part ≡ length (take (cellsFor (o .env) limits) work) → after ≡ cleared (cellsFor (o .env) limits) (part ++ drop (cellsFor (o .env) limits) work) → Rowed (callOf s point n start limits work) binders output after output′ r
+unfolding rowsCall rowsFor sortFor
+rows-told s point n start limits work binders output {o} part checked opens is tells long after =
+    let a = walked-as checked opens is (λ m q. m .rows q) in
+    record {
+      is = sym (ap (rowsGiven (callOf s point n start limits work) binders output) a ∙ told-as (callOf s point n start limits work) binders output _ ∙ sym (cc (tells .said, tells .written, workspace-as checked opens is part long after, opened opens is .count)));
+    }

@@ -1,0 +1,20 @@
+-- The first cells of a list, written one after the other
+use mathlib.Core.Path.{_≡_, refl}
+use mathlib.Core.List.{List, [], _∷_, _++_}
+use Prim.Native.Nat.{ℕ, _≤_}
+use native.Mathlib.Omega.{arith}
+use lib.ListN.{length, drop, set}
+
+pub three : (a b c : ℕ) (s : List ℕ) → 3 ≤ length s → set (set (set s 0 a) 1 b) 2 c ≡ (a ∷ b ∷ c ∷ []) ++ drop 3 s
+three a b c [] h = absurd (omega (arith, h))
+three a b c (x ∷ []) h = absurd (omega (arith, h))
+three a b c (x ∷ y ∷ []) h = absurd (omega (arith, h))
+three a b c (x ∷ y ∷ z ∷ s) h = refl
+
+pub five : (a b c d e : ℕ) (s : List ℕ) → 5 ≤ length s → set (set (set (set (set s 0 a) 1 b) 2 c) 3 d) 4 e ≡ (a ∷ b ∷ c ∷ d ∷ e ∷ []) ++ drop 5 s
+five a b c d e [] h = absurd (omega (arith, h))
+five a b c d e (v ∷ []) h = absurd (omega (arith, h))
+five a b c d e (v ∷ w ∷ []) h = absurd (omega (arith, h))
+five a b c d e (v ∷ w ∷ x ∷ []) h = absurd (omega (arith, h))
+five a b c d e (v ∷ w ∷ x ∷ y ∷ []) h = absurd (omega (arith, h))
+five a b c d e (v ∷ w ∷ x ∷ y ∷ z ∷ s) h = refl

@@ -1,0 +1,3 @@
+pub mod Cells
+pub mod Said
+pub mod Seeing

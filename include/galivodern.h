@@ -1,0 +1,135 @@
+/* Galivodern: rules over a board's log, checked by proved code.
+ *
+ * A case is one file: a log of points, and rules over it as numbered nodes.
+ * You check a case once, then ask for the verdict of a condition at a point,
+ * for the number of an aggregate, or for the rows that a condition finds.
+ *
+ * Every call keeps to what you lend it. It allocates nothing, keeps nothing
+ * from one call to the next, and reads and writes only the arrays passed to
+ * it, so calls on buffers of their own may run side by side.
+ *
+ * What you owe:
+ *   - each pointer leads to as many items as the count after it says, and is
+ *     aligned for its type; with a count of 0 nothing is read or written there,
+ *     but the pointer must not be NULL;
+ *   - an array that a call may write to overlaps no other array of that call;
+ *   - the galivodern_checked_ calls get a file for which galivodern_check has
+ *     returned 0, unchanged since. The other calls take any bytes.
+ *
+ * Link libcapi.a, which `rt staticlib capi` makes, for x86-64 Linux.
+ */
+#ifndef GALIVODERN_H
+#define GALIVODERN_H
+
+#include <stddef.h>
+#include <stdint.h>
+
+#ifdef __cplusplus
+extern "C" {
+#endif
+
+/* What a call returns: 0 for an answer, else why there is none. */
+enum galivodern_refusal {
+    GALIVODERN_ANSWERED = 0,
+    GALIVODERN_BAD_CONTENTS = 1,     /* shorter than 64 bytes, edition not 1, or tables misplaced */
+    GALIVODERN_TOO_LARGE = 2,        /* file, a table or the number of variables above its most */
+    GALIVODERN_BAD_STRINGS = 3,      /* a string rule is broken */
+    GALIVODERN_BAD_VALUES = 4,       /* a value or member rule is broken, or a value is too deep */
+    GALIVODERN_BAD_POINTS = 5,       /* a point or entity rule is broken */
+    GALIVODERN_BAD_NODES = 6,        /* a node rule is broken, or a node is too high */
+    GALIVODERN_NO_SUCH_POINT = 7,    /* the case has no such point */
+    GALIVODERN_NO_SUCH_NODE = 8,     /* no such node, or none of the sort that the call answers */
+    GALIVODERN_BAD_START = 9,        /* the starting bindings are malformed */
+    GALIVODERN_BAD_LIMITS = 10,      /* a limit above its most, or a workspace too small */
+    GALIVODERN_STEPS_EXHAUSTED = 11, /* the answer takes more steps than allowed */
+    GALIVODERN_ROOM_EXHAUSTED = 12,  /* the answer takes more rows than allowed */
+    GALIVODERN_BAD_OUTPUT = 13,      /* output too short, or a binder that is no variable */
+    GALIVODERN_TOO_FEW_CELLS = 14    /* `contents` or `told` too short: nothing was done */
+};
+
+/* The most that is allowed of a call's limits. */
+#define GALIVODERN_MOST_STEPS 1000000000u
+#define GALIVODERN_MOST_ROOM 16384u
+
+/* Cells of `contents` and of `told` that a call needs. */
+#define GALIVODERN_CONTENTS_CELLS 5
+#define GALIVODERN_TOLD_CELLS 3
+
+/* What `contents` holds after a check that passes. */
+enum galivodern_contents {
+    GALIVODERN_VARIABLES = 0, /* V: variables are numbered from 0 to V - 1 */
+    GALIVODERN_STRINGS = 1,
+    GALIVODERN_VALUES = 2,
+    GALIVODERN_POINTS = 3,
+    GALIVODERN_NODES = 4
+};
+
+/* What `told` holds after a call that returned 0 to 13. */
+enum galivodern_told {
+    GALIVODERN_ANSWER = 0, /* see each call; 0 where it refused */
+    GALIVODERN_STEPS = 1,  /* steps spent; 0 for refusals 1 to 10 */
+    GALIVODERN_HELD = 2    /* greatest number of rows held at once; 0 for refusals 1 to 10 */
+};
+
+/* Checks a case. Returns 0, or a refusal from 1 to 6: the lowest that applies.
+ * On 0 the first five cells of `contents` are filled. Else it is unchanged. */
+uint64_t galivodern_check(const uint8_t *file, size_t file_len, uint64_t *contents, size_t contents_len);
+
+/* The three questions take:
+ *
+ *   point, node   where to ask, and what: a condition, or for `number` an aggregate;
+ *   start         starting bindings, exactly 2 * V cells, two for each variable:
+ *                   0, 0   unbound
+ *                   1, n   the integer with the 64 bits n
+ *                   2, v   value number v of the case, if that is no integer
+ *                   3, s   string number s of the case, as an entity's own id or type;
+ *   steps, room   the most steps that may be spent and the most rows that may be held;
+ *   work          a workspace of at least 2 * V * room cells. Whatever is in it
+ *                 counts for nothing. After 0, 11, 12 or 13 its first
+ *                 2 * V * room cells are 0; later ones never change;
+ *   told          at least three cells for the answer, steps and rows.
+ *
+ * They return 0 for an answer, else the lowest refusal that applies, save that
+ * of 11 and 12 the one that is met first is given. Refusals 1 to 10 write
+ * nothing but `told`; 14 writes nothing at all. */
+
+/* Whether a condition holds: the answer is 1 for yes, 0 for no. */
+uint64_t galivodern_verdict(const uint8_t *file, size_t file_len, size_t point, uint32_t node,
+                            const uint64_t *start, size_t start_len, uint64_t steps, size_t room,
+                            uint64_t *work, size_t work_len, uint64_t *told, size_t told_len);
+
+/* The number of an aggregate: the answer is its 64 bits, to be read as int64_t. */
+uint64_t galivodern_number(const uint8_t *file, size_t file_len, size_t point, uint32_t node,
+                           const uint64_t *start, size_t start_len, uint64_t steps, size_t room,
+                           uint64_t *work, size_t work_len, uint64_t *told, size_t told_len);
+
+/* The rows of a condition, on the variables in `binders`, each row once: the
+ * answer is their number. On 0 the first 2 * binders_len cells for each row are
+ * filled in `output`, two a binder as in `start`, 0, 0 where the row binds
+ * nothing. Else, and beyond those cells, `output` is unchanged. */
+uint64_t galivodern_rows(const uint8_t *file, size_t file_len, size_t point, uint32_t node,
+                         const uint64_t *start, size_t start_len, uint64_t steps, size_t room,
+                         uint64_t *work, size_t work_len, const uint32_t *binders, size_t binders_len,
+                         uint64_t *output, size_t output_len, uint64_t *told, size_t told_len);
+
+/* The same on a case that has passed galivodern_check, for those who ask many
+ * questions of one case: what the calls above give, without checking again.
+ * With a case that has not passed, what happens is undefined. */
+uint64_t galivodern_checked_verdict(const uint8_t *file, size_t file_len, size_t point, uint32_t node,
+                                    const uint64_t *start, size_t start_len, uint64_t steps, size_t room,
+                                    uint64_t *work, size_t work_len, uint64_t *told, size_t told_len);
+
+uint64_t galivodern_checked_number(const uint8_t *file, size_t file_len, size_t point, uint32_t node,
+                                   const uint64_t *start, size_t start_len, uint64_t steps, size_t room,
+                                   uint64_t *work, size_t work_len, uint64_t *told, size_t told_len);
+
+uint64_t galivodern_checked_rows(const uint8_t *file, size_t file_len, size_t point, uint32_t node,
+                                 const uint64_t *start, size_t start_len, uint64_t steps, size_t room,
+                                 uint64_t *work, size_t work_len, const uint32_t *binders, size_t binders_len,
+                                 uint64_t *output, size_t output_len, uint64_t *told, size_t told_len);
+
+#ifdef __cplusplus
+}
+#endif
+
+#endif

@@ -1,8 +1,14 @@
 // The list's calls, each put to the public calls and compared with what the list says.
 use crate::buffers;
+use crate::input::Taken;
+use crate::input::take;
+use crate::input::take_word;
 use crate::listed::Listed;
+use crate::listed::answer_at;
+use crate::listed::binders_at;
+use crate::listed::filled_at;
 use crate::listed::is_known;
-use crate::listed::listed_at;
+use crate::listed::listed_call;
 use crate::listed::size;
 use crate::report;
 use crate::said::Said;
@@ -15,8 +21,12 @@ use crate::tally::nothing;
 use program_parts::cell;
 use program_parts::word;
 use tables::wide;
+ghost use mathlib.Core.Path.{_≡_};
+ghost use Prim.Native.Nat.{_≤_};
+ghost use lib.ListN.{length};
+ghost use Rattle.replay.specs.Known.{Known};
 
-// how many cells of the workspace the call clears: none if it is refused with 1 to 10
+// how many cells of the workspace are cleared: none for refusals 1 to 10, and those come where V or room is above its most
 fn cleared(file: &[u8], c: Listed) -> usize {
     if 1 <= c.refusal && c.refusal <= 10 {
         return 0;
@@ -25,79 +35,100 @@ fn cleared(file: &[u8], c: Listed) -> usize {
     if 16 < vars {
         return 0;
     }
+    if 16384 < c.room {
+        return 0;
+    }
     2 * vars * c.room
 }
 
-// refusal, answer and both numbers
-fn is_said(list: &[u8], at: usize, c: Listed, said: Said) -> bool {
+// refusal, answer and both numbers; `parts` is what the list has of the call after its twelve words
+fn is_said(parts: &[u8], c: Listed, said: Said) -> bool
+    requires { ⌜ Known c ⌝ }
+{
+    let at = answer_at(c);
     if said.refusal != c.refusal {
         return false;
     }
-    if said.answer != cell(list, at) {
+    if said.answer != cell(parts, at) {
         return false;
     }
-    if said.steps != cell(list, at + 2) {
+    if said.steps != cell(parts, at + 2) {
         return false;
     }
-    said.held == cell(list, at + 4)
+    said.held == cell(parts, at + 4)
 }
 
-// puts the call whose lists start at word `at` to the public calls: whether all is as listed
-fn is_as_listed<'a>(list: &'a [u8], file: &'a [u8], at: usize, c: Listed) -> bool {
+// fills the buffers, asks, and compares all with the answer listed
+fn is_answered<'a>(
+    parts: &'a [u8],
+    file: &'a [u8],
+    c: Listed,
+    start: &[u64],
+    binders: &[u32],
+    work: &mut [u64],
+    output: &mut [u64],
+) -> bool
+    requires { ⌜ Known c ⌝ }
+{
+    buffers::fill_cells(work, buffers::WORKSPACE_FILL);
+    buffers::fill_cells(output, buffers::OUTPUT_FILL);
+    let said = said_by(file, c, start, binders, work, output);
+    if !is_said(parts, c, said) {
+        return false;
+    }
+    if !buffers::is_worked(work, cleared(file, c)) {
+        return false;
+    }
+    buffers::is_put(parts, filled_at(c), output, c.filled)
+}
+
+// puts a call on a file to the public calls: whether all is as listed
+fn is_as_listed<'a>(parts: &'a [u8], file: &'a [u8], c: Listed) -> bool
+    requires { ⌜ Known c ⌝ }
+{
     let cells = c.start;
+    let start = buffers::cells_at(parts, 0);
     let names = c.binders;
+    let binders = buffers::words_at(parts, binders_at(c));
     let room = c.workspace;
-    let out = c.output;
-    let mut start = [0u64; 64];
-    buffers::copy_cells(list, at, &mut start[..cells]);
-    let at_binders = at + 2 * cells;
-    let mut binders = [0u32; 64];
-    buffers::copy_words(list, at_binders, &mut binders[..names]);
     let mut work = [0u64; 1600];
-    buffers::fill_cells(&mut work[..room], buffers::WORKSPACE_FILL);
+    let out = c.output;
     let mut output = [0u64; 1600];
-    buffers::fill_cells(&mut output[..out], buffers::OUTPUT_FILL);
-    let said = said_by(
+    is_answered(
+        parts,
         file,
         c,
         &start[..cells],
         &binders[..names],
         &mut work[..room],
         &mut output[..out],
-    );
-    let at_answer = at_binders + names;
-    if !is_said(list, at_answer, c, said) {
-        return false;
-    }
-    if !buffers::is_worked(&work[..room], cleared(file, c)) {
-        return false;
-    }
-    buffers::is_put(list, at_answer + 6, &output[..out], c.filled)
+    )
 }
 
-// the call at the tally's place
-fn call<'a>(list: &'a [u8], file: &'a [u8], t: Tally) -> Tally {
-    let at = t.at;
-    let words = list.len() / 4;
-    if words < at {
+// the list's next call, on a file
+fn call(list: i32, file: &[u8], t: Tally) -> Tally {
+    let mut words = [0u8; 48];
+    if !take(list, &mut words, 48) {
         return broken(t);
     }
-    let c = listed_at(list, at);
+    let c = listed_call(&words);
     if !is_known(c) {
         return broken(t);
     }
-    if words - at < size(c) {
+    let n = 4 * size(c);
+    let mut parts = io::buffer();
+    if !take(list, &mut parts, n) {
         return broken(t);
     }
-    let same = is_as_listed(list, file, at + 12, c);
+    let same = is_as_listed(&parts[..n], file, c);
     if !same {
-        report::differs(t.cases, at);
+        report::differs(t);
     }
-    compared(t, c.kind, c.refusal, same, at + size(c))
+    compared(t, c.kind, c.refusal, same)
 }
 
-// n calls on a file
-fn calls<'a>(list: &'a [u8], file: &'a [u8], n: u32, before: Tally) -> Tally {
+// the list's next n calls, on a file
+fn calls(list: i32, file: &[u8], n: u32, before: Tally) -> Tally {
     let mut t = before;
     let mut k = 0;
     while k < n {
@@ -110,26 +141,45 @@ fn calls<'a>(list: &'a [u8], file: &'a [u8], n: u32, before: Tally) -> Tally {
     t
 }
 
-// the case at the tally's place, and its calls
-fn case(list: &[u8], t: Tally) -> Tally {
-    let at = t.at;
-    if list.len() / 4 <= at {
-        return broken(t);
+fn calls_on(list: i32, file: &[u8], t: Tally) -> Tally {
+    let taken = take_word(list);
+    match taken {
+        Taken::Word(n) => calls(list, file, n, another_case(t)),
+        Taken::Nothing => broken(t),
     }
-    let bytes = wide(word(list, at));
-    let start = 4 * (at + 1);
-    if list.len() - start < bytes {
-        return broken(t);
-    }
-    let end = start + bytes;
-    let after = at + 1 + (bytes + 3) / 4;
-    let n = word(list, after);
-    calls(list, &list[start..end], n, another_case(t, after + 1))
 }
 
-// all cases that the list's header counts
-pub fn cases(list: &[u8]) -> Tally {
-    let n = word(list, 0);
+// room for a case
+fn room() -> [u8; 16384]
+    ensures { λ r. ⌜ 16384 ≡ length r ⌝ }
+{
+    [0; 16384]
+}
+
+// a case of so many bytes, filled up to a whole number of words, and its calls
+fn case_of(list: i32, bytes: u32, t: Tally) -> Tally {
+    let n = wide(bytes);
+    if 16384 < n {
+        return broken(t);
+    }
+    let filled_up = 4 * ((n + 3) / 4);
+    let mut file = room();
+    if !take(list, &mut file, filled_up) {
+        return broken(t);
+    }
+    calls_on(list, &file[..n], t)
+}
+
+fn case(list: i32, t: Tally) -> Tally {
+    let taken = take_word(list);
+    match taken {
+        Taken::Word(bytes) => case_of(list, bytes, t),
+        Taken::Nothing => broken(t),
+    }
+}
+
+// the list's next n cases
+pub fn cases(list: i32, n: u32) -> Tally {
     let mut t = nothing();
     let mut k = 0;
     while k < n {

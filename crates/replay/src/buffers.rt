@@ -1,6 +1,8 @@
 // Cells and words of a call's buffers: taken from the list, filled before a call, looked at after it.
 use program_parts::cell;
 use program_parts::word;
+ghost use mathlib.Core.Path.{_≡_};
+ghost use lib.ListN.{length};
 
 // cell k of a buffer before a call holds this and k
 pub const WORKSPACE_FILL: u64 = 0xA5A5A5A500000000;
@@ -46,26 +48,34 @@ fn is_clear(cells: &[u64], n: usize) -> bool {
     true
 }
 
-// the cells that stand in the list from word `at` on
-pub fn copy_cells(list: &[u8], at: usize, cells: &mut [u64]) {
+// 64 cells that stand in the list from word `at` on
+pub fn cells_at(list: &[u8], at: usize) -> [u64; 64]
+    ensures { λ r. ⌜ 64 ≡ length r ⌝ }
+{
+    let mut cells = [0u64; 64];
     let mut from = at;
     let mut k = 0;
-    while k < cells.len() {
+    while k < 64 {
         cells[k] = cell(list, from);
         from = std::num::wrapping_add_usize(from, 2);
         k += 1;
     }
+    cells
 }
 
-// the words that stand in the list from word `at` on
-pub fn copy_words(list: &[u8], at: usize, words: &mut [u32]) {
+// 64 words that stand in the list from word `at` on
+pub fn words_at(list: &[u8], at: usize) -> [u32; 64]
+    ensures { λ r. ⌜ 64 ≡ length r ⌝ }
+{
+    let mut words = [0u32; 64];
     let mut from = at;
     let mut k = 0;
-    while k < words.len() {
+    while k < 64 {
         words[k] = word(list, from);
         from = std::num::wrapping_add_usize(from, 1);
         k += 1;
     }
+    words
 }
 
 // whether there are n cells, and all of these stand in the list from word `at` on

@@ -2,11 +2,10 @@
 use program_parts::cell;
 use program_parts::word;
 use tables::wide;
-
-// room for the list; the promise of its length is for lending it
-pub fn room() -> [u8; 655360] {
-    [0; 655360]
-}
+ghost use mathlib.Core.Path.{_≡_};
+ghost use mathlib.Core.Bool.{Bool, true};
+ghost use Prim.Native.Nat.{_+_, _*_, _≤_};
+ghost use Rattle.replay.specs.Known.{Known};
 
 // what is asked, how long its lists and buffers are, the refusal expected (0 for none), and the output cells that the answer fills
 pub struct Listed {
@@ -23,52 +22,75 @@ pub struct Listed {
     pub filled: usize,
 }
 
-// the call whose twelve words start at word `at`
-pub fn listed_at(list: &[u8], at: usize) -> Listed {
+// the call that twelve words say
+pub fn listed_call(words: &[u8]) -> Listed {
     Listed {
-        kind: wide(word(list, at)),
-        point: wide(word(list, at + 1)),
-        node: word(list, at + 2),
-        limit: cell(list, at + 3),
-        room: wide(word(list, at + 5)),
-        workspace: wide(word(list, at + 6)),
-        start: wide(word(list, at + 7)),
-        binders: wide(word(list, at + 8)),
-        output: wide(word(list, at + 9)),
-        refusal: wide(word(list, at + 10)),
-        filled: wide(word(list, at + 11)),
+        kind: wide(word(words, 0)),
+        point: wide(word(words, 1)),
+        node: word(words, 2),
+        limit: cell(words, 3),
+        room: wide(word(words, 5)),
+        workspace: wide(word(words, 6)),
+        start: wide(word(words, 7)),
+        binders: wide(word(words, 8)),
+        output: wide(word(words, 9)),
+        refusal: wide(word(words, 10)),
+        filled: wide(word(words, 11)),
     }
 }
 
-// the most starting cells and binders, and the most cells of a buffer, that there is room for
-pub const MOST_STARTED: usize = 64;
-
-pub const MOST_CELLS: usize = 1600;
-
-// whether the kind and the refusal are any, and there is room for the buffers
-pub fn is_known(c: Listed) -> bool {
+// whether kind and refusal are any, and there is room for the lists and buffers
+pub fn is_known(c: Listed) -> bool
+    ensures { λ r. ⌜ (_≡_ {A = Bool} r true → Known c) ⌝ }
+{
     if 3 < c.kind {
         return false;
     }
     if 13 < c.refusal {
         return false;
     }
-    if MOST_STARTED < c.start {
+    if 64 < c.start {
         return false;
     }
-    if MOST_STARTED < c.binders {
+    if 64 < c.binders {
         return false;
     }
-    if MOST_CELLS < c.workspace {
+    if 1600 < c.workspace {
         return false;
     }
-    if MOST_CELLS < c.output {
+    if 1600 < c.output {
         return false;
     }
-    c.filled <= c.output
+    c.filled <= 256
 }
 
-// how many words the call takes in the list: its twelve, its lists, and the answer
-pub fn size(c: Listed) -> usize {
-    12 + 2 * c.start + c.binders + 6 + 2 * c.filled
+// where a call's parts stand after its twelve words: the starting cells first
+pub fn binders_at(c: Listed) -> usize
+    requires { ⌜ Known c ⌝ }
+    ensures { λ r. ⌜ r ≤ 128 ⌝ }
+{
+    2 * c.start
+}
+
+// answer, steps and rows held
+pub fn answer_at(c: Listed) -> usize
+    requires { ⌜ Known c ⌝ }
+    ensures { λ r. ⌜ r ≤ 192 ⌝ }
+{
+    binders_at(c) + c.binders
+}
+
+pub fn filled_at(c: Listed) -> usize
+    requires { ⌜ Known c ⌝ }
+    ensures { λ r. ⌜ r ≤ 198 ⌝ }
+{
+    answer_at(c) + 6
+}
+
+// how many words they are
+pub fn size(c: Listed) -> usize
+    requires { ⌜ Known c ⌝ }
+    ensures { λ r. ⌜ r ≤ 710 ⌝ }
+{
+    filled_at(c) + 2 * c.filled
 }

@@ -1,7 +1,7 @@
 // What the program writes: how many calls were compared and how many differ, by kind and by refusal, beside what the list's header counts.
+use crate::input::Header;
 use crate::tally::Tally;
 use libc::STDOUT_FILENO;
-use program_parts::word;
 
 fn text(t: &[u8]) {
     io::write_all(STDOUT_FILENO, t);
@@ -19,13 +19,13 @@ fn line(compared: u64, differ: u64) {
     text(b"\n");
 }
 
-// a call that answers otherwise: which case it is on, counted from 1, and where it stands in the list
-pub fn differs(case: u64, at: usize) {
+// the call after those compared answers otherwise
+pub fn differs(t: Tally) {
     text(b"differs: case ");
-    number(case);
-    text(b", call at word ");
-    number(at as u64);
-    text(b"\n");
+    number(t.cases);
+    text(b", after ");
+    number(t.calls);
+    text(b" calls\n");
 }
 
 fn kinds(t: Tally) {
@@ -60,29 +60,29 @@ fn counted(what: &[u8], n: u64, listed: u32) {
 }
 
 // whether the list could be read to its end, and had what its header counts
-fn is_complete(list: &[u8], t: Tally) -> bool {
+fn is_complete(listed: Header, t: Tally, ended: bool) -> bool {
+    if !listed.whole {
+        return false;
+    }
     if !t.whole {
         return false;
     }
-    if t.calls != word(list, 1) as u64 {
+    if t.calls != listed.calls as u64 {
         return false;
     }
-    if list.len() % 4 != 0 {
-        return false;
-    }
-    t.at == list.len() / 4
+    ended
 }
 
-pub fn report(list: &[u8], t: Tally) {
+pub fn report(listed: Header, t: Tally, ended: bool) {
     kinds(t);
     refusals(t);
-    counted(b"cases", t.cases, word(list, 0));
-    counted(b"calls", t.calls, word(list, 1));
-    if is_complete(list, t) {
+    counted(b"cases", t.cases, listed.cases);
+    counted(b"calls", t.calls, listed.calls);
+    if is_complete(listed, t, ended) {
         text(b"the list was read to its end\n");
         return;
     }
-    text(b"the list is malformed after word ");
-    number(t.at as u64);
-    text(b"\n");
+    text(b"the list is malformed after ");
+    number(t.calls);
+    text(b" calls\n");
 }

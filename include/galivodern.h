@@ -14,7 +14,8 @@
  *     but the pointer must not be NULL;
  *   - an array that a call may write to overlaps no other array of that call;
  *   - the galivodern_checked_ calls get a file for which galivodern_check has
- *     returned 0, unchanged since. The other calls take any bytes.
+ *     returned 0, unchanged since. The other calls take any bytes;
+ *   - 1 MiB of stack is left; a call uses well below that.
  *
  * Link libcapi.a, which `rt staticlib capi` makes, for x86-64 Linux.
  */

@@ -3,6 +3,7 @@
 pub mod calls;
 pub mod cases;
 pub mod damage;
+pub mod examples;
 pub mod random;
 pub mod rules;
 mod rules_base;

@@ -16,9 +16,14 @@ use crate::rust::RustCase;
 const LIMIT: u64 = 5_000;
 const ROOM: u64 = 60;
 
+/// Puts a call to another implementation, which must do what the model did; else says what differs.
+pub type Beside = fn(&Call, &[u8], &Done) -> Result<(), String>;
+
 /// What was put to whom, and what differed.
 pub struct Report {
     pub model: Model,
+    /// Asked every call that the model is asked.
+    pub beside: Vec<Beside>,
     /// Questions answered by the model and by the Rust.
     pub to_both: u64,
     pub counts: BTreeMap<String, u64>,
@@ -27,7 +32,7 @@ pub struct Report {
 
 impl Report {
     pub fn new(model: Model) -> Report {
-        Report { model, to_both: 0, counts: BTreeMap::new(), differences: Vec::new() }
+        Report { model, beside: Vec::new(), to_both: 0, counts: BTreeMap::new(), differences: Vec::new() }
     }
 
     /// Random cases and questions until this many were put to both, or this many differences found.
@@ -36,7 +41,8 @@ impl Report {
             let profile = if random.percent(30) { Profile::SMALL } else { Profile::USUAL };
             let case = random_case(random, profile);
             self.count("random cases");
-            self.expect(&case, self.model.check(&case.bytes) == 0, "a case made by the rules is refused");
+            let refusal = self.done(&Call::check(), &case.bytes).outcome.refusal;
+            self.expect(&case.bytes, refusal == 0, || "a case made by the rules is refused".to_string());
             self.questions(random, &case, 12);
             for _ in 0..2 {
                 self.damaged_copy(random, &case);
@@ -44,25 +50,50 @@ impl Report {
         }
     }
 
+    /// So many damaged copies of random cases, or until this many differences are found.
+    pub fn damage(&mut self, random: &mut Random, copies: u64, most_differences: usize) {
+        let mut made = 0;
+        while made < copies && self.differences.len() < most_differences {
+            let profile = if random.percent(70) { Profile::SMALL } else { Profile::USUAL };
+            let case = random_case(random, profile);
+            for _ in 0..10.min(copies - made) {
+                self.damaged_copy(random, &case);
+                made += 1;
+            }
+        }
+    }
+
+    /// What the model does, and all others beside it.
+    fn done(&mut self, call: &Call, case: &[u8]) -> Done {
+        let done = call.ask(self.model, case);
+        for k in 0..self.beside.len() {
+            let differs = self.beside[k](call, case, &done).err();
+            self.expect(case, differs.is_none(), || format!("{differs:?}\n{call:?}\n{done:?}"));
+        }
+        done
+    }
+
     fn count(&mut self, what: &str) {
         *self.counts.entry(what.to_string()).or_insert(0) += 1;
     }
 
-    fn expect(&mut self, case: &RandomCase, kept: bool, what: &str) {
+    fn expect(&mut self, case: &[u8], kept: bool, what: impl FnOnce() -> String) {
         if !kept {
-            self.differences.push(format!("{what}\ncase {}", hex(&case.bytes)));
+            self.differences.push(format!("{}\ncase {}", what(), hex(case)));
         }
     }
 
     fn damaged_copy(&mut self, random: &mut Random, case: &RandomCase) {
         let bytes = damaged(random, &case.bytes);
-        let refusal = self.model.check(&bytes);
+        let refusal = self.done(&Call::check(), &bytes).outcome.refusal;
         self.count(&format!("damaged copies, check {refusal}"));
         if refusal != 0 {
             let call = random_call(random, case, LIMIT, ROOM);
-            let done = call.ask(self.model, &bytes);
+            let done = self.done(&call, &bytes);
             let same = done.outcome == Outcome { refusal, ..Outcome::default() };
-            self.expect(case, same && buffers_kept(&call, &done, 0), "a refused case gets another refusal");
+            self.expect(&bytes, same && buffers_kept(&call, &done, 0), || {
+                "a refused case gets another refusal".to_string()
+            });
             return;
         }
         // What passes the check must be safe to ask: the Rust, too, must find its way in it.
@@ -85,23 +116,25 @@ impl Report {
                 let tight = tightened(random, &call, &done.outcome, case.tables.variables);
                 let tight_done = self.question(&tight, case, &mut rust);
                 let kept = limits_kept(&tight, &done.outcome, &tight_done.outcome);
-                self.expect(case, kept, &format!("a limit does not decide as it must\n{tight:?}\n{tight_done:?}"));
+                self.expect(&case.bytes, kept, || {
+                    format!("a limit does not decide as it must\n{tight:?}\n{tight_done:?}")
+                });
             }
             if random.percent(10) {
                 let Spoiled { call, refusal } = spoiled(random, &call, case);
                 let said = self.question(&call, case, &mut rust).outcome.refusal;
                 // Refusal 13 comes after the walk, which may have ended in 11 or 12.
                 let kept = said == refusal || (refusal == 13 && (said == 11 || said == 12));
-                self.expect(case, kept, &format!("a spoiled call is refused {said}, not {refusal}\n{call:?}"));
+                self.expect(&case.bytes, kept, || format!("a spoiled call is refused {said}, not {refusal}\n{call:?}"));
             }
         }
     }
 
     /// Puts one question to the model and to the Rust.
     pub fn question(&mut self, call: &Call, case: &RandomCase, rust: &mut RustCase) -> Done {
-        let done = call.ask(self.model, &case.bytes);
+        let done = self.done(call, &case.bytes);
         let buffers = buffers_kept(call, &done, case.tables.variables);
-        self.expect(case, buffers, &format!("a buffer is not as it must be\n{call:?}\n{done:?}"));
+        self.expect(&case.bytes, buffers, || format!("a buffer is not as it must be\n{call:?}\n{done:?}"));
         match compare(call, &done, rust) {
             Found::Same => {
                 self.to_both += 1;

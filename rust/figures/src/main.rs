@@ -1,0 +1,38 @@
+//! The proved library beside Dogwood's Rust and the model of document 01, from one driver.
+
+mod archive;
+mod checking;
+mod compare;
+mod shapes;
+mod speed;
+mod timing;
+
+use std::process::ExitCode;
+
+const USAGE: &str = "usage: figures speed                        time a question, ours and the Rust's, on every shape
+       figures check                        the check's throughput beside a plain pass
+       figures compare N DAMAGED SEED       N questions and DAMAGED damaged files, put to all
+       figures once SHAPE TIMES ours|rust   ask one shape so often, to be profiled";
+
+fn main() -> ExitCode {
+    let arguments: Vec<String> = std::env::args().skip(1).collect();
+    let arguments: Vec<&str> = arguments.iter().map(String::as_str).collect();
+    let number = |text: &str| text.parse::<u64>().map_err(|_| format!("`{text}` is no number"));
+    let done = match arguments[..] {
+        ["speed"] => speed::print_tables(),
+        ["check"] => checking::print_table(),
+        ["compare", questions, copies, seed] => {
+            number(questions).and_then(|n| compare::run(n, number(copies)?, number(seed)?))
+        }
+        ["once", shape, times, who] => number(times).and_then(|n| speed::once(shape, n, who == "rust")),
+        _ => Err(USAGE.to_string()),
+    };
+    match done {
+        Ok(true) => ExitCode::SUCCESS,
+        Ok(false) => ExitCode::FAILURE,
+        Err(message) => {
+            eprintln!("{message}");
+            ExitCode::from(2)
+        }
+    }
+}

@@ -1,0 +1,146 @@
+//! A question of each shape, put to the crate and to the Rust.
+
+use std::hint::black_box;
+
+use casefile::text::Packed;
+use dogwood::extension::temporal::ast::{AggExpr, Condition};
+use dogwood::interpreter::eval;
+use dogwood::interpreter::value::Trace;
+use galivodern::{Bindings, Case, Limits, Sort};
+use judge::convert::Converter;
+
+use crate::shapes::{Shape, SHAPES};
+use crate::timing::by_turns;
+
+/// The Rust's own form of a rule.
+enum Rule {
+    Condition(Condition),
+    Aggregate(AggExpr),
+}
+
+/// One question, ready to be put to both.
+struct Asked {
+    case: Case,
+    trace: Trace,
+    rule: Rule,
+    node: u32,
+    point: usize,
+    limits: Limits,
+}
+
+impl Asked {
+    fn new(packed: &Packed, room: usize) -> Result<Asked, String> {
+        let case = Case::new(packed.tables.encode()).map_err(|refusal| refusal.to_string())?;
+        let node = packed.node("asked").ok_or("the rule has another name")?;
+        let converter = Converter { tables: &packed.tables };
+        let rule = match case.sort(node) {
+            Some(Sort::Aggregate) => Rule::Aggregate(converter.aggregate(node)),
+            _ => Rule::Condition(converter.condition(node)),
+        };
+        let point = case.contents().points - 1;
+        let limits = Limits { steps: Limits::MOST_STEPS, room };
+        Ok(Asked { case, trace: converter.trace(), rule, node, point, limits })
+    }
+
+    /// The answer's number and the steps it took.
+    fn ours(&self) -> Result<(i64, u64), String> {
+        let unbound = Bindings::new();
+        match self.rule {
+            Rule::Condition(_) => self
+                .case
+                .verdict(self.point, self.node, &unbound, self.limits)
+                .map(|answer| (i64::from(answer.value), answer.steps)),
+            Rule::Aggregate(_) => self
+                .case
+                .number(self.point, self.node, &unbound, self.limits)
+                .map(|answer| (answer.value, answer.steps)),
+        }
+        .map_err(|refused| refused.to_string())
+    }
+
+    /// As a caller of the Rust does it: the request's environment, then the rule.
+    fn theirs(&self) -> i64 {
+        let env = eval::request_env(&self.trace, self.point);
+        match &self.rule {
+            Rule::Condition(condition) => i64::from(eval::eval_condition(&self.trace, self.point, &env, condition)),
+            Rule::Aggregate(aggregate) => eval::eval_agg_expr(&self.trace, self.point, &env, aggregate),
+        }
+    }
+}
+
+/// One size of a shape, timed: nanoseconds a question.
+struct Timed {
+    points: usize,
+    steps: u64,
+    ours: f64,
+    theirs: f64,
+}
+
+fn timed(shape: &Shape, points: usize) -> Result<Timed, String> {
+    let asked = Asked::new(&shape.case(points)?, shape.room)?;
+    let (answer, steps) = asked.ours()?;
+    let rust = asked.theirs();
+    if answer != rust {
+        return Err(format!("{}: {answer}, the Rust says {rust}", shape.name));
+    }
+    let (ours, theirs) = by_turns(|| asked.ours(), || asked.theirs());
+    Ok(Timed { points, steps, ours, theirs })
+}
+
+pub fn print_tables() -> Result<bool, String> {
+    println!("| shape | points | steps | proved | the Rust | ratio | proved, ns a step | the Rust |");
+    println!("|---|---|---|---|---|---|---|---|");
+    let mut growth = Vec::new();
+    for shape in SHAPES {
+        let sizes = [1, 4, 16].map(|times| timed(shape, times * shape.points));
+        let sizes: Vec<Timed> = sizes.into_iter().collect::<Result<_, _>>()?;
+        for Timed { points, steps, ours, theirs } in &sizes {
+            let per_step = |time: f64| time / *steps as f64;
+            println!(
+                "| {} | {points} | {steps} | {} | {} | {:.1} | {:.1} | {:.1} |",
+                shape.name,
+                shown(*ours),
+                shown(*theirs),
+                theirs / ours,
+                per_step(*ours),
+                per_step(*theirs),
+            );
+        }
+        growth.push((shape.name, sizes));
+    }
+    println!("\n| shape | steps, 4x and 16x the points | proved | the Rust |");
+    println!("|---|---|---|---|");
+    for (name, sizes) in &growth {
+        let times = |of: fn(&Timed) -> f64| {
+            let first = of(&sizes[0]);
+            format!("{:.1}, {:.1}", of(&sizes[1]) / first, of(&sizes[2]) / first)
+        };
+        println!("| {name} | {} | {} | {} |", times(|t| t.steps as f64), times(|t| t.ours), times(|t| t.theirs));
+    }
+    Ok(true)
+}
+
+/// Nanoseconds in a handy unit.
+fn shown(time: f64) -> String {
+    match time {
+        t if t < 1e3 => format!("{t:.0} ns"),
+        t if t < 1e6 => format!("{:.1} µs", t / 1e3),
+        t if t < 1e9 => format!("{:.1} ms", t / 1e6),
+        t => format!("{:.2} s", t / 1e9),
+    }
+}
+
+/// One shape at 4x, so many times, of one side alone: for a profiler.
+pub fn once(name: &str, times: u64, rust: bool) -> Result<bool, String> {
+    let shape = SHAPES.iter().find(|shape| shape.name == name).ok_or(format!("there is no shape `{name}`"))?;
+    let asked = Asked::new(&shape.case(4 * shape.points)?, shape.room)?;
+    for _ in 0..times {
+        if rust {
+            black_box(asked.theirs());
+        } else {
+            black_box(asked.ours()?);
+        }
+    }
+    println!("{name}: {times} times {} steps", asked.ours()?.1);
+    Ok(true)
+}

@@ -1,0 +1,266 @@
+use std::fmt;
+use std::sync::{Mutex, PoisonError};
+
+use crate::answer::Answer;
+use crate::bindings::Bindings;
+use crate::limits::Limits;
+use crate::records::{Records, Sort, Value};
+use crate::refusal::{Refusal, Refused};
+use crate::rows::Rows;
+use crate::sys::{Checked, Question, Told};
+
+/// The most variables that a case has.
+const MOST_VARIABLES: usize = 16;
+
+/// A case that has passed the check: a log of points, and rules over it as numbered nodes.
+///
+/// It owns its bytes and a workspace, which it uses again from question to question. It may be
+/// shared between threads: where two ask at once, the second takes a workspace of its own.
+pub struct Case {
+    checked: Checked,
+    /// What the last question used; empty while one is asked.
+    spare: Mutex<Buffers>,
+}
+
+#[derive(Default)]
+struct Buffers {
+    workspace: Vec<u64>,
+    output: Vec<u64>,
+}
+
+/// How much a case holds. Each kind of record is numbered from 0.
+#[derive(Clone, Copy, Debug, PartialEq, Eq)]
+pub struct Contents {
+    pub variables: usize,
+    pub strings: usize,
+    pub values: usize,
+    pub points: usize,
+    pub nodes: usize,
+}
+
+impl Case {
+    /// Checks a case file. What is wrong with it, if anything, is one of the first six refusals.
+    ///
+    /// ```
+    /// use galivodern::{Case, Refusal};
+    ///
+    /// assert_eq!(Case::new(*b"no case").unwrap_err(), Refusal::BadContents);
+    /// ```
+    pub fn new(bytes: impl Into<Vec<u8>>) -> Result<Case, Refusal> {
+        match Checked::new(bytes.into()) {
+            Ok(checked) => Ok(Case { checked, spare: Mutex::default() }),
+            Err(returned) => Err(Refusal::of_return(returned).expect("0 is no refusal")),
+        }
+    }
+
+    /// Whether a condition holds at a point.
+    ///
+    /// ```
+    /// # use galivodern::{Bindings, Bound, Case, Limits, Refusal};
+    /// let text = r#"
+    ///     variables x
+    ///     point 120 Flash logged {n: 7}
+    ///     rule flashed = Flash(n: x)
+    /// "#;
+    /// let case = Case::new(casefile::text::pack(text).expect("well formed").tables.encode())?;
+    /// let flashed = case.last_node().expect("there is a rule");
+    ///
+    /// let seven = Bindings::new().with(0, Bound::Int(7));
+    /// assert!(case.verdict(0, flashed, &seven, Limits::default())?.value);
+    /// let nine = Bindings::new().with(0, Bound::Int(9));
+    /// assert!(!case.verdict(0, flashed, &nine, Limits::default())?.value);
+    ///
+    /// let refused = case.verdict(0, flashed, &nine, Limits { steps: 0, room: 0 }).unwrap_err();
+    /// assert_eq!(refused.refusal, Refusal::StepsExhausted);
+    /// # Ok::<(), Box<dyn std::error::Error>>(())
+    /// ```
+    pub fn verdict(
+        &self,
+        point: usize,
+        node: u32,
+        bindings: &Bindings,
+        limits: Limits,
+    ) -> Result<Answer<bool>, Refused> {
+        let told = self.asked(point, node, bindings, limits, 0, |question, buffers| {
+            self.checked.verdict(question, buffers.workspace)
+        });
+        Ok(answer(told)?.map(|bits| bits == 1))
+    }
+
+    /// The number of an aggregate at a point: a count, or a sum clamped to 64 bits.
+    ///
+    /// ```
+    /// # use galivodern::{Bindings, Case, Limits};
+    /// let text = r#"
+    ///     variables b
+    ///     point 100 Review logged {board: "b1"}
+    ///     point 105 Review logged {board: "b2"}
+    ///     point 110 Review logged {board: "b1"}
+    ///     number boards = count for b where formerly within 1h Review(board: b)
+    /// "#;
+    /// let case = Case::new(casefile::text::pack(text).expect("well formed").tables.encode())?;
+    /// let boards = case.last_node().expect("there is a number");
+    /// assert_eq!(case.number(2, boards, &Bindings::new(), Limits::default())?.value, 2);
+    /// # Ok::<(), Box<dyn std::error::Error>>(())
+    /// ```
+    pub fn number(&self, point: usize, node: u32, bindings: &Bindings, limits: Limits) -> Result<Answer<i64>, Refused> {
+        let told = self.asked(point, node, bindings, limits, 0, |question, buffers| {
+            self.checked.number(question, buffers.workspace)
+        });
+        Ok(answer(told)?.map(|bits| bits as i64))
+    }
+
+    /// The rows that a condition finds at a point, on the variables in `binders`, each row once.
+    ///
+    /// ```
+    /// # use galivodern::{Bindings, Bound, Case, Limits, Value};
+    /// let text = r#"
+    ///     variables b n
+    ///     point 100 Review logged {board: "b1", n: 3}
+    ///     point 105 Review logged {board: "b2", n: 3}
+    ///     rule reviewed = formerly within 1h Review(board: b, n: n)
+    /// "#;
+    /// let case = Case::new(casefile::text::pack(text).expect("well formed").tables.encode())?;
+    /// let reviewed = case.last_node().expect("there is a rule");
+    /// let found = case.rows(1, reviewed, &[0, 1], &Bindings::new(), Limits::default())?.value;
+    ///
+    /// assert_eq!(found.len(), 2);
+    /// let first = found.get(0).expect("there are two");
+    /// assert_eq!(first.get(1), Some(Bound::Int(3)));
+    /// let Some(Bound::Value(board)) = first.get(0) else { panic!("a board is a string") };
+    /// assert_eq!(case.value(board), Some(Value::String("b1")));
+    /// # Ok::<(), Box<dyn std::error::Error>>(())
+    /// ```
+    pub fn rows(
+        &self,
+        point: usize,
+        node: u32,
+        binders: &[u32],
+        bindings: &Bindings,
+        limits: Limits,
+    ) -> Result<Answer<Rows>, Refused> {
+        // No more rows are given than are held, so the output takes whatever is found.
+        let width = 2 * binders.len();
+        let cells = width.saturating_mul(allowed_room(limits));
+        let mut given = Vec::new();
+        let told = self.asked(point, node, bindings, limits, cells, |question, buffers| {
+            let told = self.checked.rows(question, binders, buffers.workspace, buffers.output);
+            given.extend_from_slice(&buffers.output[..width * told.answer as usize]);
+            told
+        });
+        Ok(answer(told)?.map(|count| Rows::new(binders.len(), count as usize, given)))
+    }
+
+    /// Asks with a workspace as large as the limits need and an output of so many cells.
+    fn asked(
+        &self,
+        point: usize,
+        node: u32,
+        bindings: &Bindings,
+        limits: Limits,
+        output: usize,
+        call: impl FnOnce(Question, Lent) -> Told,
+    ) -> Told {
+        let variables = self.contents().variables;
+        let mut padded = [0; 2 * MOST_VARIABLES];
+        let start = start_cells(bindings.cells(), variables, &mut padded);
+        let workspace = 2 * variables * allowed_room(limits);
+        let mut buffers = std::mem::take(&mut *self.spare.lock().unwrap_or_else(PoisonError::into_inner));
+        let lent = Lent {
+            workspace: at_least(&mut buffers.workspace, workspace),
+            output: at_least(&mut buffers.output, output),
+        };
+        let told = call(Question { point, node, start, limits }, lent);
+        *self.spare.lock().unwrap_or_else(PoisonError::into_inner) = buffers;
+        told
+    }
+
+    /// How much the case holds.
+    pub fn contents(&self) -> Contents {
+        let [variables, strings, values, points, nodes] = self.checked.contents().map(|count| count as usize);
+        Contents { variables, strings, values, points, nodes }
+    }
+
+    /// The last node, which is the last rule of a case that was packed from text.
+    pub fn last_node(&self) -> Option<u32> {
+        self.contents().nodes.checked_sub(1).map(|node| node as u32)
+    }
+
+    /// What a node is; None where there is none of this number.
+    pub fn sort(&self, node: u32) -> Option<Sort> {
+        ((node as usize) < self.contents().nodes).then(|| self.records().sort(node))
+    }
+
+    /// A value of the case; None where there is none of this number.
+    pub fn value(&self, number: u32) -> Option<Value<'_>> {
+        ((number as usize) < self.contents().values).then(|| self.records().value(number))
+    }
+
+    /// A string of the case; None where there is none of this number.
+    pub fn string(&self, number: u32) -> Option<&str> {
+        ((number as usize) < self.contents().strings).then(|| self.records().string(number))
+    }
+
+    fn records(&self) -> Records<'_> {
+        Records { bytes: self.bytes() }
+    }
+
+    /// The case file.
+    pub fn bytes(&self) -> &[u8] {
+        self.checked.bytes()
+    }
+
+    /// The case file, given back.
+    pub fn into_bytes(self) -> Vec<u8> {
+        self.checked.into_bytes()
+    }
+}
+
+impl Clone for Case {
+    fn clone(&self) -> Case {
+        Case { checked: self.checked.clone(), spare: Mutex::default() }
+    }
+}
+
+impl fmt::Debug for Case {
+    fn fmt(&self, f: &mut fmt::Formatter) -> fmt::Result {
+        f.debug_struct("Case").field("bytes", &self.bytes().len()).field("contents", &self.contents()).finish()
+    }
+}
+
+/// What a question may write to.
+struct Lent<'a> {
+    workspace: &'a mut [u64],
+    output: &'a mut [u64],
+}
+
+/// The room that memory is set aside for: a call refuses more before it uses any.
+fn allowed_room(limits: Limits) -> usize {
+    limits.room.min(Limits::MOST_ROOM)
+}
+
+fn at_least(buffer: &mut Vec<u64>, cells: usize) -> &mut [u64] {
+    if buffer.len() < cells {
+        buffer.resize(cells, 0);
+    }
+    &mut buffer[..cells]
+}
+
+/// Two cells for each variable of the case; or more, where one is bound that the case does not
+/// have, which the call refuses.
+fn start_cells<'a>(bound: &'a [u64], variables: usize, padded: &'a mut [u64; 2 * MOST_VARIABLES]) -> &'a [u64] {
+    if bound.len() > 2 * variables {
+        return bound;
+    }
+    padded[..bound.len()].copy_from_slice(bound);
+    &padded[..2 * variables]
+}
+
+fn answer(told: Told) -> Result<Answer<u64>, Refused> {
+    let Told { returned, answer, steps, held } = told;
+    let held = held as usize;
+    match Refusal::of_return(returned) {
+        None => Ok(Answer { value: answer, steps, held }),
+        Some(refusal) => Err(Refused { refusal, steps, held }),
+    }
+}

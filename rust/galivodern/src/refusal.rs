@@ -1,0 +1,130 @@
+use std::fmt;
+
+/// Why a case or a question is refused. Of several reasons the first in this order is given, save
+/// that of the last but one and the one before it the one that is met first is given.
+#[derive(Clone, Copy, Debug, PartialEq, Eq, PartialOrd, Ord, Hash)]
+#[repr(u8)]
+pub enum Refusal {
+    /// Shorter than 64 bytes, edition not 1, or tables misplaced or no whole number of records.
+    BadContents = 1,
+    /// The file, a table or the number of variables is above its most.
+    TooLarge = 2,
+    /// A string rule is broken.
+    BadStrings = 3,
+    /// A value or member rule is broken, or a value is too deep.
+    BadValues = 4,
+    /// A point or entity rule is broken.
+    BadPoints = 5,
+    /// A node rule is broken, or a node is too high.
+    BadNodes = 6,
+    /// The case has no such point.
+    NoSuchPoint = 7,
+    /// The case has no such node, or it is not of the sort that the call answers.
+    NoSuchNode = 8,
+    /// The starting bindings are malformed.
+    BadStart = 9,
+    /// A limit is above its most.
+    BadLimits = 10,
+    /// The answer takes more steps than allowed.
+    StepsExhausted = 11,
+    /// The answer takes more rows than allowed.
+    RoomExhausted = 12,
+    /// A binder is no variable of the case.
+    BadOutput = 13,
+}
+
+impl Refusal {
+    /// All refusals, in order.
+    pub const ALL: [Refusal; 13] = [
+        Refusal::BadContents,
+        Refusal::TooLarge,
+        Refusal::BadStrings,
+        Refusal::BadValues,
+        Refusal::BadPoints,
+        Refusal::BadNodes,
+        Refusal::NoSuchPoint,
+        Refusal::NoSuchNode,
+        Refusal::BadStart,
+        Refusal::BadLimits,
+        Refusal::StepsExhausted,
+        Refusal::RoomExhausted,
+        Refusal::BadOutput,
+    ];
+
+    /// Its number, from 1 to 13.
+    pub fn number(self) -> u8 {
+        self as u8
+    }
+
+    /// What a call returned: None for 0, an answer.
+    pub(crate) fn of_return(number: u64) -> Option<Refusal> {
+        if number == 0 {
+            return None;
+        }
+        let refusal = Refusal::ALL.into_iter().find(|refusal| u64::from(refusal.number()) == number);
+        Some(refusal.unwrap_or_else(|| panic!("libcapi.a returned {number}, which no call of galivodern.h does here")))
+    }
+}
+
+impl fmt::Display for Refusal {
+    fn fmt(&self, f: &mut fmt::Formatter) -> fmt::Result {
+        f.write_str(match self {
+            Refusal::BadContents => {
+                "no case file: shorter than 64 bytes, not of edition 1, or its tables are misplaced or cut short"
+            }
+            Refusal::TooLarge => "the file, one of its tables or its number of variables is larger than allowed",
+            Refusal::BadStrings => {
+                "a string is not UTF-8, or the strings are not in rising order or do not fill the text"
+            }
+            Refusal::BadValues => "a value or a member breaks a rule of the case file, or a value is more than 32 deep",
+            Refusal::BadPoints => "a point or one of its entities breaks a rule of the case file",
+            Refusal::BadNodes => "a node breaks a rule of the case file, or a node is more than 64 high",
+            Refusal::NoSuchPoint => "the case has no such point",
+            Refusal::NoSuchNode => {
+                "the case has no such node, or it is of another sort: verdicts and rows are asked of conditions, \
+                 numbers of counts and sums"
+            }
+            Refusal::BadStart => {
+                "a starting binding is malformed: no such variable, no such value or string, or an integer given as a \
+                 value's number"
+            }
+            Refusal::BadLimits => "more than 1,000,000,000 steps or room for more than 16,384 rows is asked for",
+            Refusal::StepsExhausted => "the answer takes more steps than allowed",
+            Refusal::RoomExhausted => "the answer takes more rows than allowed",
+            Refusal::BadOutput => "rows are asked for a variable that the case does not have",
+        })
+    }
+}
+
+impl std::error::Error for Refusal {}
+
+/// A refused question, with what was spent on it.
+#[derive(Clone, Copy, Debug, PartialEq, Eq)]
+pub struct Refused {
+    pub refusal: Refusal,
+    /// The steps that were spent before: none, unless the walk had begun.
+    pub steps: u64,
+    /// The greatest number of rows that were held at once.
+    pub held: usize,
+}
+
+impl fmt::Display for Refused {
+    fn fmt(&self, f: &mut fmt::Formatter) -> fmt::Result {
+        let Refused { refusal, steps, held } = self;
+        write!(f, "{refusal}")?;
+        if *refusal > Refusal::BadLimits {
+            write!(f, " ({steps} spent, at most {held} rows held)", steps = counted(*steps, "step"))?;
+        }
+        Ok(())
+    }
+}
+
+fn counted(number: u64, what: &str) -> String {
+    format!("{number} {what}{}", if number == 1 { "" } else { "s" })
+}
+
+impl std::error::Error for Refused {
+    fn source(&self) -> Option<&(dyn std::error::Error + 'static)> {
+        Some(&self.refusal)
+    }
+}

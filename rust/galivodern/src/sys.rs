@@ -1,0 +1,196 @@
+//! The C calls of libcapi.a that this crate uses (include/galivodern.h), and all its `unsafe` code.
+
+use crate::limits::Limits;
+
+/// The check of a case.
+const CONTENTS_CELLS: usize = 5;
+/// What a question is told: answer, steps, rows held.
+const TOLD_CELLS: usize = 3;
+
+/// `galivodern_checked_verdict` and `galivodern_checked_number` take the same.
+type Ask = unsafe extern "C" fn(
+    file: *const u8,
+    file_len: usize,
+    point: usize,
+    node: u32,
+    start: *const u64,
+    start_len: usize,
+    steps: u64,
+    room: usize,
+    work: *mut u64,
+    work_len: usize,
+    told: *mut u64,
+    told_len: usize,
+) -> u64;
+
+extern "C" {
+    fn galivodern_check(file: *const u8, file_len: usize, contents: *mut u64, contents_len: usize) -> u64;
+
+    fn galivodern_checked_verdict(
+        file: *const u8,
+        file_len: usize,
+        point: usize,
+        node: u32,
+        start: *const u64,
+        start_len: usize,
+        steps: u64,
+        room: usize,
+        work: *mut u64,
+        work_len: usize,
+        told: *mut u64,
+        told_len: usize,
+    ) -> u64;
+
+    fn galivodern_checked_number(
+        file: *const u8,
+        file_len: usize,
+        point: usize,
+        node: u32,
+        start: *const u64,
+        start_len: usize,
+        steps: u64,
+        room: usize,
+        work: *mut u64,
+        work_len: usize,
+        told: *mut u64,
+        told_len: usize,
+    ) -> u64;
+
+    fn galivodern_checked_rows(
+        file: *const u8,
+        file_len: usize,
+        point: usize,
+        node: u32,
+        start: *const u64,
+        start_len: usize,
+        steps: u64,
+        room: usize,
+        work: *mut u64,
+        work_len: usize,
+        binders: *const u32,
+        binders_len: usize,
+        output: *mut u64,
+        output_len: usize,
+        told: *mut u64,
+        told_len: usize,
+    ) -> u64;
+}
+
+/// The bytes of a case that has passed the check. Only `new` makes one, and nothing changes its
+/// bytes: that is what makes the checked calls sound.
+#[derive(Clone)]
+pub(crate) struct Checked {
+    bytes: Vec<u8>,
+    contents: [u64; CONTENTS_CELLS],
+}
+
+/// What is asked of a checked case.
+#[derive(Clone, Copy)]
+pub(crate) struct Question<'a> {
+    pub point: usize,
+    pub node: u32,
+    pub start: &'a [u64],
+    pub limits: Limits,
+}
+
+/// What a call returned, and what it told.
+#[derive(Clone, Copy)]
+pub(crate) struct Told {
+    pub returned: u64,
+    pub answer: u64,
+    pub steps: u64,
+    pub held: u64,
+}
+
+impl Told {
+    fn new(returned: u64, told: [u64; TOLD_CELLS]) -> Told {
+        let [answer, steps, held] = told;
+        Told { returned, answer, steps, held }
+    }
+}
+
+impl Checked {
+    /// The refusal's number where the check does not pass.
+    pub fn new(bytes: Vec<u8>) -> Result<Checked, u64> {
+        let mut contents = [0; CONTENTS_CELLS];
+        // SAFETY: both slices are live and apart from each other, and the call takes any bytes.
+        let returned = unsafe { galivodern_check(bytes.as_ptr(), bytes.len(), contents.as_mut_ptr(), contents.len()) };
+        if returned == 0 {
+            Ok(Checked { bytes, contents })
+        } else {
+            Err(returned)
+        }
+    }
+
+    pub fn bytes(&self) -> &[u8] {
+        &self.bytes
+    }
+
+    pub fn into_bytes(self) -> Vec<u8> {
+        self.bytes
+    }
+
+    /// V, and how many strings, values, points and nodes there are.
+    pub fn contents(&self) -> [u64; CONTENTS_CELLS] {
+        self.contents
+    }
+
+    pub fn verdict(&self, question: Question, work: &mut [u64]) -> Told {
+        self.ask(galivodern_checked_verdict, question, work)
+    }
+
+    pub fn number(&self, question: Question, work: &mut [u64]) -> Told {
+        self.ask(galivodern_checked_number, question, work)
+    }
+
+    fn ask(&self, call: Ask, question: Question, work: &mut [u64]) -> Told {
+        let Question { point, node, start, limits } = question;
+        let mut told = [0; TOLD_CELLS];
+        // SAFETY: the bytes have passed the check and are unchanged since (see `Checked`); every slice
+        // is live for the call, and those that are written to are borrowed for it alone.
+        let returned = unsafe {
+            call(
+                self.bytes.as_ptr(),
+                self.bytes.len(),
+                point,
+                node,
+                start.as_ptr(),
+                start.len(),
+                limits.steps,
+                limits.room,
+                work.as_mut_ptr(),
+                work.len(),
+                told.as_mut_ptr(),
+                told.len(),
+            )
+        };
+        Told::new(returned, told)
+    }
+
+    pub fn rows(&self, question: Question, binders: &[u32], work: &mut [u64], output: &mut [u64]) -> Told {
+        let Question { point, node, start, limits } = question;
+        let mut told = [0; TOLD_CELLS];
+        // SAFETY: as in `ask`.
+        let returned = unsafe {
+            galivodern_checked_rows(
+                self.bytes.as_ptr(),
+                self.bytes.len(),
+                point,
+                node,
+                start.as_ptr(),
+                start.len(),
+                limits.steps,
+                limits.room,
+                work.as_mut_ptr(),
+                work.len(),
+                binders.as_ptr(),
+                binders.len(),
+                output.as_mut_ptr(),
+                output.len(),
+                told.as_mut_ptr(),
+                told.len(),
+            )
+        };
+        Told::new(returned, told)
+    }
+}

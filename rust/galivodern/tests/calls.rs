@@ -1,0 +1,191 @@
+//! What each call of the crate promises: every refusal, buffers used again, cases shared.
+
+use std::error::Error;
+
+use casefile::text::{pack, Packed};
+use galivodern::{Answer, Bindings, Bound, Case, Contents, Limits, Refusal, Refused, Sort, Value};
+
+const TEXT: &str = r#"
+    variables b n
+
+    point 100 Review
+      logged {board: "b1", n: 3}
+      principal User::"ann"
+      entity User::"ann" {tags: [1, "red"], dept: {name: "bench"}}
+    point 110 Flash
+      logged {board: "b1", n: 4}
+
+    rule reviewed = formerly within 1h Review(board: b, n: n)
+    number boards = count for b where @reviewed
+    rule owner = b == principal.id
+"#;
+
+fn packed() -> Packed {
+    pack(TEXT).expect("the text is well formed")
+}
+
+fn case() -> Case {
+    Case::new(packed().tables.encode()).expect("a packed case passes the check")
+}
+
+fn node(name: &str) -> u32 {
+    packed().node(name).expect("the text names it")
+}
+
+fn refusal<T: std::fmt::Debug>(said: Result<Answer<T>, Refused>) -> Refusal {
+    said.expect_err("the call is refused").refusal
+}
+
+#[test]
+fn a_case_says_what_it_holds() {
+    let case = case();
+    let Contents { variables, points, nodes, .. } = case.contents();
+    assert_eq!((variables, points), (2, 2));
+    assert_eq!(case.last_node(), Some(nodes as u32 - 1));
+    assert_eq!(case.sort(node("reviewed")), Some(Sort::Condition));
+    assert_eq!(case.sort(node("boards")), Some(Sort::Aggregate));
+    assert_eq!(case.sort(0), Some(Sort::Term));
+    assert_eq!(case.sort(nodes as u32), None);
+    assert_eq!(case.clone().into_bytes(), packed().tables.encode());
+    let empty = Case::new(casefile::Tables::default().encode()).expect("an empty case passes");
+    assert_eq!(empty.last_node(), None);
+}
+
+#[test]
+fn values_are_read_as_they_were_written() {
+    let case = case();
+    let values: Vec<Value> = (0..).map_while(|number| case.value(number)).collect();
+    assert_eq!(values.len(), case.contents().values);
+    assert!(values.contains(&Value::Int(3)));
+    assert!(values.contains(&Value::String("b1")));
+    assert!(values.contains(&Value::Entity { ty: "User", id: "ann" }));
+    let number = |value: &Value| values.iter().position(|known| known == value).expect("it is there") as u32;
+    let array = Value::Array(vec![number(&Value::Int(1)), number(&Value::String("red"))]);
+    assert!(values.contains(&array));
+    let object = Value::Object(vec![("name", number(&Value::String("bench")))]);
+    assert!(values.contains(&object));
+    assert_eq!(case.string(case.contents().strings as u32), None);
+}
+
+#[test]
+fn a_part_of_an_entity_is_a_row_too() {
+    let case = case();
+    let found = case.rows(0, node("owner"), &[0], &Bindings::new(), Limits::default()).expect("an answer");
+    let Some(Bound::Part(string)) = found.value.get(0).expect("one row").get(0) else { panic!("an own part") };
+    assert_eq!(case.string(string), Some("ann"));
+    let ann = Bindings::new().with(0, Bound::Part(string));
+    assert!(case.verdict(0, node("owner"), &ann, Limits::default()).expect("an answer").value);
+}
+
+#[test]
+fn rows_come_in_order_with_what_is_absent() {
+    let case = case();
+    let limits = Limits::default();
+    let start = Bindings::new().with(1, Bound::Int(3));
+    let found = case.rows(1, node("reviewed"), &[1, 0, 0], &start, limits).expect("an answer").value;
+    assert_eq!(found.len(), 1);
+    let row: Vec<Option<Bound>> = found.iter().next().expect("one row").iter().collect();
+    // n was bound before, so the row does not bind it; the board is asked for twice.
+    assert_eq!(row[0], None);
+    assert!(matches!(row[1], Some(Bound::Value(_))));
+    assert_eq!(row[1], row[2]);
+    assert_eq!(found.get(1), None);
+    let none = case.rows(1, node("reviewed"), &[], &Bindings::new(), limits).expect("an answer").value;
+    assert_eq!((none.len(), none.iter().map(|row| row.iter().len()).sum::<usize>()), (1, 0));
+}
+
+#[test]
+fn each_refusal_of_a_question_is_given() {
+    let case = case();
+    let (limits, unbound) = (Limits::default(), Bindings::new());
+    let (reviewed, boards) = (node("reviewed"), node("boards"));
+    let verdict = |point, node, start: &Bindings, limits| case.verdict(point, node, start, limits);
+    assert_eq!(refusal(verdict(2, reviewed, &unbound, limits)), Refusal::NoSuchPoint);
+    assert_eq!(refusal(verdict(usize::MAX, reviewed, &unbound, limits)), Refusal::NoSuchPoint);
+    assert_eq!(refusal(verdict(0, u32::MAX, &unbound, limits)), Refusal::NoSuchNode);
+    assert_eq!(refusal(verdict(0, boards, &unbound, limits)), Refusal::NoSuchNode);
+    assert_eq!(refusal(case.number(0, reviewed, &unbound, limits)), Refusal::NoSuchNode);
+    for start in [
+        Bindings::new().with(2, Bound::Int(1)),
+        Bindings::new().with(u16::MAX, Bound::Int(1)),
+        Bindings::new().with(0, Bound::Value(u32::MAX)),
+        Bindings::new().with(0, Bound::Part(u32::MAX)),
+    ] {
+        assert_eq!(refusal(verdict(0, reviewed, &start, limits)), Refusal::BadStart);
+    }
+    for limits in [
+        Limits { steps: Limits::MOST_STEPS + 1, room: 0 },
+        Limits { steps: u64::MAX, room: 0 },
+        Limits { steps: 1, room: Limits::MOST_ROOM + 1 },
+        Limits { steps: 1, room: usize::MAX },
+    ] {
+        assert_eq!(refusal(verdict(0, reviewed, &unbound, limits)), Refusal::BadLimits);
+        assert_eq!(refusal(case.rows(0, reviewed, &[0], &unbound, limits)), Refusal::BadLimits);
+    }
+    let starved = case.number(1, boards, &unbound, Limits { steps: 1, room: 9 }).expect_err("one step is too few");
+    assert_eq!(starved, Refused { refusal: Refusal::StepsExhausted, steps: 1, held: 0 });
+    let cramped = case.number(1, boards, &unbound, Limits { steps: 99, room: 0 }).expect_err("a row is needed");
+    assert_eq!((cramped.refusal, cramped.held), (Refusal::RoomExhausted, 0));
+    let wrong = case.rows(1, reviewed, &[0, 2], &unbound, limits).expect_err("there is no third variable");
+    assert_eq!((wrong.refusal, wrong.held), (Refusal::BadOutput, 1));
+    assert!(case.verdict(1, reviewed, &unbound, Limits::MOST).expect("the most is allowed").value);
+}
+
+#[test]
+fn an_answer_takes_what_it_says() {
+    let case = case();
+    let (boards, unbound) = (node("boards"), Bindings::new());
+    let answer = case.number(1, boards, &unbound, Limits::default()).expect("an answer");
+    let just = Limits { steps: answer.steps, room: answer.held };
+    assert_eq!(case.number(1, boards, &unbound, just), Ok(answer));
+    let fewer = Limits { steps: answer.steps - 1, ..just };
+    assert_eq!(refusal(case.number(1, boards, &unbound, fewer)), Refusal::StepsExhausted);
+    let narrower = Limits { room: answer.held - 1, ..just };
+    assert_eq!(refusal(case.number(1, boards, &unbound, narrower)), Refusal::RoomExhausted);
+}
+
+#[test]
+fn refusals_have_numbers_and_words() {
+    let words: Vec<String> = Refusal::ALL.iter().map(Refusal::to_string).collect();
+    for (k, refusal) in Refusal::ALL.into_iter().enumerate() {
+        assert_eq!(usize::from(refusal.number()), k + 1);
+        assert_eq!(words.iter().filter(|other| **other == words[k]).count(), 1);
+    }
+    let refused = Refused { refusal: Refusal::StepsExhausted, steps: 1, held: 0 };
+    assert_eq!(refused.to_string(), "the answer takes more steps than allowed (1 step spent, at most 0 rows held)");
+    assert_eq!(refused.source().map(ToString::to_string), Some(Refusal::StepsExhausted.to_string()));
+    let refused = Refused { refusal: Refusal::NoSuchPoint, steps: 0, held: 0 };
+    assert_eq!(refused.to_string(), "the case has no such point");
+}
+
+#[test]
+fn a_shared_case_answers_each_thread() {
+    let case = case();
+    let (boards, reviewed, unbound) = (node("boards"), node("reviewed"), Bindings::new());
+    std::thread::scope(|scope| {
+        for thread in 0..4 {
+            let (case, unbound) = (&case, &unbound);
+            scope.spawn(move || {
+                for k in 0..500 {
+                    let limits = Limits { steps: 1_000, room: 1 + (7 * k + thread) % 50 };
+                    let count = case.number(1, boards, unbound, limits).expect("an answer");
+                    assert_eq!((count.value, count.held), (1, 1));
+                    let rows = case.rows(1, reviewed, &[0, 1], unbound, limits).expect("an answer").value;
+                    assert_eq!(rows.get(0).and_then(|row| row.get(1)), Some(Bound::Int(3)));
+                }
+            });
+        }
+    });
+}
+
+/// 62 nodes one above the other, over a predicate and its term.
+#[test]
+fn a_rule_of_the_greatest_height_needs_little_stack() {
+    let points = "point 1 A logged {n: 1}\n".repeat(2);
+    let rule = format!("rule tall = {}A(n: x)", "exists x formerly within 1h ".repeat(31));
+    let packed = pack(&format!("variables x\n{points}{rule}")).expect("the text is well formed");
+    let case = Case::new(packed.tables.encode()).expect("height 64 passes the check");
+    let asked = move || case.verdict(1, case.last_node()?, &Bindings::new(), Limits::default()).ok();
+    let thread = std::thread::Builder::new().stack_size(1 << 20).spawn(asked).expect("a thread");
+    assert_eq!(thread.join().expect("no overflow").map(|answer| answer.value), Some(true));
+}

@@ -1,0 +1,56 @@
+//! The examples of document 01, and the files that break each rule of the check, through the crate.
+
+use galivodern::{Bindings, Bound, Case, Limits, Refusal, Refused};
+use generate::examples::{examples, Example};
+use generate::rules::rule_files;
+use generate::Kind;
+
+/// The starting cells as bindings: the examples bind integers only.
+fn bindings(start: &[u64]) -> Bindings {
+    start.chunks(2).enumerate().fold(Bindings::new(), |bindings, (variable, cells)| match cells {
+        [1, bits] => bindings.with(variable as u16, Bound::Int(*bits as i64)),
+        _ => bindings,
+    })
+}
+
+/// Refusal or 0, answer's bits, steps and rows held.
+fn ask(case: &Case, example: &Example) -> (u8, u64, (u64, u64)) {
+    let call = &example.call;
+    let (point, bindings) = (call.point as usize, bindings(&call.start));
+    let limits = Limits { steps: call.limit, room: call.room as usize };
+    let said = match call.kind {
+        Kind::Number => case.number(point, call.node, &bindings, limits).map(|answer| answer.map(|n| n as u64)),
+        _ => case.verdict(point, call.node, &bindings, limits).map(|answer| answer.map(u64::from)),
+    };
+    match said {
+        Ok(answer) => (0, answer.value, (answer.steps, answer.held as u64)),
+        Err(Refused { refusal, steps, held }) => (refusal.number(), 0, (steps, held as u64)),
+    }
+}
+
+#[test]
+fn examples_are_answered_as_expected() {
+    let examples = examples().expect("the examples can be read");
+    assert!(examples.expected.len() >= 28);
+    for example in &examples.expected {
+        let case = Case::new(examples.cases[&example.file].tables.encode()).expect("an example passes the check");
+        let (refusal, answer, numbers) = ask(&case, example);
+        let expected = example.numbers.unwrap_or(numbers);
+        assert_eq!(
+            (u32::from(refusal), answer, numbers),
+            (example.refusal, example.answer, expected),
+            "{}",
+            example.line
+        );
+    }
+}
+
+#[test]
+fn each_broken_rule_is_refused_by_its_number() {
+    let files = rule_files();
+    assert!(files.len() > 400);
+    for file in files {
+        let said = Case::new(file.bytes).err().map_or(0, Refusal::number);
+        assert_eq!(u32::from(said), file.expected, "{}", file.rule);
+    }
+}

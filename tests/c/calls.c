@@ -1,0 +1,151 @@
+/* Calls every function of galivodern.h on a case that is put together here, word by word. */
+#include <stdint.h>
+#include <stdio.h>
+#include <string.h>
+
+#include "galivodern.h"
+
+#define NONE 4294967295u
+#define PREDICATE 1u
+#define COUNT 2u
+
+/* Strings, values, members, points, nodes, lists: one point A(n: 7), the rule A(n: x), and its count. */
+static const uint32_t words[] = {
+    0, 1, 1, 1, 2, 7,                                /* strings: "A", "n", "request" */
+    2, 7, 0, 0, 7, 0, 1, 0, 7, 0, 0, 0,              /* values: 7, {n: 7}, {} */
+    1, 0,                                            /* member: n is value 0 */
+    100, 0, 0, 0, 0, 2, 1, 2, NONE, NONE, 0, 0,      /* the point, at time 100 */
+    23, 0, 0, 0, 0, 0, 0, 0,                         /* node 0: variable 0 */
+    7, 0, 0, 0, 2, 0, 1, 0,                          /* node 1: A(n: variable 0) */
+    31, 3, 1, 1, 0, 0, 0, 0,                         /* node 2: count for variable 0 where node 1 */
+    4, 1, 0, 0, 1,                                   /* argument (path, term), binder, path */
+};
+static const uint32_t lengths[] = {24, 48, 8, 48, 96, 20, 9};
+static const char text[] = "Anrequest";
+
+static int failed, checked;
+
+static void check(int kept, const char *what, int line) {
+    checked++;
+    if (!kept) {
+        failed++;
+        printf("tests/c/calls.c:%d: %s\n", line, what);
+    }
+}
+
+#define CHECK(kept) check(kept, #kept, __LINE__)
+
+static size_t put(uint8_t *file, size_t at, uint32_t word) {
+    for (int k = 0; k < 4; k++) {
+        file[at + k] = (uint8_t)(word >> (8 * k));
+    }
+    return at + 4;
+}
+
+/* Writes the case; gives its length. */
+static size_t write_case(uint8_t *file) {
+    uint32_t offset = 64;
+    size_t at = put(file, put(file, 0, 1), 1);
+    for (size_t k = 0; k < 7; k++) {
+        at = put(file, put(file, at, offset), lengths[k]);
+        offset += lengths[k];
+    }
+    for (size_t k = 0; k < sizeof words / sizeof words[0]; k++) {
+        at = put(file, at, words[k]);
+    }
+    memcpy(file + at, text, lengths[6]);
+    return at + lengths[6];
+}
+
+typedef uint64_t ask(const uint8_t *, size_t, size_t, uint32_t, const uint64_t *, size_t, uint64_t, size_t,
+                     uint64_t *, size_t, uint64_t *, size_t);
+typedef uint64_t list(const uint8_t *, size_t, size_t, uint32_t, const uint64_t *, size_t, uint64_t, size_t,
+                      uint64_t *, size_t, const uint32_t *, size_t, uint64_t *, size_t, uint64_t *, size_t);
+
+static const uint64_t unbound[2] = {0, 0}, nine[2] = {1, 9};
+
+static int same(const uint64_t *cells, uint64_t a, uint64_t b, uint64_t c) {
+    return cells[0] == a && cells[1] == b && cells[2] == c;
+}
+
+static void test_check(const uint8_t *file, size_t length) {
+    uint64_t contents[6] = {8, 8, 8, 8, 8, 8};
+    CHECK(galivodern_check(file, length, contents, 4) == GALIVODERN_TOO_FEW_CELLS && contents[0] == 8);
+    CHECK(galivodern_check(file, length - 1, contents, 6) == GALIVODERN_BAD_CONTENTS && contents[0] == 8);
+    CHECK(galivodern_check(file, length, contents, 6) == GALIVODERN_ANSWERED);
+    CHECK(contents[GALIVODERN_VARIABLES] == 1 && contents[GALIVODERN_STRINGS] == 3);
+    CHECK(contents[GALIVODERN_VALUES] == 3 && contents[GALIVODERN_POINTS] == 1);
+    CHECK(contents[GALIVODERN_NODES] == 3 && contents[5] == 8);
+}
+
+static void test_verdict(ask *verdict, const uint8_t *file, size_t length) {
+    uint64_t work[5] = {8, 8, 8, 8, 8}, told[4] = {8, 8, 8, 8};
+    CHECK(verdict(file, length, 0, PREDICATE, unbound, 2, 9, 2, work, 5, told, 2) == GALIVODERN_TOO_FEW_CELLS);
+    CHECK(same(told, 8, 8, 8) && work[0] == 8);
+    CHECK(verdict(file, length, 1, PREDICATE, unbound, 2, 9, 2, work, 5, told, 4) == GALIVODERN_NO_SUCH_POINT);
+    CHECK(same(told, 0, 0, 0) && work[0] == 8);
+    CHECK(verdict(file, length, 0, COUNT, unbound, 2, 9, 2, work, 5, told, 4) == GALIVODERN_NO_SUCH_NODE);
+    CHECK(verdict(file, length, 0, PREDICATE, unbound, 1, 9, 2, work, 5, told, 4) == GALIVODERN_BAD_START);
+    CHECK(verdict(file, length, 0, PREDICATE, unbound, 2, 9, 3, work, 5, told, 4) == GALIVODERN_BAD_LIMITS);
+    CHECK(verdict(file, length, 0, PREDICATE, unbound, 2, GALIVODERN_MOST_STEPS + 1, 2, work, 5, told, 4) ==
+          GALIVODERN_BAD_LIMITS);
+    CHECK(same(told, 0, 0, 0) && work[0] == 8);
+    CHECK(verdict(file, length, 0, PREDICATE, unbound, 2, 0, 0, work, 5, told, 4) == GALIVODERN_STEPS_EXHAUSTED);
+    CHECK(same(told, 0, 0, 0) && work[0] == 8);
+    CHECK(verdict(file, length, 0, PREDICATE, unbound, 2, 9, 2, work, 5, told, 4) == GALIVODERN_ANSWERED);
+    CHECK(same(told, 1, 1, 0) && told[3] == 8);
+    CHECK(work[0] == 0 && work[3] == 0 && work[4] == 8);
+    CHECK(verdict(file, length, 0, PREDICATE, nine, 2, 9, 2, work, 5, told, 4) == GALIVODERN_ANSWERED);
+    CHECK(same(told, 0, 1, 0));
+}
+
+static void test_number(ask *number, const uint8_t *file, size_t length) {
+    uint64_t work[4] = {8, 8, 8, 8}, told[3] = {8, 8, 8};
+    CHECK(number(file, length, 0, PREDICATE, unbound, 2, 9, 2, work, 4, told, 3) == GALIVODERN_NO_SUCH_NODE);
+    CHECK(number(file, length, 0, COUNT, unbound, 2, 9, 0, work, 4, told, 3) == GALIVODERN_ROOM_EXHAUSTED);
+    CHECK(same(told, 0, 2, 0) && work[0] == 8);
+    CHECK(number(file, length, 0, COUNT, unbound, 2, 9, 2, work, 4, told, 3) == GALIVODERN_ANSWERED);
+    CHECK(same(told, 1, 2, 1) && work[3] == 0);
+    CHECK(number(file, length, 0, COUNT, nine, 2, 9, 2, work, 4, told, 3) == GALIVODERN_ANSWERED);
+    CHECK(same(told, 1, 2, 1));
+    CHECK(number(file, length, 0, COUNT, unbound, 2, 9, 2, work, 4, told, 2) == GALIVODERN_TOO_FEW_CELLS);
+}
+
+static void test_rows(list *rows, const uint8_t *file, size_t length) {
+    const uint32_t binders[2] = {0, 1};
+    uint64_t work[4], output[3] = {8, 8, 8}, told[3] = {8, 8, 8};
+    CHECK(rows(file, length, 0, PREDICATE, unbound, 2, 9, 2, work, 4, binders, 1, output, 3, told, 0) ==
+          GALIVODERN_TOO_FEW_CELLS);
+    CHECK(rows(file, length, 0, PREDICATE, unbound, 2, 9, 2, work, 4, binders, 1, output, 1, told, 3) ==
+          GALIVODERN_BAD_OUTPUT);
+    CHECK(same(told, 0, 1, 1));
+    CHECK(rows(file, length, 0, PREDICATE, unbound, 2, 9, 2, work, 4, binders, 2, output, 3, told, 3) ==
+          GALIVODERN_BAD_OUTPUT);
+    CHECK(same(output, 8, 8, 8));
+    CHECK(rows(file, length, 0, PREDICATE, unbound, 2, 9, 2, work, 4, binders, 1, output, 3, told, 3) ==
+          GALIVODERN_ANSWERED);
+    CHECK(same(told, 1, 1, 1) && same(output, 1, 7, 8));
+    CHECK(rows(file, length, 0, PREDICATE, nine, 2, 9, 2, work, 4, binders, 1, output, 3, told, 3) ==
+          GALIVODERN_ANSWERED);
+    CHECK(same(told, 0, 1, 0) && same(output, 1, 7, 8));
+}
+
+int main(void) {
+    static uint8_t file[512];
+    size_t length = write_case(file);
+    uint64_t told[3], work[4];
+    test_check(file, length);
+    test_verdict(galivodern_verdict, file, length);
+    test_verdict(galivodern_checked_verdict, file, length);
+    test_number(galivodern_number, file, length);
+    test_number(galivodern_checked_number, file, length);
+    test_rows(galivodern_rows, file, length);
+    test_rows(galivodern_checked_rows, file, length);
+    /* A damaged case is refused by each call that has not seen it checked. */
+    file[64 + 24 + 48] = 7;
+    CHECK(galivodern_verdict(file, length, 0, PREDICATE, unbound, 2, 9, 2, work, 4, told, 3) ==
+          GALIVODERN_BAD_VALUES);
+    CHECK(same(told, 0, 0, 0));
+    printf("%d checks, %d failed\n", checked, failed);
+    return failed != 0;
+}

@@ -1,28 +1,30 @@
 -- What the program asks, for each way out of its tests
 use mathlib.Core.Path.{_≡_, refl, sym, ap, _∙_}
 use mathlib.Core.Bool.{Bool, true, false, not}
-use mathlib.Core.List.{List}
+use mathlib.Core.List.{List, _∷_}
 use mathlib.Core.Option.{Option, none, some}
-use Prim.Native.Nat.{ℕ, _-_, _<_, _≤_}
+use Prim.Native.Nat.{ℕ, zero, suc, _-_, _*_, _<_, _≤_}
 use native.Mathlib.Omega.{arith}
 use lib.Dec.{eqb, ltb}
-use lib.ListN.{length}
+use lib.ListN.{length, take, replicate}
 use borrow.Author.Tests.{eq-eqb, ne-eqb, lt-ltb, le-ltb, not-true, not-false}
 use Rattle.meaning.specs.declared.Refusal.{Refusal}
 use Rattle.meaning.specs.declared.Refusal.the-variants.{TooLarge, NoSuchNode}
 use Rattle.meaning.specs.Tests.{choose}
 use Rattle.meaning.specs.Laws.Tests.{yes, no}
 use Rattle.meaning.specs.Laws.Checked.{vars-most}
-use Rattle.meaning.specs.Case.{nodes, conditions, sortOf, nodeAt}
+use Rattle.meaning.specs.Case.{nodes, vars, conditions, sortOf, nodeAt}
 use Rattle.meaning.specs.Check.{check, Checked}
-use Rattle.meaning.specs.Calls.{isSort}
+use Rattle.meaning.specs.Calls.{isSort, verdictCall}
+use Rattle.calls.specs.declared.SaidVerdict.{SaidVerdict}
+use Rattle.calls.specs.Promises.{callOf, Verdicts}
 use Rattle.casecheck.specs.declared.Contents.{Contents}
 use Rattle.casecheck.specs.declared.Checking.the-variants.{Passes, Refused}
 use Rattle.casecheck.specs.Answer.{contentsOf, answer, asChecking, passed}
 use Rattle.bench.specs.declared.plan.Asking.{Asking}
 use Rattle.bench.specs.declared.plan.Plan.{Plan}
 use Rattle.bench.specs.declared.plan.Plan.the-variants.{Ask, Refuse}
-use Rattle.bench.specs.Table.{askingOf, planChecked, planAfter, planOf}
+use Rattle.bench.specs.Table.{askingOf, planChecked, planAfter, planOf, questionAt}
 
 module _ (s : List ℕ) (k : Contents) (same : k ≡ contentsOf s) where
   pub no-last : k .nodes ≡ 0 → Refuse NoSuchNode ≡ planChecked s
@@ -85,5 +87,21 @@ module _ (s : List ℕ) where
     pub asked : Ask a ≡ planOf s → Checked s × (a ≡ askingOf s)
     asked e = asked-by (ltb 65536 (length s)) (check s) refl (unfold planOf in e)
 
-pub few : (s : List ℕ) (a : Asking) → Checked s → a ≡ askingOf s → a .vars ≤ 16
-few s a c e = omega (arith, vars-most c, ap (λ (a : Asking). a .vars) e)
+-- ---- the question at a point
+
+zeros : (k n : ℕ) → k ≤ n → take {A = ℕ} k (replicate n 0) ≡ replicate k 0
+zeros zero n h = refl
+zeros (suc k) zero h = absurd (omega arith)
+zeros (suc k) (suc n) h = ap (λ (l : List ℕ). 0 ∷ l) (zeros k n (omega arith))
+
+module _ (s : List ℕ) (a : Asking) (c : Checked s) (same : a ≡ askingOf s) where
+  pub few : a .vars ≤ 16
+  few = omega (arith, vars-most c, ap (λ (a : Asking). a .vars) same)
+
+  unbound : take {A = ℕ} (2 * a .vars) (replicate 32 0) ≡ replicate (2 * vars s) 0
+  unbound = zeros (2 * a .vars) 32 (omega (arith, few)) ∙ ap (λ (a : Asking). replicate (2 * a .vars) 0) same
+
+  pub asked-at : (point : ℕ) (work after : List ℕ) (r : SaidVerdict) → Verdicts (callOf s point (a .node .0) (take (2 * a .vars) (replicate 32 0)) (record { steps = 1000000; room = 256 }) work) after r → Verdicts (questionAt s point work) after r
+  asked-at point work after r v = record {
+    is = v .is ∙ ap (λ (l : List ℕ). verdictCall (callOf s point (a .node .0) l (record { steps = 1000000; room = 256 }) work)) unbound ∙ ap (λ (a : Asking). verdictCall (callOf s point (a .node .0) (replicate (2 * vars s) 0) (record { steps = 1000000; room = 256 }) work)) same;
+  }

@@ -1,15 +1,16 @@
--- What the program asks of a file, or what it refuses it with
+-- What the program asks of a file and at a point, or what it refuses a file with
 use mathlib.Core.List.{List}
 use mathlib.Core.Option.{Option, none, some}
-use Prim.Native.Nat.{ℕ, _-_}
+use Prim.Native.Nat.{ℕ, _-_, _*_}
 use lib.Dec.{eqb, ltb}
-use lib.ListN.{length}
+use lib.ListN.{length, replicate}
 use Rattle.meaning.specs.declared.Refusal.{Refusal}
 use Rattle.meaning.specs.declared.Refusal.the-variants.{TooLarge, NoSuchNode}
 use Rattle.meaning.specs.Tests.{choose}
 use Rattle.meaning.specs.Case.{nodes, points, vars, conditions, sortOf, nodeAt}
 use Rattle.meaning.specs.Check.{check}
-use Rattle.meaning.specs.Calls.{isSort}
+use Rattle.meaning.specs.Calls.{isSort, Call}
+use Rattle.calls.specs.Promises.{callOf}
 use Rattle.bench.specs.declared.plan.Asking.{Asking}
 use Rattle.bench.specs.declared.plan.Plan.{Plan}
 use Rattle.bench.specs.declared.plan.Plan.the-variants.{Ask, Refuse}
@@ -30,3 +31,7 @@ planAfter (some n) s = Refuse n
 
 unfoldable pub planOf : List ℕ → Plan
 planOf s = choose (ltb 65536 (length s)) (Refuse TooLarge) (planAfter (check s) s)
+
+-- the question at a point: the last node, all variables unbound, 1,000,000 steps, room 256
+abbrev pub questionAt : List ℕ → ℕ → List ℕ → Call
+questionAt s point work = callOf s point (nodes s - 1) (replicate (2 * vars s) 0) (record { steps = 1000000; room = 256 }) work

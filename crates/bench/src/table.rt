@@ -6,12 +6,14 @@ use crate::print;
 use meaning::Limits;
 ghost use mathlib.Core.Path.{_≡_};
 ghost use Rattle.meaning.specs.Check.{Checked};
-ghost use Rattle.bench.specs.Table.{askingOf};
+ghost use Rattle.calls.specs.Promises.{Verdicts};
+ghost use Rattle.bench.specs.Table.{askingOf, questionAt};
 
-// all variables unbound
+// the last node at a point, all variables unbound
 fn at_point(case: &[u8], asking: Asking, point: usize, work: &mut [u64]) -> calls::SaidVerdict
     requires { ⌜ Checked (now case) ⌝ }
     requires { ⌜ asking ≡ askingOf (now case) ⌝ }
+    ensures { λ r. ⌜ Verdicts (questionAt (now (case .entry)) point (now (work .entry))) (now (work .exit)) r ⌝ }
 {
     let unbound = [0u64; 32];
     let cells = 2 * asking.vars;

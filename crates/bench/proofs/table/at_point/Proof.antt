@@ -2,7 +2,7 @@ use borrow.Author.Needs.{needs}
 use mathlib.Core.Path.{sym}
 use native.Mathlib.Omega.{arith}
 use lib.Seq.{length-take-le}
-use Rattle.bench.proofs.Plans.{few}
+use Rattle.bench.proofs.Plans.{few, asked-at}
 use Rattle.bench.proofs.table.at_point.Statement.{statement}
 use Rattle.bench.proofs.table.at_point.Tie as tie
 
@@ -22,7 +22,7 @@ same-length : tie.Need-same-length
 same-length c = search needs
 
 returns : tie.Need-returns
-returns c = search needs
+returns c = let p = c .before .before .before .before .before .before .before .before .pre in asked-at _ _ (p .0) (p .1) _ _ _ _ (c .before .before .verdict .ensures)
 
 pub at-point-spec : {M : Type 1} → statement M
 at-point-spec =

@@ -1,7 +1,7 @@
 use std::fmt;
 
-/// Why a case or a question is refused. Of several reasons the first in this order is given, save
-/// that of the last but one and the one before it the one that is met first is given.
+/// Why a case or a question is refused: the first of these that applies; of `StepsExhausted` and
+/// `RoomExhausted` the one that is met first.
 #[derive(Clone, Copy, Debug, PartialEq, Eq, PartialOrd, Ord, Hash)]
 #[repr(u8)]
 pub enum Refusal {

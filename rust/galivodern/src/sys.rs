@@ -2,9 +2,9 @@
 
 use crate::limits::Limits;
 
-/// The check of a case.
+/// Cells that the check fills: V, and how many strings, values, points and nodes there are.
 const CONTENTS_CELLS: usize = 5;
-/// What a question is told: answer, steps, rows held.
+/// Cells that a question is told in: answer, steps, rows held.
 const TOLD_CELLS: usize = 3;
 
 /// `galivodern_checked_verdict` and `galivodern_checked_number` take the same.
@@ -130,7 +130,7 @@ impl Checked {
         self.bytes
     }
 
-    /// V, and how many strings, values, points and nodes there are.
+    /// What the check filled in.
     pub fn contents(&self) -> [u64; CONTENTS_CELLS] {
         self.contents
     }

@@ -6,7 +6,7 @@ mod predicates;
 mod sides;
 
 pub use points::previous_point;
-pub use predicates::match_predicate;
+pub use predicates::match_args;
 pub use predicates::tp_row;
 pub use sides::arithmetic;
 pub use sides::compare;

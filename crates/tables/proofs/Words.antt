@@ -67,3 +67,13 @@ module _ (s : List ℕ) (n j k r : ℕ) (e : k ≡ n) where
   pub node-read : r ≡ bodyWord s 4 (8 * k + j) → r ≡ nodeWord s n j
   unfolding nodeWord
   node-read f = f ∙ rw e
+
+-- words of a record that is there, from its first word at i of the body on
+module _ (s : List ℕ) (k i u w o p : ℕ) (h : bodies s ≡ true) (hk : k < 6) (e : u ≡ size s k) (f : w ≡ u) (eo : o ≡ offset s k) (ep : p ≡ o) where
+  pub part-fits : (j : ℕ) → i + j < w / 4 → 4 * (p / 4 + i + j) + 3 < length s
+  part-fits j lt = omega (arith, body-fits s k (i + j) u w h hk e f o p eo ep lt)
+
+  pub part-read : (j r : ℕ) → i + j < w / 4 → r ≡ getD (words s) (p / 4 + i + j) 0 → r ≡ bodyWord s k (i + j)
+  part-read j r lt er =
+      let q : p / 4 + i + j ≡ p / 4 + (i + j) = omega arith in
+      body-read s k (i + j) u w h hk e f o p eo ep lt r (er ∙ ap (λ (n : ℕ). getD (words s) n 0) q)

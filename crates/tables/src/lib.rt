@@ -293,13 +293,19 @@ pub fn node_at(s: &[u8], n: NodeNo) -> Node
     requires { ⌜ bodies (now s) ≡ true ⌝ }
     ensures { λ r. ⌜ r ≡ nodeAt (now (s .entry)) (n .0) ⌝ }
 {
-    let kind = node_word(s, n, 0);
-    let a = node_word(s, n, 1);
-    let b = node_word(s, n, 2);
-    let c = node_word(s, n, 3);
-    let d = node_word(s, n, 4);
-    let e = node_word(s, n, 5);
-    let f = node_word(s, n, 6);
+    let size = wide(size_of(s, 4));
+    let k = wide(n.0);
+    if size / 32 <= k {
+        return Node::Broken;
+    }
+    let at = wide(offset_of(s, 4)) / 4 + 8 * k;
+    let kind = word_at(s, at);
+    let a = word_at(s, at + 1);
+    let b = word_at(s, at + 2);
+    let c = word_at(s, at + 3);
+    let d = word_at(s, at + 4);
+    let e = word_at(s, at + 5);
+    let f = word_at(s, at + 6);
     node_from(kind, a, b, c, d, e, f)
 }
 
@@ -310,8 +316,13 @@ pub fn time_at(s: &[u8], p: usize) -> u64
     requires { ⌜ bodies (now s) ≡ true ⌝ }
     ensures { λ r. ⌜ toZ w64 r ≡ pointAt (now (s .entry)) p .time ⌝ }
 {
-    let low = point_word(s, p, 0);
-    let high = point_word(s, p, 1);
+    let size = wide(size_of(s, 3));
+    if size / 48 <= p {
+        return 0;
+    }
+    let at = wide(offset_of(s, 3)) / 4 + 12 * p;
+    let low = word_at(s, at);
+    let high = word_at(s, at + 1);
     halves(low, high)
 }
 

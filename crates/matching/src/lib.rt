@@ -1,4 +1,4 @@
-// What the evaluators do besides control: leaf terms, a Predicate matched at a point, Tp, the point before, two sides compared or combined. Each equals its definition.
+// What the evaluators do besides control: leaf terms, the arguments of a Predicate matched at a point, Tp, the point before, two sides compared or combined. Each equals its definition.
 use meaning::Env;
 
 mod points;

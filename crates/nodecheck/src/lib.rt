@@ -17,6 +17,7 @@ use tables::list_at;
 use tables::node_at;
 use tables::node_word;
 use tables::wide;
+use valuecheck::larger;
 use valuecheck::larger_byte;
 use valuecheck::literal_values;
 ghost use mathlib.Core.Path.{_≡_};
@@ -28,7 +29,7 @@ ghost use Rattle.meaning.specs.Tests.{_and_, allBelow, greatest};
 ghost use Rattle.meaning.specs.Case.{lists, list, nodes, values, vars, nodeWord, nodeAt, arity, child};
 ghost use Rattle.meaning.specs.Check.{bodies, mosts, valueRule, childIn, isCondition, isOperand, isVariable, pathRun, argumentRule, argumentRun, zerosFrom, ruleOf, nodeRule, height, heightRule, nodeRules};
 ghost use Rattle.meaning.specs.Laws.Tests.{Filled};
-ghost use Rattle.nodecheck.specs.Terms.{Terms};
+ghost use Rattle.nodecheck.specs.Terms.{Terms, argumentOwn, argumentTop, ArgumentTops};
 ghost use Rattle.pointcheck.specs.Blocks.{Tops, Undotted, Paths, Literals};
 
 // ---- parts of rules
@@ -119,7 +120,22 @@ fn since_rule(s: &[u8], n: u32, l: NodeNo, r: NodeNo) -> bool
     )
 }
 
-// an argument: path run, term
+// the rule of an argument, path run and term, but for the term's number
+fn argument_own(s: &[u8], undotted: &[bool; 16384], paths: &[bool; 1024], i: usize) -> bool
+    requires { ⌜ bodies (now s) ≡ true ⌝ }
+    requires { ⌜ mosts (now s) ≡ true ⌝ }
+    requires { ⌜ Undotted (now s) (now undotted) ⌝ }
+    requires { ⌜ Paths (now s) (now paths) ⌝ }
+    requires { ⌜ i < 4294967296 ⌝ }
+    ensures { λ r. ⌜ _≡_ {A = Bool} r (argumentOwn (now (s .entry)) i) ⌝ }
+{
+    let first = list_at(s, i);
+    let items = list_at(s, i + 1);
+    let kind = node_word(s, NodeNo(list_at(s, i + 2)), 0);
+    let path = both(1 <= items, path_run(s, undotted, paths, first, items));
+    both(path, both(20 <= kind, kind <= 24))
+}
+
 fn argument_rule(s: &[u8], undotted: &[bool; 16384], paths: &[bool; 1024], n: u32, i: usize) -> bool
     requires { ⌜ bodies (now s) ≡ true ⌝ }
     requires { ⌜ mosts (now s) ≡ true ⌝ }
@@ -128,17 +144,54 @@ fn argument_rule(s: &[u8], undotted: &[bool; 16384], paths: &[bool; 1024], n: u3
     requires { ⌜ i < 4294967296 ⌝ }
     ensures { λ r. ⌜ _≡_ {A = Bool} r (argumentRule (now (s .entry)) n i) ⌝ }
 {
-    let first = list_at(s, i);
-    let items = list_at(s, i + 1);
-    let term = list_at(s, i + 2);
-    let path = both(1 <= items, path_run(s, undotted, paths, first, items));
-    both(path, is_child(s, 20, 24, n, term))
+    let own = argument_own(s, undotted, paths, i);
+    both(own, list_at(s, i + 2) < n)
+}
+
+// a Predicate may have the whole block of 512 arguments from `at` on if its number is above this
+fn argument_top(s: &[u8], undotted: &[bool; 16384], paths: &[bool; 1024], at: usize) -> u32
+    requires { ⌜ bodies (now s) ≡ true ⌝ }
+    requires { ⌜ mosts (now s) ≡ true ⌝ }
+    requires { ⌜ Undotted (now s) (now undotted) ⌝ }
+    requires { ⌜ Paths (now s) (now paths) ⌝ }
+    requires { ⌜ at < 2147483648 ⌝ }
+    ensures { λ r. ⌜ r ≡ argumentTop (now (s .entry)) at ⌝ }
+{
+    let mut top = 0;
+    let mut i = 0;
+    while i < 512 {
+        if !argument_own(s, undotted, paths, at + 3 * i) {
+            return 4294967295;
+        }
+        top = larger(top, list_at(s, at + 3 * i + 2));
+        i += 1;
+    }
+    top
+}
+
+// entry 3 · b + r is of the block that starts at word 1536 · b + r
+fn argument_tops(s: &[u8], undotted: &[bool; 16384], paths: &[bool; 1024]) -> [u32; 2052]
+    requires { ⌜ bodies (now s) ≡ true ⌝ }
+    requires { ⌜ mosts (now s) ≡ true ⌝ }
+    requires { ⌜ Undotted (now s) (now undotted) ⌝ }
+    requires { ⌜ Paths (now s) (now paths) ⌝ }
+    ensures { λ r. ⌜ ArgumentTops (now (s .entry)) r ⌝ }
+{
+    let n = 3 * (wide(list_count(s)) / 1536);
+    let mut tops = [0u32; 2052];
+    let mut k = 0;
+    while k < n {
+        tops[k] = argument_top(s, undotted, paths, 1536 * (k / 3) + k % 3);
+        k += 1;
+    }
+    tops
 }
 
 fn argument_run(
     s: &[u8],
     undotted: &[bool; 16384],
     paths: &[bool; 1024],
+    terms: &[u32; 2052],
     n: u32,
     first: u32,
     items: u32,
@@ -147,6 +200,7 @@ fn argument_run(
     requires { ⌜ mosts (now s) ≡ true ⌝ }
     requires { ⌜ Undotted (now s) (now undotted) ⌝ }
     requires { ⌜ Paths (now s) (now paths) ⌝ }
+    requires { ⌜ ArgumentTops (now s) (now terms) ⌝ }
     ensures { λ r. ⌜ _≡_ {A = Bool} r (argumentRun (now (s .entry)) n first items) ⌝ }
 {
     if wide(list_count(s)) < wide(first) + 3 * wide(items) {
@@ -155,10 +209,18 @@ fn argument_run(
     let mut i = 0;
     while i < items {
         let at = wide(first) + 3 * wide(i);
-        if !argument_rule(s, undotted, paths, n, at) {
+        if 3 <= at % 1536 || items - i < 512 {
+            if !argument_rule(s, undotted, paths, n, at) {
+                return false;
+            }
+            i += 1;
+            continue;
+        }
+        let k = 3 * (at / 1536) + at % 1536;
+        if n <= terms[k] {
             return false;
         }
-        i += 1;
+        i += 512;
     }
     true
 }
@@ -168,6 +230,7 @@ fn predicate_rule(
     tops: &[u32; 1024],
     undotted: &[bool; 16384],
     paths: &[bool; 1024],
+    terms: &[u32; 2052],
     n: u32,
     namespace: Run,
     action: StrNo,
@@ -179,11 +242,20 @@ fn predicate_rule(
     requires { ⌜ Tops (now s) (now tops) ⌝ }
     requires { ⌜ Undotted (now s) (now undotted) ⌝ }
     requires { ⌜ Paths (now s) (now paths) ⌝ }
+    requires { ⌜ ArgumentTops (now s) (now terms) ⌝ }
     ensures { λ q. ⌜ _≡_ {A = Bool} q (ruleOf (now (s .entry)) n (Node.Predicate namespace action kind arguments)) ⌝ }
 {
     let strings = string_count(s);
     let place = string_run(s, tops, namespace.first, namespace.count);
-    let args = argument_run(s, undotted, paths, n, arguments.first, arguments.count);
+    let args = argument_run(
+        s,
+        undotted,
+        paths,
+        terms,
+        n,
+        arguments.first,
+        arguments.count,
+    );
     both(
         place,
         both(
@@ -308,6 +380,7 @@ fn node_rule(
     tops: &[u32; 1024],
     undotted: &[bool; 16384],
     paths: &[bool; 1024],
+    terms: &[u32; 2052],
     literals: &[bool; 16384],
     n: u32,
 ) -> bool
@@ -316,6 +389,7 @@ fn node_rule(
     requires { ⌜ Tops (now s) (now tops) ⌝ }
     requires { ⌜ Undotted (now s) (now undotted) ⌝ }
     requires { ⌜ Paths (now s) (now paths) ⌝ }
+    requires { ⌜ ArgumentTops (now s) (now terms) ⌝ }
     requires { ⌜ Literals (now s) (now literals) ⌝ }
     ensures { λ r. ⌜ _≡_ {A = Bool} r (nodeRule (now (s .entry)) n) ⌝ }
 {
@@ -337,6 +411,7 @@ fn node_rule(
             tops,
             undotted,
             paths,
+            terms,
             n,
             namespace,
             action,
@@ -378,10 +453,11 @@ fn check_each_node(
     ensures { λ r. ⌜ _≡_ {A = Bool} r (allBelow (nodes (now (s .entry))) (nodeRule (now (s .entry)))) ⌝ }
 {
     let literals = literal_values(s);
+    let terms = argument_tops(s, undotted, paths);
     let count = node_count(s);
     let mut n = 0;
     while n < count {
-        if !node_rule(s, tops, undotted, paths, &literals, n) {
+        if !node_rule(s, tops, undotted, paths, &terms, &literals, n) {
             return false;
         }
         n += 1;

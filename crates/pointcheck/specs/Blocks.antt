@@ -1,11 +1,11 @@
 -- The local tables that the rules of points and nodes are read from: marks of strings and values, and the lists by blocks of 1024 words
 use mathlib.Core.Bool.{Bool, false}
 use mathlib.Core.List.{List}
-use Prim.Native.Nat.{ℕ, _+_, _*_, _/_}
+use Prim.Native.Nat.{ℕ, _+_, _*_, _/_, _%_}
 use Rattle.meaning.specs.Tests.{allBelow, greatest}
 use Rattle.meaning.specs.Text.{free}
 use Rattle.meaning.specs.Case.{strings, values, lists, list, text}
-use Rattle.meaning.specs.Check.{pathName, plain, literal}
+use Rattle.meaning.specs.Check.{pathName, entityItem, plain, literal}
 use Rattle.meaning.specs.Laws.Tests.{Filled}
 
 -- the strings without a dot
@@ -31,3 +31,11 @@ Tops s table = Filled 0 (λ b. greatest 1024 (λ j. list s (1024 * b + j))) tabl
 -- the blocks that hold path names alone
 abbrev pub Paths : List ℕ → List Bool → Type 0
 Paths s table = Filled false (λ b. allBelow 1024 (λ j. pathName s (1024 * b + j))) table (lists s / 1024)
+
+-- a block of 512 items of three words, that starts at a word of each remainder of 3
+abbrev pub blockStart : ℕ → ℕ
+blockStart k = 1536 * (k / 3) + k % 3
+
+-- the blocks of entities that may stand in a run
+abbrev pub Entities : List ℕ → List Bool → Type 0
+Entities s table = Filled false (λ k. allBelow 512 (entityItem s (blockStart k))) table (3 * (lists s / 1536))

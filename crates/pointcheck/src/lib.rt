@@ -21,7 +21,7 @@ ghost use lib.Dec.{ltb};
 ghost use Rattle.meaning.specs.Tests.{_and_, allBelow, greatest};
 ghost use Rattle.meaning.specs.Case.{lists, list, strings, values, text};
 ghost use Rattle.meaning.specs.Check.{bodies, mosts, inTable, pathName, pathRun, stringRun, variableRun, endToEnd, valueRule, isObject, plainObject, maybeValue, entityBefore, isString, entityRule, entityItem, entityRun, pointRule, pointRules};
-ghost use Rattle.pointcheck.specs.Blocks.{Tops, Undotted, Paths, Unquoted, Plain};
+ghost use Rattle.pointcheck.specs.Blocks.{Tops, Undotted, Paths, Unquoted, Plain, Entities};
 ghost use Rattle.meaning.specs.Text.{free};
 
 // ---- runs of the lists: they may overlap, so they are read by blocks of 1024 words
@@ -296,7 +296,8 @@ fn entity_item(
     entity_before(s, at - 3, at)
 }
 
-fn entity_run(
+// so many items of a run of entities, one by one
+fn entity_items(
     s: &[u8],
     unquoted: &[bool; 16384],
     plain: &[bool; 16384],
@@ -307,11 +308,9 @@ fn entity_run(
     requires { ⌜ mosts (now s) ≡ true ⌝ }
     requires { ⌜ Unquoted (now s) (now unquoted) ⌝ }
     requires { ⌜ Plain (now s) (now plain) ⌝ }
-    ensures { λ r. ⌜ _≡_ {A = Bool} r (entityRun (now (s .entry)) first items) ⌝ }
+    requires { ⌜ first + 3 * items < 4294967296 ⌝ }
+    ensures { λ r. ⌜ _≡_ {A = Bool} r (allBelow items (entityItem (now (s .entry)) first)) ⌝ }
 {
-    if wide(list_count(s)) < wide(first) + 3 * wide(items) {
-        return false;
-    }
     let mut i = 0;
     while i < items {
         if !entity_item(s, unquoted, plain, first, i) {
@@ -322,11 +321,68 @@ fn entity_run(
     true
 }
 
+// which blocks of 512 entities may stand in a run; entry 3 · b + r is the block that starts at word 1536 · b + r
+fn entity_blocks(s: &[u8], unquoted: &[bool; 16384], plain: &[bool; 16384]) -> [bool; 2052]
+    requires { ⌜ bodies (now s) ≡ true ⌝ }
+    requires { ⌜ mosts (now s) ≡ true ⌝ }
+    requires { ⌜ Unquoted (now s) (now unquoted) ⌝ }
+    requires { ⌜ Plain (now s) (now plain) ⌝ }
+    ensures { λ r. ⌜ Entities (now (s .entry)) r ⌝ }
+{
+    let n = 3 * (list_count(s) / 1536);
+    let mut blocks = [false; 2052];
+    let mut k = 0;
+    while k < n {
+        let at = wide(k);
+        blocks[at] = entity_items(s, unquoted, plain, 1536 * (k / 3) + k % 3, 512);
+        k += 1;
+    }
+    blocks
+}
+
+fn entity_run(
+    s: &[u8],
+    unquoted: &[bool; 16384],
+    plain: &[bool; 16384],
+    blocks: &[bool; 2052],
+    first: u32,
+    items: u32,
+) -> bool
+    requires { ⌜ bodies (now s) ≡ true ⌝ }
+    requires { ⌜ mosts (now s) ≡ true ⌝ }
+    requires { ⌜ Unquoted (now s) (now unquoted) ⌝ }
+    requires { ⌜ Plain (now s) (now plain) ⌝ }
+    requires { ⌜ Entities (now s) (now blocks) ⌝ }
+    ensures { λ r. ⌜ _≡_ {A = Bool} r (entityRun (now (s .entry)) first items) ⌝ }
+{
+    if wide(list_count(s)) < wide(first) + 3 * wide(items) {
+        return false;
+    }
+    let mut i = 0;
+    while i < items {
+        if !entity_item(s, unquoted, plain, first, i) {
+            return false;
+        }
+        let at = wide(first) + 3 * wide(i);
+        if 3 <= at % 1536 || items - i < 512 {
+            i += 1;
+            continue;
+        }
+        let k = 3 * (at / 1536) + at % 1536;
+        if !blocks[k] {
+            return false;
+        }
+        i += 512;
+    }
+    true
+}
+
 fn point_rule(
     s: &[u8],
     tops: &[u32; 1024],
     unquoted: &[bool; 16384],
     plain: &[bool; 16384],
+    blocks: &[bool; 2052],
     p: usize,
 ) -> bool
     requires { ⌜ bodies (now s) ≡ true ⌝ }
@@ -334,6 +390,7 @@ fn point_rule(
     requires { ⌜ Tops (now s) (now tops) ⌝ }
     requires { ⌜ Unquoted (now s) (now unquoted) ⌝ }
     requires { ⌜ Plain (now s) (now plain) ⌝ }
+    requires { ⌜ Entities (now s) (now blocks) ⌝ }
     ensures { λ r. ⌜ _≡_ {A = Bool} r (pointRule (now (s .entry)) p) ⌝ }
 {
     let namespace = string_run(s, tops, point_word(s, p, 2), point_word(s, p, 3));
@@ -347,6 +404,7 @@ fn point_rule(
         s,
         unquoted,
         plain,
+        blocks,
         point_word(s, p, 10),
         point_word(s, p, 11),
     );
@@ -368,10 +426,11 @@ pub fn check_points(s: &[u8], tops: &[u32; 1024], undotted: &[bool; 16384]) -> b
 {
     let unquoted = free_strings(s, 34);
     let plain = plain_values(s, undotted);
+    let blocks = entity_blocks(s, &unquoted, &plain);
     let n = wide(point_count(s));
     let mut p = 0;
     while p < n {
-        if !point_rule(s, tops, &unquoted, &plain, p) {
+        if !point_rule(s, tops, &unquoted, &plain, &blocks, p) {
             return false;
         }
         p += 1;

@@ -69,14 +69,18 @@ all-under p f v (suc n) =
     ∙ swap (allBelow (suc n) p) (ltb (greatest (suc n) f) v) (p (suc n)) (ltb (f (suc n)) v)
     ∙ ap (λ (b : Bool). (allBelow (suc n) p and p (suc n)) and b) (sym (ltb-max (greatest (suc n) f) (f (suc n)) v))
 
+-- where each of a block has its own rule and a number below v, one number says both: the greatest, or more than any where one breaks its rule
+pub bound-is : (p : ℕ → Bool) (f : ℕ → ℕ) (v n : ℕ) → v < 4294967296 → ltb (choose (allBelow (suc n) p) (greatest (suc n) f) nothing) v ≡ allBelow (suc n) (λ i. p i and ltb (f i) v)
+bound-is p f v n h = go (allBelow (suc n) p) refl ∙ sym (all-under p f v n)
+  where
+    go : (b : Bool) → allBelow (suc n) p ≡ b → ltb (choose (allBelow (suc n) p) (greatest (suc n) f) nothing) v ≡ (allBelow (suc n) p and ltb (greatest (suc n) f) v)
+    go true e = ap (λ (t : ℕ). ltb t v) (yes nothing e) ∙ sym (after e)
+    go false e = ap (λ (t : ℕ). ltb t v) (no (greatest (suc n) f) e refl) ∙ le-ltb nothing v (omega arith) ∙ sym (stop _ e)
+
 -- an array may hold a whole block just if its number is above the block's top
 top-is : (s : List ℕ) (v at : ℕ) → v < 4294967296 → ltb (topOf s at) v ≡ allBelow 512 (arrayItem s v at)
 unfolding topOf arrayItem
-top-is s v at h = go (allBelow 512 (λ i. eqb (memberWord s (at + i) 0) nothing)) refl ∙ sym (all-under (λ i. eqb (memberWord s (at + i) 0) nothing) (λ i. memberWord s (at + i) 1) v 511)
-  where
-    go : (b : Bool) → allBelow 512 (λ i. eqb (memberWord s (at + i) 0) nothing) ≡ b → ltb (choose (allBelow 512 (λ i. eqb (memberWord s (at + i) 0) nothing)) (greatest 512 (λ i. memberWord s (at + i) 1)) nothing) v ≡ (allBelow 512 (λ i. eqb (memberWord s (at + i) 0) nothing) and ltb (greatest 512 (λ i. memberWord s (at + i) 1)) v)
-    go true e = ap (λ (t : ℕ). ltb t v) (yes nothing e) ∙ sym (after e)
-    go false e = ap (λ (t : ℕ). ltb t v) (no (greatest 512 (λ i. memberWord s (at + i) 1)) e refl) ∙ le-ltb nothing v (omega arith) ∙ sym (stop _ e)
+top-is s v at h = bound-is (λ i. eqb (memberWord s (at + i) 0) nothing) (λ i. memberWord s (at + i) 1) v 511 h
 
 shift : (s : List ℕ) (v first i j : ℕ) → arrayItem s v first (i + j) ≡ arrayItem s v (first + i) j
 unfolding arrayItem

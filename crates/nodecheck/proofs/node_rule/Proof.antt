@@ -49,7 +49,7 @@ enum-known-node-7 : tie.Need-enum-known-node-7
 enum-known-node-7 c = search needs
 
 predicate-rule-requires : tie.Need-predicate-rule-requires
-predicate-rule-requires c κs = let p = c .before .before .before .before .before .pre in (p .0, (p .1 .0, (p .1 .1 .0, (p .1 .1 .1 .0, p .1 .1 .1 .1 .0))))
+predicate-rule-requires c κs = let p = c .before .before .before .before .before .pre in (p .0, (p .1 .0, (p .1 .1 .0, (p .1 .1 .1 .0, (p .1 .1 .1 .1 .0, p .1 .1 .1 .1 .1 .0)))))
 
 enum-known-node-8 : tie.Need-enum-known-node-8
 enum-known-node-8 c = search needs
@@ -73,7 +73,7 @@ enum-known-node-11 : tie.Need-enum-known-node-11
 enum-known-node-11 c = search needs
 
 literal-rule-requires : tie.Need-literal-rule-requires
-literal-rule-requires c κs = let p = c .before .before .before .before .before .pre in (p .0, (p .1 .0, p .1 .1 .1 .1 .1))
+literal-rule-requires c κs = let p = c .before .before .before .before .before .pre in (p .0, (p .1 .0, p .1 .1 .1 .1 .1 .1))
 
 enum-known-node-12 : tie.Need-enum-known-node-12
 enum-known-node-12 c = search needs

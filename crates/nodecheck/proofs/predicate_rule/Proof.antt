@@ -16,7 +16,7 @@ string-run-requires : tie.Need-string-run-requires
 string-run-requires c κs = let p = c .before .before .pre in (p .0, (p .1 .0, p .1 .1 .0))
 
 argument-run-requires : tie.Need-argument-run-requires
-argument-run-requires c κs = let p = c .before .before .before .pre in (p .0, (p .1 .0, (p .1 .1 .1 .0, p .1 .1 .1 .1)))
+argument-run-requires c κs = let p = c .before .before .before .pre in (p .0, (p .1 .0, (p .1 .1 .1 .0, (p .1 .1 .1 .1 .0, p .1 .1 .1 .1 .1))))
 
 zeros-from-requires : tie.Need-zeros-from-requires
 zeros-from-requires c κs = (c .before .before .before .before .before .before .pre .0, search needs)

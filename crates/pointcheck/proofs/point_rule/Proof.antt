@@ -48,7 +48,7 @@ point-word-requires-6 : tie.Need-point-word-requires-6
 point-word-requires-6 c κs = c .before .before .before .before .before .before .before .before .before .before .pre .0
 
 plain-object-requires : tie.Need-plain-object-requires
-plain-object-requires c κs = let p = c .before .before .before .before .before .before .before .before .before .before .before .pre in (p .0, (p .1 .0, p .1 .1 .1 .1))
+plain-object-requires c κs = let p = c .before .before .before .before .before .before .before .before .before .before .before .pre in (p .0, (p .1 .0, p .1 .1 .1 .1 .0))
 
 point-word-requires-7 : tie.Need-point-word-requires-7
 point-word-requires-7 c κs = c .before .before .before .before .before .before .before .before .before .before .before .before .pre .0
@@ -69,7 +69,7 @@ point-word-requires-10 : tie.Need-point-word-requires-10
 point-word-requires-10 c κs = c .before .before .before .before .before .before .before .before .before .before .before .before .before .before .before .before .before .pre .0
 
 entity-run-requires : tie.Need-entity-run-requires
-entity-run-requires c κs = let p = c .before .before .before .before .before .before .before .before .before .before .before .before .before .before .before .before .before .before .pre in (p .0, (p .1 .0, (p .1 .1 .1 .0, p .1 .1 .1 .1)))
+entity-run-requires c κs = let p = c .before .before .before .before .before .before .before .before .before .before .before .before .before .before .before .before .before .before .pre in (p .0, (p .1 .0, (p .1 .1 .1 .0, (p .1 .1 .1 .1 .0, p .1 .1 .1 .1 .1))))
 
 both-requires : tie.Need-both-requires
 both-requires c κs = search needs

@@ -19,8 +19,8 @@ use Rattle.meaning.specs.Calls.{isSort, verdictCall}
 use Rattle.calls.specs.declared.SaidVerdict.{SaidVerdict}
 use Rattle.calls.specs.Promises.{callOf, Verdicts}
 use Rattle.casecheck.specs.declared.Contents.{Contents}
-use Rattle.casecheck.specs.declared.Checking.the-variants.{Passes, Refused}
-use Rattle.casecheck.specs.Answer.{contentsOf, answer, asChecking, passed}
+use Rattle.casecheck.specs.declared.Checking.the-variants.{Refused}
+use Rattle.casecheck.specs.Answer.{contentsOf, answer, asChecking}
 use Rattle.bench.specs.declared.plan.Asking.{Asking}
 use Rattle.bench.specs.declared.plan.Plan.{Plan}
 use Rattle.bench.specs.declared.plan.Plan.the-variants.{Ask, Refuse}

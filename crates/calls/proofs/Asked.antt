@@ -1,12 +1,10 @@
 -- An asking call put together: refused before its walk, or walked and its workspace cleared
 use mathlib.Core.Path.{_≡_, refl, ap, sym, subst, _∙_}
-use mathlib.Core.Bool.{Bool}
-use mathlib.Core.List.{List, [], _++_}
-use mathlib.Core.Option.{Option, none, some}
-use Prim.Native.Nat.{ℕ, zero, _+_, _*_, _≤_, _<_}
+use mathlib.Core.List.{List, _++_}
+use mathlib.Core.Option.{none, some}
+use Prim.Native.Nat.{ℕ, _+_, _*_, _≤_, _<_}
 use native.Mathlib.Nat.{mul-comm, mul-le-mul-right}
 use native.Mathlib.Omega.{arith}
-use lib.IntN.{ℤ}
 use mir.Val.{Fits}
 use mir.Syntax.{w64}
 use lib.ListN.{length, take, drop, replicate, length-append}
@@ -15,22 +13,18 @@ use Rattle.meaning.specs.declared.Env.{Env}
 use Rattle.meaning.specs.declared.Limits.{Limits}
 use Rattle.meaning.specs.declared.Meter.{Meter}
 use Rattle.meaning.specs.declared.Refusal.{Refusal}
-use Rattle.meaning.specs.Walk.{W, started, Outcome, outcome}
-use Rattle.meaning.specs.Case.{Sort, conditions, aggregates, caseOf, decode, vars}
-use Rattle.meaning.specs.Check.{Checked, check}
-use Rattle.meaning.specs.Rows.{Row, rowOf}
+use Rattle.meaning.specs.Walk.{W, started, outcome}
+use Rattle.meaning.specs.Case.{Sort, caseOf, decode, vars}
+use Rattle.meaning.specs.Check.{Checked}
 use Rattle.meaning.specs.Meaning.{Meaning, Question, meaning, question}
-use Rattle.meaning.specs.Calls.{Call, Said, Result, Asked, not-asked, walked, against, startOr, startRow, walkOf, unlessRefused, told, cleared, workspaceAfter, result, verdictCall, numberCall}
+use Rattle.meaning.specs.Calls.{Call, not-asked, walked, against, walkOf, unlessRefused, told, cleared, workspaceAfter, result, verdictCall, numberCall}
 use Rattle.meaning.specs.Calls.{asking as askingOf}
-use Rattle.rows.specs.Table.{Fit}
-use Rattle.rows.specs.Stack.{shapeOf}
 use Rattle.matching.specs.Asking.{asking}
 use Rattle.evaluator.specs.declared.Call.{Call as WalkCall}
 use Rattle.evaluator.specs.declared.Verdict.{Verdict}
 use Rattle.evaluator.specs.declared.Number.{Number}
 use Rattle.evaluator.specs.Asks.{Ready, Decides, Numbers as NumbersOf, node, walkFor, numberFor}
 use Rattle.calls.specs.declared.opening.Sort.the-variants.{Condition, Aggregate}
-use Rattle.calls.specs.declared.opening.Against.{Against}
 use Rattle.calls.specs.declared.opening.Against.the-variants.{Nothing, Refused}
 use Rattle.calls.specs.declared.opening.Opening.{Opening}
 use Rattle.calls.specs.declared.SaidVerdict.{SaidVerdict}

@@ -1,19 +1,18 @@
 -- The rows call after its walk: binders tested, rows projected, the output filled
-use mathlib.Core.Path.{_≡_, refl, ap, ap₂, sym, subst, _∙_}
+use mathlib.Core.Path.{_≡_, refl, ap, sym, subst, _∙_}
 use mathlib.Core.Bool.{Bool, true, false, not}
-use mathlib.Core.List.{List, [], _∷_, _++_, map}
+use mathlib.Core.List.{List, [], _∷_, _++_}
 use Prim.Native.Nat.{ℕ, zero, suc, _+_, _-_, _*_, _/_, _≤_, _<_}
 use native.Mathlib.Nat.{suc-mul, mul-comm, mul-assoc, le-div-iff-mul-le, sub-zero, zero-add}
 use native.Mathlib.Omega.{arith}
-use lib.Dec.{ltb, leb, eqb}
+use lib.Dec.{leb, eqb}
 use lib.ListN.{length, getD, take, drop, length-append}
-use lib.Seq.{slice, length-take-le}
-use borrow.Author.Tests.{ltb-true, leb-true, leb-false, eqb-true, eqb-false, not-true, not-false, lt-ltb, le-ltb, le-leb, lt-leb}
+use lib.Seq.{slice}
+use borrow.Author.Tests.{ltb-true, leb-true, leb-false, eqb-true, eqb-false, not-true, not-false, lt-ltb, le-leb, lt-leb}
 use Rattle.meaning.specs.declared.Meter.{Meter}
 use Rattle.meaning.specs.declared.Refusal.the-variants.{BadOutput}
-use Rattle.meaning.specs.Tests.{_and_}
 use Rattle.meaning.specs.Case.{caseOf}
-use Rattle.meaning.specs.Rows.{Row, at, onto, addNew, cells}
+use Rattle.meaning.specs.Rows.{Row, onto, cells}
 use Rattle.meaning.specs.Calls.{gives, allUnder, cellsOf, filled}
 use Rattle.meaning.specs.Laws.Tests.{both, stop, skip, pass}
 use Rattle.rows.specs.declared.Shape.{Shape}

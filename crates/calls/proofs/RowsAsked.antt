@@ -1,12 +1,10 @@
 -- The rows call put together: its walk, the rows given, its workspace cleared
 use mathlib.Core.Path.{_≡_, refl, ap, sym, subst, _∙_}
 use mathlib.Core.Bool.{Bool, true, false}
-use mathlib.Core.List.{List, [], _++_}
+use mathlib.Core.List.{List, _++_}
 use Prim.Native.Nat.{ℕ, _*_, _≤_}
-use native.Mathlib.Nat.{mul-comm}
 use native.Mathlib.Omega.{arith}
-use lib.ListN.{length, take, drop, length-append}
-use lib.Seq.{length-take-le, take-at, drop-at}
+use lib.ListN.{length, take, drop}
 use Rattle.meaning.specs.declared.Env.{Env}
 use Rattle.meaning.specs.declared.Limits.{Limits}
 use Rattle.meaning.specs.declared.Meter.{Meter}
@@ -15,7 +13,7 @@ use Rattle.meaning.specs.Walk.{W, started, Outcome, answered, refused, outcome}
 use Rattle.meaning.specs.Case.{decode, vars}
 use Rattle.meaning.specs.Check.{Checked}
 use Rattle.meaning.specs.Rows.{Row}
-use Rattle.meaning.specs.Calls.{Call, RowsResult, asking, walked, told, cleared, workspaceAfter, result, projected, outputFits, toOutput, rowsGiven, rowsCall}
+use Rattle.meaning.specs.Calls.{Call, walked, told, cleared, workspaceAfter, result, projected, outputFits, toOutput, rowsGiven, rowsCall}
 use Rattle.rows.specs.declared.Relation.{Relation}
 use Rattle.rows.specs.declared.Relation.the-variants.{Held, Refused}
 use Rattle.rows.specs.Table.{Fit, rowsIn}

@@ -10,7 +10,7 @@ use Rattle.meaning.specs.Walk.{W}
 use Rattle.meaning.specs.Case.{Sort, conditions, aggregates}
 use Rattle.meaning.specs.Check.{Checked, check}
 use Rattle.meaning.specs.Meaning.{Meaning, Question}
-use Rattle.meaning.specs.Calls.{Call, not-asked, unlessRefused, asking, told, workspaceAfter, result, verdictCall, numberCall, rowsGiven, rowsCall}
+use Rattle.meaning.specs.Calls.{not-asked, unlessRefused, asking, told, workspaceAfter, result, verdictCall, numberCall, rowsGiven, rowsCall}
 use Rattle.casecheck.specs.declared.Contents.{Contents}
 use Rattle.casecheck.specs.declared.Checking.{Checking}
 use Rattle.casecheck.specs.declared.Checking.the-variants.{Passes, Refused}

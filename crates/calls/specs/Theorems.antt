@@ -14,7 +14,6 @@ use Rattle.meaning.specs.Walk.{W, spent, most, answered, refused}
 use Rattle.meaning.specs.Case.{conditions, aggregates, points}
 use Rattle.meaning.specs.Check.{Checked}
 use Rattle.meaning.specs.Rows.{Row}
-use Rattle.meaning.specs.Meaning.{Meaning, Question}
 use Rattle.meaning.specs.Calls.{Call, Said, gives, refuses, Result, RowsResult, Asked, not-asked, walked, walkOf, asking, told, result, verdictCall, numberCall, filled, projected, outputFits, toOutput, rowsGiven, rowsCall}
 use Rattle.meaning.specs.Laws.Walk.{Exhausted}
 use Rattle.meaning.specs.Laws.Calls.{Askable, Tells, answers-when, answers-only-when, rows-when}

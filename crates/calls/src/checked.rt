@@ -17,7 +17,7 @@ ghost use mathlib.Core.Path.{_≡_};
 ghost use mathlib.Core.Bool.{Bool};
 ghost use Prim.Native.Nat.{_≤_, _<_, _*_};
 ghost use lib.Dec.{leb};
-ghost use lib.ListN.{take, length};
+ghost use lib.ListN.{take};
 ghost use Rattle.meaning.specs.Walk.{started, outcome};
 ghost use Rattle.meaning.specs.Check.{Checked};
 ghost use Rattle.meaning.specs.Calls.{allUnder};

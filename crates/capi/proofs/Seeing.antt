@@ -12,7 +12,6 @@ use Rattle.meaning.specs.Laws.Tests.{yes, no}
 use Rattle.meaning.specs.Check.{check}
 use Rattle.meaning.specs.Calls.{numberOf, checkCall, Call, Said, Result, RowsResult}
 use Rattle.casecheck.specs.declared.Contents.{Contents}
-use Rattle.casecheck.specs.declared.Checking.{Checking}
 use Rattle.casecheck.specs.declared.Checking.the-variants.{Passes, Refused}
 use Rattle.casecheck.specs.Answer.{answer, asChecking, contentsOf}
 use Rattle.calls.specs.declared.SaidVerdict.{SaidVerdict}

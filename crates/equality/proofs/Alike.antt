@@ -10,8 +10,8 @@ use mir.Facts.{ofZ-toZ}
 use mir.Syntax.{w64}
 use borrow.Author.Tests.{ltb-true, ltb-false, eq-eqb, ne-eqb, eqb-true, eqb-false, not-true, not-false}
 use Rattle.meaning.specs.Tests.{_and_, pick}
-use Rattle.meaning.specs.Case.{Case, Part, values, valueWord, memberWord, bodyWord, partAt, valueAt, valueFrom, signed, places, caseOf}
-use Rattle.meaning.specs.Check.{Checked, partValue, recordBytes}
+use Rattle.meaning.specs.Case.{Case, Part, values, valueWord, memberWord, partAt, valueAt, valueFrom, signed, places, caseOf}
+use Rattle.meaning.specs.Check.{Checked, partValue}
 use Rattle.meaning.specs.Equal.{see, seen, alike, sameList, sameParts, sameValue, decimalKey}
 use Rattle.meaning.specs.Laws.Tests.{stop, skip, pass, after, all-at}
 use Rattle.meaning.specs.Laws.Lists.{Every, every-map}

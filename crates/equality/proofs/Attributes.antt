@@ -13,12 +13,12 @@ use Rattle.meaning.specs.declared.Root.{Root}
 use Rattle.meaning.specs.declared.Root.the-variants.{Principal, Resource}
 use Rattle.meaning.specs.declared.ValNo.{ValNo}
 use Rattle.meaning.specs.Tests.{_and_, pick, orElse, onlyIf}
-use Rattle.meaning.specs.Case.{Case, Value, Part, Point, Attributes, Entity, nothing, maybe, text, valueWord, pointWord, valueAt, valueFrom, partAt, pointAt, entityAt, places, list, caseOf}
+use Rattle.meaning.specs.Case.{Part, Point, Attributes, maybe, text, valueWord, pointWord, valueAt, valueFrom, partAt, pointAt, entityAt, places, list, caseOf}
 use Rattle.meaning.specs.Equal.{Bound, sameList, boundOf, part}
 use Rattle.meaning.specs.Look.{descend, boundAt, attributesOf, ownPart, supplied, entityOf, attribute, fromRoot, rootOf, scopeAt}
 use Rattle.meaning.specs.Rows.{inCells}
 use Rattle.meaning.specs.Meaning.{names}
-use Rattle.meaning.specs.Laws.Tests.{stop, skip, pass, after}
+use Rattle.meaning.specs.Laws.Tests.{stop, skip, after}
 use Rattle.equality.specs.declared.Found.{Found}
 use Rattle.equality.specs.declared.Found.the-variants.{At, Nothing}
 use Rattle.equality.specs.Paths.{foundAt}

@@ -9,11 +9,11 @@ use lib.Dec.{eqb, leb}
 use mir.Val.{toZ, ofZ, Fits}
 use mir.Facts.{ofZ-toZ}
 use mir.Syntax.{w64}
-use borrow.Author.Tests.{leb-true, leb-false, ne-eqb, eq-eqb}
+use borrow.Author.Tests.{leb-true, leb-false, ne-eqb}
 use Rattle.meaning.specs.Tests.{pick}
-use Rattle.meaning.specs.Case.{Case, Value, Part, Null, Int, Text, values, valueWord, valueAt, valueFrom, partAt, signed, caseOf}
+use Rattle.meaning.specs.Case.{Case, Value, Part, Int, Text, valueWord, valueAt, valueFrom, partAt, signed, caseOf}
 use Rattle.meaning.specs.Check.{Checked}
-use Rattle.meaning.specs.Equal.{Bound, int, value, part, boundOf, asValue, see, seen, alike, same, sameValue, sameList}
+use Rattle.meaning.specs.Equal.{Bound, int, value, boundOf, asValue, see, seen, alike, same, sameValue, sameList}
 use Rattle.meaning.specs.Rows.{inCells, sameCell}
 use Rattle.meaning.specs.Laws.Tests.{stop}
 use Rattle.meaning.specs.Laws.Values.{value-beyond}

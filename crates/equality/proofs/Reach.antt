@@ -3,14 +3,14 @@ use mathlib.Core.Path.{_≡_, refl, sym, _∙_, ap}
 use mathlib.Core.Bool.{Bool, true, false}
 use mathlib.Core.List.{List, [], _∷_, map}
 use mathlib.Core.Option.{Option, none, some}
-use Prim.Native.Nat.{ℕ, zero, suc, _+_, _*_, _-_, _<_, _≤_}
+use Prim.Native.Nat.{ℕ, zero, suc, _+_, _-_, _<_, _≤_}
 use native.Mathlib.Omega.{arith}
 use lib.Dec.{eqb}
 use borrow.Author.Tests.{eq-eqb, ne-eqb}
 use Rattle.meaning.specs.declared.Run.{Run}
 use Rattle.meaning.specs.declared.ValNo.{ValNo}
 use Rattle.meaning.specs.Tests.{_and_, pick}
-use Rattle.meaning.specs.Case.{Case, Value, Part, Object, valueWord, memberWord, pointWord, valueAt, valueFrom, partAt, pointAt, places, run, runOf, list, caseOf}
+use Rattle.meaning.specs.Case.{Part, valueWord, memberWord, pointWord, valueAt, valueFrom, partAt, pointAt, places, run, runOf, list, caseOf}
 use Rattle.meaning.specs.Equal.{sameList, boundOf}
 use Rattle.meaning.specs.Look.{named, members, descend, boundAt, fieldAt, contextAt}
 use Rattle.meaning.specs.Rows.{inCells}

@@ -1,19 +1,17 @@
 -- A decimal's bytes, read from the front: digits, their number, the point, the fraction
-use mathlib.Core.Path.{_≡_, refl, sym, _∙_, ap}
+use mathlib.Core.Path.{_≡_, refl, sym, _∙_}
 use mathlib.Core.Bool.{Bool, true, false, not}
-use mathlib.Core.List.{List, [], _∷_, _++_, append-assoc}
-use mathlib.Core.Option.{Option, none, some}
-use Prim.Native.Nat.{ℕ, zero, suc, _+_, _*_, _-_, _^_, _<_, _≤_, min}
+use mathlib.Core.List.{List, [], _∷_}
+use Prim.Native.Nat.{ℕ, zero, suc, _+_, _*_, _-_, _<_, _≤_, min}
 use native.Mathlib.Omega.{arith}
 use native.Mathlib.Numerals.{add-one}
-use lib.Dec.{eqb, ltb, leb, lit<}
-use lib.ListN.{length, getD, take, drop}
-use lib.Seq.{drop-cons, drop-length}
-use lib.IntN.{ℤ, pos, negsuc, negℤ}
+use lib.Dec.{eqb, ltb, leb}
+use lib.ListN.{length, getD, drop}
+use lib.Seq.{drop-cons}
 use lib.Signed.{mag}
-use borrow.Author.Tests.{leb-true, leb-false, lt-leb, le-leb, lt-ltb, le-ltb, ltb-true, ltb-false, eq-eqb, ne-eqb, eqb-true, not-true, not-false}
+use borrow.Author.Tests.{leb-true, lt-leb, le-leb, ltb-true, ltb-false, eq-eqb, ne-eqb, not-true, not-false}
 use Rattle.meaning.specs.Tests.{_and_}
-use Rattle.meaning.specs.Laws.Tests.{both, stop, skip, pass, after, yes, no}
+use Rattle.meaning.specs.Laws.Tests.{both, stop, after, yes, no}
 use Rattle.meaning.specs.Equal.{isDigit, digits, natural}
 use Rattle.equality.specs.Numbers.{signedBy}
 use Rattle.equality.specs.Decimals.{pointIn, isMinus}

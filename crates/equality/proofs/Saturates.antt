@@ -4,8 +4,8 @@ use mathlib.Core.Bool.{Bool, true, false, not}
 use Prim.Native.Nat.{ℕ, zero, suc, _+_, _*_, _-_, _/_, _<_, _≤_, min}
 use native.Mathlib.Omega.{arith}
 use native.Mathlib.Nat.{div-lt-iff-lt-mul, le-div-iff-mul-le, mul-zero}
-use lib.Dec.{eqb, ltb, leb, lit<}
-use lib.IntN.{ℤ, pos, negsuc, negℤ, _*ℤ_}
+use lib.Dec.{eqb, ltb, leb}
+use lib.IntN.{ℤ, pos, negsuc}
 use lib.Signed.{ltZ, leZ}
 use mir.Val.{toZ, ofZ, sel, Fits as Bits}
 use mir.Facts.{ofZ-toZ}
@@ -14,7 +14,7 @@ use mir.Syntax.{w64}
 use Rattle.meaning.specs.Number.{calculate, clamp, secondsOf, seconds}
 use Rattle.meaning.specs.declared.Interval.{Interval}
 use Rattle.meaning.specs.declared.ArithOp.{ArithOp}
-use Rattle.meaning.specs.Laws.Number.{bias, Fits, bias-clamp, bias-plus, bias-minus, bias-low, bias-high, bias-inj, bias-lt, bias-le, clamp-fits, toZ-fits}
+use Rattle.meaning.specs.Laws.Number.{bias, bias-clamp, bias-plus, bias-minus, bias-low, bias-high, bias-inj, bias-lt, bias-le, clamp-fits, toZ-fits}
 use Rattle.meaning.specs.declared.ArithOp.the-variants.{Add, Sub, Mul}
 use Rattle.equality.specs.Numbers.{isNegative, magnitudeOf, signedBy}
 

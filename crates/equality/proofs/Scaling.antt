@@ -6,21 +6,21 @@ use mathlib.Core.Option.{Option, none, some}
 use Prim.Native.Nat.{ℕ, zero, suc, _+_, _*_, _-_, _^_, _<_, _≤_, min}
 use native.Mathlib.Omega.{arith}
 use native.Mathlib.Numerals.{add-one}
-use lib.Dec.{eqb, ltb, leb, lit<}
-use lib.ListN.{length, getD, take, drop, length-drop}
+use lib.Dec.{eqb, ltb, leb}
+use lib.ListN.{length, take, drop, length-drop}
 use lib.Seq.{take-all}
-use lib.IntN.{ℤ, pos, negsuc, negℤ}
+use lib.IntN.{ℤ, pos, negℤ}
 use lib.Signed.{mag}
 use mir.Val.{toZ, ofZ, Fits}
 use mir.Facts.{ofZ-toZ}
 use mir.Syntax.{w64}
-use borrow.Author.Tests.{leb-true, leb-false, lt-leb, le-leb, lt-ltb, le-ltb, ltb-true, ltb-false, eq-eqb, ne-eqb, eqb-true, eqb-false, not-true, not-false}
+use borrow.Author.Tests.{leb-true, leb-false, lt-leb, le-leb, le-ltb, ltb-true, eq-eqb, ne-eqb, eqb-true, eqb-false, not-true, not-false}
 use Rattle.meaning.specs.Tests.{_and_, onlyIf}
 use Rattle.meaning.specs.Number.{clamp}
 use Rattle.meaning.specs.Case.{caseOf, text}
 use Rattle.meaning.specs.Laws.Number.{bias-inj, bias-clamp, clamp-fits}
-use Rattle.meaning.specs.Laws.Tests.{both, stop, skip, pass, after}
-use Rattle.meaning.specs.Equal.{isDigit, digits, natural, cut, unsigned, scaled, decimal, decimalKey, sameList}
+use Rattle.meaning.specs.Laws.Tests.{both, stop, skip, pass}
+use Rattle.meaning.specs.Equal.{digits, natural, cut, unsigned, scaled, decimal, decimalKey, sameList}
 use Rattle.equality.specs.declared.Decimal.{Decimal}
 use Rattle.equality.specs.declared.Decimal.the-variants.{Scaled, NotDecimal}
 use Rattle.equality.specs.Numbers.{signedBy}

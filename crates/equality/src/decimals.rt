@@ -4,7 +4,7 @@ use crate::numbers::with_sign;
 use meaning::StrNo;
 ghost use mathlib.Core.Path.{_≡_};
 ghost use mathlib.Core.Bool.{Bool, true};
-ghost use Prim.Native.Nat.{ℕ, _*_, _^_, _-_, _≤_, _<_, min};
+ghost use Prim.Native.Nat.{_*_, _^_, _-_, _≤_, _<_, min};
 ghost use lib.Dec.{ltb};
 ghost use lib.ListN.{length};
 ghost use lib.Signed.{mag};

@@ -2,7 +2,7 @@
 use mathlib.Core.Path.{_≡_, refl}
 use mathlib.Core.Bool.{Bool, true, false}
 use mathlib.Core.List.{List, [], _∷_, _++_, map}
-use mathlib.Core.Option.{Option, none, some}
+use mathlib.Core.Option.{none, some}
 use Prim.Native.Nat.{ℕ}
 use lib.IntN.{ℤ, pos, negsuc}
 use lib.ListN.{set}
@@ -19,7 +19,7 @@ use Rattle.meaning.specs.declared.TimeUnit.{TimeUnit}
 use Rattle.meaning.specs.declared.TimeUnit.the-variants.{Seconds, Minutes, Hours, Days}
 use Rattle.meaning.specs.declared.CmpOp.the-variants.{Eq, NotEq}
 use Rattle.meaning.specs.Walk.{W, Outcome, answered, refused}
-use Rattle.meaning.specs.Calls.{Call, Said, gives, refuses, Result, RowsResult}
+use Rattle.meaning.specs.Calls.{Call, Said, gives, refuses}
 use Rattle.meaning.specs.Below.{upto, made}
 use Rattle.meaning.specs.Tests.{_and_, _or_, choose, onlyIf, isSome, orElse, pick, allBelow, rises, greatest, levels, throughout}
 use Rattle.meaning.specs.Text.{before, free as free·Text, first, follow, next, ended, utf8}

@@ -1,7 +1,7 @@
 -- The arguments of a Predicate, path run and term, by blocks of 512
 use mathlib.Core.Bool.{Bool}
 use mathlib.Core.List.{List}
-use Prim.Native.Nat.{ℕ, _+_, _*_, _/_, _%_, _<_}
+use Prim.Native.Nat.{ℕ, _+_, _*_, _/_, _<_}
 use lib.Dec.{leb}
 use Rattle.meaning.specs.Tests.{_and_, choose, allBelow, within, greatest}
 use Rattle.meaning.specs.Case.{nothing, lists, list, nodeWord}

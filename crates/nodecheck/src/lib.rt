@@ -26,9 +26,8 @@ ghost use Prim.Native.Nat.{_+_, _*_, _<_, _≤_, max};
 ghost use lib.Dec.{leb};
 ghost use lib.ListN.{getD};
 ghost use Rattle.meaning.specs.Tests.{_and_, allBelow, greatest};
-ghost use Rattle.meaning.specs.Case.{lists, list, nodes, values, vars, nodeWord, nodeAt, arity, child};
+ghost use Rattle.meaning.specs.Case.{list, nodes, values, nodeWord, nodeAt, arity, child};
 ghost use Rattle.meaning.specs.Check.{bodies, mosts, valueRule, childIn, isCondition, isOperand, isVariable, pathRun, argumentRule, argumentRun, zerosFrom, ruleOf, nodeRule, height, heightRule, nodeRules};
-ghost use Rattle.meaning.specs.Laws.Tests.{Filled};
 ghost use Rattle.nodecheck.specs.Terms.{Terms, argumentOwn, argumentTop, ArgumentTops};
 ghost use Rattle.pointcheck.specs.Blocks.{Tops, Undotted, Paths, Literals};
 

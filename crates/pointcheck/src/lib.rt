@@ -16,7 +16,7 @@ use valuecheck::larger;
 use valuecheck::plain_values;
 ghost use mathlib.Core.Path.{_≡_};
 ghost use mathlib.Core.Bool.{Bool, true, false};
-ghost use Prim.Native.Nat.{_+_, _*_, _/_, _<_, _≤_, max};
+ghost use Prim.Native.Nat.{_+_, _*_, _/_, _<_};
 ghost use lib.Dec.{ltb};
 ghost use Rattle.meaning.specs.Tests.{_and_, allBelow, greatest};
 ghost use Rattle.meaning.specs.Case.{lists, list, strings, values, text};

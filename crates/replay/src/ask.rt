@@ -22,7 +22,6 @@ use program_parts::cell;
 use program_parts::word;
 use tables::wide;
 ghost use mathlib.Core.Path.{_≡_};
-ghost use Prim.Native.Nat.{_≤_};
 ghost use lib.ListN.{length};
 ghost use Rattle.replay.specs.Known.{Known};
 

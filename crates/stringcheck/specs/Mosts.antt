@@ -7,7 +7,7 @@ use native.Mathlib.Omega.{arith}
 use lib.Dec.{lit<}
 use lib.ListN.{length}
 use borrow.Author.Tests.{leb-true}
-use Rattle.meaning.specs.Case.{strings, values, members, nodes, lists, vars}
+use Rattle.meaning.specs.Case.{strings, values, members, nodes, lists}
 use Rattle.meaning.specs.Check.{bodies, mosts}
 use Rattle.meaning.specs.Laws.Tests.{both}
 use Rattle.meaning.specs.Laws.Bodies.{body-ends}
@@ -28,10 +28,6 @@ module _ (s : List ℕ) (h : mosts s ≡ true) where
   pub node-most : nodes s ≤ 1024
   unfolding mosts
   node-most = leb-true _ _ (both _ _ (both _ _ (both _ _ (both _ _ (both _ _ h .1) .1) .1) .1) .0)
-
-  pub var-most : vars s ≤ 16
-  unfolding mosts
-  var-most = leb-true _ _ (both _ _ (both _ _ (both _ _ (both _ _ (both _ _ h .1) .1) .1) .1) .1)
 
   -- members and lists have no most of their own; the file has
   module _ (b : bodies s ≡ true) where

@@ -9,7 +9,7 @@ use tables::text_of;
 use tables::wide;
 ghost use mathlib.Core.Path.{_≡_};
 ghost use mathlib.Core.Bool.{Bool, true, false};
-ghost use Prim.Native.Nat.{_<_, _≤_};
+ghost use Prim.Native.Nat.{_<_};
 ghost use Rattle.meaning.specs.Tests.{_and_, _or_, allBelow};
 ghost use Rattle.meaning.specs.Text.{before, free, utf8, first, follow, next, ended};
 ghost use Rattle.meaning.specs.Case.{strings, values, members, points, nodes, lists, vars, text};

@@ -1,5 +1,5 @@
 -- What a word stands for where it is none of the numbers that name a choice; values from their words
-use mathlib.Core.Path.{_≡_, refl, ap, sym, _∙_}
+use mathlib.Core.Path.{_≡_, refl, _∙_}
 use mathlib.Core.List.{List}
 use Prim.Native.Nat.{ℕ, zero, suc, _+_, _*_}
 use Rattle.meaning.specs.declared.TimeUnit.the-variants.{Seconds}

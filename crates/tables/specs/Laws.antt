@@ -1,15 +1,15 @@
 -- What a passed rule 1, and strings that lie end to end, say of reads beyond a table and of a string's bytes
-use mathlib.Core.Path.{_≡_, refl, sym, _∙_, ap}
+use mathlib.Core.Path.{_≡_, refl, sym}
 use mathlib.Core.Bool.{Bool, true, false}
 use mathlib.Core.List.{List}
-use Prim.Native.Nat.{ℕ, _+_, _*_, _-_, _/_, _%_, _<_, _≤_}
+use Prim.Native.Nat.{ℕ, _+_, _*_, _-_, _<_, _≤_}
 use native.Mathlib.Omega.{arith}
 use lib.Dec.{ltb, lit<}
 use lib.ListN.{length, take, drop}
 use borrow.Author.Tests.{ltb-true, ltb-false}
 use Rattle.meaning.specs.Tests.{pick}
-use Rattle.meaning.specs.Case.{offset, size, strings, body, bodyWord, stringWord, text}
-use Rattle.meaning.specs.Check.{bodies, endToEnd, placeRule, recordBytes}
+use Rattle.meaning.specs.Case.{offset, strings, stringWord, text}
+use Rattle.meaning.specs.Check.{bodies, endToEnd, placeRule}
 use Rattle.meaning.specs.Laws.Tests.{both, all-at}
 use Rattle.meaning.specs.Laws.Bodies.{wholes, body-ends, body-beyond, text-fits, text-is}
 

@@ -4,14 +4,13 @@ use mathlib.Core.Bool.{Bool, true, false}
 use mathlib.Core.List.{List}
 use mathlib.Core.Option.{Option, none, some}
 use Prim.Native.Nat.{ℕ, _<_, _≤_}
-use lib.ListN.{length}
 use borrow.Author.Tests.{leb-true}
 use Rattle.meaning.specs.declared.Refusal.{Refusal}
 use Rattle.meaning.specs.declared.Refusal.the-variants.{BadContents, TooLarge, BadStrings, BadValues, BadPoints, BadNodes}
 use Rattle.meaning.specs.Tests.{_and_, choose, allBelow}
 use Rattle.meaning.specs.Case.{strings, values, points, nodes, vars, list, nodeAt, valueAt, arity, child, caseOf}
 use Rattle.meaning.specs.Equal.{see, alike, sameValue}
-use Rattle.meaning.specs.Check.{check, Checked, bodies, mosts, stringRules, valueRules, pointRules, nodeRules, endToEnd, valueRule, pointRule, nodeRule}
+use Rattle.meaning.specs.Check.{check, Checked, bodies, mosts, stringRules, valueRules, pointRules, nodeRules, endToEnd, valueRule, nodeRule}
 use Rattle.meaning.specs.Laws.Tests.{both}
 use Rattle.meaning.specs.Laws.Lists.{Every}
 use Rattle.meaning.specs.Laws.Values as Values
@@ -54,23 +53,11 @@ module _ {s : List ℕ} (c : Checked s) where
   unfolding valueRules
   checked-values = both _ _ (both _ _ (rules s c .values) .1) .0
 
-  pub checked-points : allBelow (points s) (pointRule s) ≡ true
-  unfolding pointRules
-  checked-points = rules s c .points
-
   pub checked-nodes : allBelow (nodes s) (nodeRule s) ≡ true
   unfolding nodeRules
   checked-nodes = both _ _ (rules s c .nodes) .0
 
   -- the mosts, as numbers
-
-  pub file-most : length s ≤ 4194304
-  unfolding mosts
-  file-most = leb-true _ _ (both _ _ (rules s c .mosts) .0)
-
-  pub strings-most : strings s ≤ 16384
-  unfolding mosts
-  strings-most = leb-true _ _ (both _ _ (both _ _ (rules s c .mosts) .1) .0)
 
   pub values-most : values s ≤ 16384
   unfolding mosts
@@ -79,10 +66,6 @@ module _ {s : List ℕ} (c : Checked s) where
   pub points-most : points s ≤ 16384
   unfolding mosts
   points-most = leb-true _ _ (both _ _ (both _ _ (both _ _ (both _ _ (rules s c .mosts) .1) .1) .1) .0)
-
-  pub nodes-most : nodes s ≤ 1024
-  unfolding mosts
-  nodes-most = leb-true _ _ (both _ _ (both _ _ (both _ _ (both _ _ (both _ _ (rules s c .mosts) .1) .1) .1) .1) .0)
 
   pub vars-most : vars s ≤ 16
   unfolding mosts

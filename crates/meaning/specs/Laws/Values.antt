@@ -91,10 +91,6 @@ pub depth-is : (s : List ℕ) → allBelow (values s) (valueRule s) ≡ true →
 unfolding depth
 depth-is s h k hk = levels-is (partCount s) (partValue s) (values s) (λ m hm i hi. runs s m hm (all-at _ _ m h hm) .lower i hi) k hk
 
--- a wider bound
-pub runs-wider : (s : List ℕ) (k n v : ℕ) → k ≤ n → Runs s k v → Runs s n v
-runs-wider s k n v h r = record { there = r .there; kinds = r .kinds; inside = r .inside; lower = λ i hi. omega (arith, r .lower i hi) }
-
 pub plain-is : (s : List ℕ) → allBelow (values s) (valueRule s) ≡ true → (k : ℕ) → k < values s → plain s k ≡ (plainNames s k and allBelow (partCount s k) (λ i. plain s (partValue s k i)))
 unfolding plain
 plain-is s h k hk = throughout-is (partCount s) (partValue s) (values s) (λ m hm i hi. runs s m hm (all-at _ _ m h hm) .lower i hi) (plainNames s) k hk

@@ -1,4 +1,4 @@
-use Prim.Native.Nat.{_+_, _<_, ℕ}
+use Prim.Native.Nat.{_+_, ℕ}
 use borrow.Author.Needs.{needs}
 use lib.Dec.{ltb}
 use mathlib.Core.Bool.{Bool}

@@ -1,6 +1,5 @@
 use borrow.Author.Needs.{needs}
 use mathlib.Core.Path.{_∙_, ap}
-use Prim.Native.Nat.{ℕ}
 use Rattle.meaning.specs.Tests.{within}
 use Rattle.meaning.specs.Laws.Checked.{checked-bodies}
 use Rattle.bench.proofs.Conditions.{by-kind}

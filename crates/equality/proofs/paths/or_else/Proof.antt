@@ -1,4 +1,3 @@
-use borrow.Author.Needs.{needs}
 use Rattle.equality.proofs.Attributes.{else-unbound, else-none, first-bound}
 use Rattle.equality.proofs.paths.or_else.Statement.{statement}
 use Rattle.equality.proofs.paths.or_else.Tie as tie

@@ -1,4 +1,3 @@
-use borrow.Author.Needs.{needs}
 use Rattle.meaning.specs.Laws.Checked.{checked-bodies}
 use Rattle.equality.proofs.Reach.{event-action, event-kind, event-runs}
 use Rattle.equality.proofs.paths.same_event.Statement.{statement}

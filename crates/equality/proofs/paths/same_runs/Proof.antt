@@ -1,4 +1,3 @@
-use borrow.Author.Needs.{needs}
 use Prim.Native.Nat.{_-_}
 use native.Mathlib.Omega.{arith}
 use Rattle.equality.proofs.Reach.{RunsFrom, runs-longer, runs-start, word-differs, word-same, words-end}

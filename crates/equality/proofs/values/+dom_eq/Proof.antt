@@ -1,7 +1,6 @@
 use mathlib.Core.Path.{sym, _∙_}
 use Prim.Native.Nat.{ℕ, _<_, _-_}
 use native.Mathlib.Omega.{arith}
-use borrow.Author.Needs.{needs}
 use Rattle.meaning.specs.Laws.Checked.{checked-bodies}
 use Rattle.equality.proofs.Alike.{PartsFrom, same-number, unlike, holders, counts, part-lower, parts-start, parts-name, parts-no, parts-more, parts-end}
 use borrow.Fn.Kinds.{In}

@@ -1,4 +1,3 @@
-use borrow.Author.Needs.{needs}
 use mathlib.Core.Path.{refl}
 use Rattle.meaning.specs.Tests.{_and_}
 use Rattle.equality.proofs.values.both.Statement.{statement}

@@ -1,6 +1,5 @@
 use borrow.Author.Needs.{needs}
-use Prim.Native.Nat.{_-_, _≤_}
-use mathlib.Core.Path.{_≡_}
+use Prim.Native.Nat.{_-_}
 use lib.ListN.{length}
 use Rattle.replay.proofs.buffers.is_filled.Statement.{statement}
 use Rattle.replay.proofs.buffers.is_filled.Tie as tie

@@ -1,7 +1,5 @@
 use borrow.Author.Needs.{needs}
 use Prim.Native.Nat.{_-_, _≤_}
-use mathlib.Core.Path.{_≡_}
-use lib.ListN.{length}
 use Rattle.replay.proofs.buffers.is_listed.Statement.{statement}
 use Rattle.replay.proofs.buffers.is_listed.Tie as tie
 

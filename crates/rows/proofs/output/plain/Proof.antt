@@ -1,5 +1,4 @@
 use Rattle.rows.proofs.Out.{plain-none, plain-some, plain-far}
-use Prim.Native.Nat.{_-_}
 use borrow.Author.Needs.{needs}
 use Rattle.rows.proofs.output.plain.Statement.{statement}
 use Rattle.rows.proofs.output.plain.Tie as tie

@@ -97,7 +97,7 @@ pub fn print_tables() -> Result<bool, String> {
         for Timed { points, steps, ours, theirs } in &sizes {
             let per_step = |time: f64| time / *steps as f64;
             println!(
-                "| {} | {points} | {steps} | {} | {} | {:.1} | {:.1} | {:.1} |",
+                "| {} | {points} | {steps} | {} | {} | {:.2} | {:.1} | {:.1} |",
                 shape.name,
                 shown(*ours),
                 shown(*theirs),

@@ -6,3 +6,4 @@ pub mod Alike
 pub mod Cells
 pub mod Reach
 pub mod Attributes
+pub mod Hashing

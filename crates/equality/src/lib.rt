@@ -2,12 +2,15 @@
 use meaning::ValNo;
 
 mod decimals;
+mod hashes;
 mod numbers;
 mod paths;
 mod values;
 
 pub use decimals::cedar_decimal_value;
 pub use decimals::decimal_eq;
+pub use hashes::binding_hash;
+pub use hashes::mix;
 pub use numbers::calculate;
 pub use numbers::in_window;
 pub use numbers::ordered;

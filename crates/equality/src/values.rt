@@ -93,7 +93,7 @@ pub fn dom_eq(s: &[u8], a: ValNo, b: ValNo) -> bool
 // ---- what a variable is bound to
 
 // a value's number from 64 bits: one that no table has stands for all larger ones
-fn value_no(bits: u64) -> ValNo
+pub fn value_no(bits: u64) -> ValNo
     ensures { λ r. ⌜ r .0 ≡ min 4294967295 bits ⌝ }
 {
     if 4294967295 <= bits {

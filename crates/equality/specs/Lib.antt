@@ -3,3 +3,4 @@ pub mod Decimals
 pub mod Cells
 pub mod Paths
 pub mod Hashes
+pub mod Joined

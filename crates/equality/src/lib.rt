@@ -35,3 +35,19 @@ pub enum Found {
     At(ValNo),
     Nothing,
 }
+
+// what two values show at once: the answer, or two runs of n members from p and from q on
+struct Heads {
+    known: bool,
+    same: bool,
+    n: u32,
+    p: u32,
+    q: u32,
+}
+
+// two members: whether they have the same name, and their values
+struct Pair {
+    named: bool,
+    a: ValNo,
+    b: ValNo,
+}

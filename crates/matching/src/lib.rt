@@ -1,10 +1,14 @@
-// What the evaluators do besides control: leaf terms, the arguments of a Predicate matched at a point, Tp, the point before, two sides compared or combined. Each equals its definition.
+// What the evaluators do besides control: leaf terms, the arguments of a Predicate matched at a point, Tp, the point before, two sides compared or combined, shared arithmetic. Each equals its definition.
+use meaning::Binding;
 use meaning::Env;
 
+mod once;
 mod points;
 mod predicates;
 mod sides;
 
+pub use once::calculated;
+pub use once::nests;
 pub use points::previous_point;
 pub use predicates::match_args;
 pub use predicates::tp_row;
@@ -30,4 +34,10 @@ pub enum Variable {
 pub enum Earlier {
     At(usize),
     Nowhere,
+}
+
+// what a term resolves to with no walk, or open
+pub enum Settled {
+    Is(Binding),
+    Open,
 }

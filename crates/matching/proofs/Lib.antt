@@ -4,3 +4,4 @@ pub mod Free
 pub mod Fields
 pub mod Events
 pub mod Before
+pub mod Passes

@@ -22,7 +22,7 @@ use Rattle.meaning.specs.Laws.Values as Values
 use Rattle.meaning.specs.Laws.Checked.{checked-bodies, checked-values, values-most, lower-parts, sameValue-is}
 use Rattle.equality.specs.declared.Heads.{Heads}
 use Rattle.equality.specs.declared.Pair.{Pair}
-use Rattle.equality.specs.Joined.{Holders, Headed, Told, Paired}
+use Rattle.equality.specs.Joined.{Holders, Headed, Told, Paired, Surely, Looked}
 use Rattle.equality.proofs.Scaling.{and-true, list-same}
 use Rattle.equality.proofs.Steps.{open-place, shut-place}
 
@@ -82,6 +82,25 @@ self-below {s} c (suc bound) v h =
 pub same-number : (s : List ℕ) (a b : ℕ) → Checked s → a ≡ b → true ≡ sameValue (caseOf s) a b
 same-number s a b c e = sym (rw (← e) (self-below c (suc a) a (omega arith)))
 
+-- ---- the same words
+
+module _ {s : List ℕ} {a b : ℕ} (c : Checked s) where
+  pub words-no : Surely s a b false
+  words-no = record { equal = λ e. absurd (true-false (sym e)) }
+
+  pub words-number : a ≡ b → Surely s a b true
+  words-number e = record { equal = λ _. same-number s a b c e }
+
+  pub words-same : (k j x y p q : ℕ) → k ≡ valueWord s a 0 → j ≡ valueWord s b 0 → k ≡ j → x ≡ valueWord s a 1 → y ≡ valueWord s b 1 → x ≡ y → p ≡ valueWord s a 2 → q ≡ valueWord s b 2 → Surely s a b (eqb p q)
+  unfolding valueAt
+  words-same k j x y p q ek ej e ex ey f ep eq = record {
+    equal = λ g.
+        let ka : valueWord s a 0 ≡ valueWord s b 0 = sym ek ∙ e ∙ ej in
+        let xa : valueWord s a 1 ≡ valueWord s b 1 = sym ex ∙ f ∙ ey in
+        let pa : valueWord s a 2 ≡ valueWord s b 2 = sym ep ∙ eqb-true p q g ∙ eq in
+        same-number s b b c refl ∙ sameValue-is c b b ∙ sym (sameValue-is c a b ∙ rw (ka, xa, pa) refl);
+  }
+
 -- ---- leaves
 
 pub alike-leaf : (eq : ℕ → ℕ → Bool) (k : ℕ) (l m : List ℕ) → alike eq (seen k l []) (seen k m []) ≡ sameList l m
@@ -92,40 +111,42 @@ pub one-same : (x y : ℕ) → sameList (x ∷ []) (y ∷ []) ≡ eqb x y
 unfolding sameList
 one-same x y = and-true (eqb x y)
 
-module _ (s : List ℕ) (a b k x y p q : ℕ) (c : Checked s) (ka : valueWord s a 0 ≡ k) (kb : valueWord s b 0 ≡ k)
-    (ex : x ≡ valueWord s a 1) (ey : y ≡ valueWord s b 1) (ep : p ≡ valueWord s a 2) (eq : q ≡ valueWord s b 2) where
-  two-is : (n : ℕ) → k ≡ n → sameValue (caseOf s) a b ≡ alike (sameValue (caseOf s)) (see (caseOf s) (valueFrom (partAt s) n x p)) (see (caseOf s) (valueFrom (partAt s) n y q))
+module _ (s : List ℕ) (a b k x y : ℕ) (c : Checked s) (ka : valueWord s a 0 ≡ k) (kb : valueWord s b 0 ≡ k) (ex : x ≡ valueWord s a 1) (ey : y ≡ valueWord s b 1) where
+  two-is : (n p q : ℕ) → k ≡ n → p ≡ valueWord s a 2 → q ≡ valueWord s b 2 → sameValue (caseOf s) a b ≡ alike (sameValue (caseOf s)) (see (caseOf s) (valueFrom (partAt s) n x p)) (see (caseOf s) (valueFrom (partAt s) n y q))
   unfolding valueAt
-  two-is n e = sameValue-is c a b ∙ rw (ka, kb, e, ← ex, ← ey, ← ep, ← eq) refl
+  two-is n p q e ep eq = sameValue-is c a b ∙ rw (ka, kb, e, ← ex, ← ey, ← ep, ← eq) refl
+
+  one-is : (n : ℕ) → k ≡ n → sameValue (caseOf s) a b ≡ alike (sameValue (caseOf s)) (see (caseOf s) (valueFrom (partAt s) n x (valueWord s a 2))) (see (caseOf s) (valueFrom (partAt s) n y (valueWord s b 2)))
+  one-is n e = two-is n (valueWord s a 2) (valueWord s b 2) e refl refl
 
   pub leaf-null : k ≡ 0 → true ≡ sameValue (caseOf s) a b
   unfolding see valueFrom pick sameList
-  leaf-null e = sym (two-is 0 e ∙ alike-leaf _ 0 [] [])
+  leaf-null e = sym (one-is 0 e ∙ alike-leaf _ 0 [] [])
 
-  pub leaf-int : (m n : ℕ) → k ≡ 2 → m ≡ x + 4294967296 * p → n ≡ y + 4294967296 * q → Fits w64 m → Fits w64 n → eqb m n ≡ sameValue (caseOf s) a b
+  pub leaf-int : (p q m n : ℕ) → k ≡ 2 → p ≡ valueWord s a 2 → q ≡ valueWord s b 2 → m ≡ x + 4294967296 * p → n ≡ y + 4294967296 * q → Fits w64 m → Fits w64 n → eqb m n ≡ sameValue (caseOf s) a b
   unfolding see valueFrom pick signed
-  leaf-int m n e em en hm hn =
+  leaf-int p q m n e ep eq em en hm hn =
       let l = ofZ w64 (toZ w64 m) in
       let r = ofZ w64 (toZ w64 n) in
-      let parts : sameValue (caseOf s) a b ≡ sameList (l ∷ []) (r ∷ []) = two-is 2 e ∙ rw (← em, ← en) (alike-leaf (sameValue (caseOf s)) 2 (l ∷ []) (r ∷ [])) in
+      let parts : sameValue (caseOf s) a b ≡ sameList (l ∷ []) (r ∷ []) = two-is 2 p q e ep eq ∙ rw (← em, ← en) (alike-leaf (sameValue (caseOf s)) 2 (l ∷ []) (r ∷ [])) in
       let bits : sameList (l ∷ []) (r ∷ []) ≡ eqb m n = rw (ofZ-toZ {w = w64} {n = m} hm, ofZ-toZ {w = w64} {n = n} hn) (one-same m n) in
       sym (parts ∙ bits)
 
   pub leaf-decimal : (r : Bool) → k ≡ 3 → r ≡ sameList (decimalKey (caseOf s) x) (decimalKey (caseOf s) y) → r ≡ sameValue (caseOf s) a b
   unfolding see valueFrom pick
-  leaf-decimal r e h = h ∙ sym (two-is 3 e ∙ alike-leaf _ 3 (decimalKey (caseOf s) x) (decimalKey (caseOf s) y))
+  leaf-decimal r e h = h ∙ sym (one-is 3 e ∙ alike-leaf _ 3 (decimalKey (caseOf s) x) (decimalKey (caseOf s) y))
 
-  pub leaf-entity : (r : Bool) → k ≡ 5 → r ≡ (eqb x y and eqb p q) → r ≡ sameValue (caseOf s) a b
+  pub leaf-entity : (p q : ℕ) (r : Bool) → k ≡ 5 → p ≡ valueWord s a 2 → q ≡ valueWord s b 2 → r ≡ (eqb x y and eqb p q) → r ≡ sameValue (caseOf s) a b
   unfolding see valueFrom pick sameList
-  leaf-entity r e h = h ∙ sym (two-is 5 e ∙ alike-leaf _ 5 (x ∷ p ∷ []) (y ∷ q ∷ []) ∙ ap (λ (t : Bool). eqb x y and t) (and-true (eqb p q)))
+  leaf-entity p q r e ep eq h = h ∙ sym (two-is 5 p q e ep eq ∙ alike-leaf _ 5 (x ∷ p ∷ []) (y ∷ q ∷ []) ∙ ap (λ (t : Bool). eqb x y and t) (and-true (eqb p q)))
 
   leaf-bool : k ≡ 1 → eqb x y ≡ sameValue (caseOf s) a b
   unfolding see valueFrom pick
-  leaf-bool e = sym (two-is 1 e ∙ alike-leaf (sameValue (caseOf s)) 1 (x ∷ []) (y ∷ []) ∙ one-same x y)
+  leaf-bool e = sym (one-is 1 e ∙ alike-leaf (sameValue (caseOf s)) 1 (x ∷ []) (y ∷ []) ∙ one-same x y)
 
   leaf-text : k ≡ 4 → eqb x y ≡ sameValue (caseOf s) a b
   unfolding see valueFrom pick
-  leaf-text e = sym (two-is 4 e ∙ alike-leaf (sameValue (caseOf s)) 4 (x ∷ []) (y ∷ []) ∙ one-same x y)
+  leaf-text e = sym (one-is 4 e ∙ alike-leaf (sameValue (caseOf s)) 4 (x ∷ []) (y ∷ []) ∙ one-same x y)
 
   pub leaf-other : k < 6 → (k ≡ 0 → ⊥) → (k ≡ 2 → ⊥) → (k ≡ 3 → ⊥) → (k ≡ 5 → ⊥) → eqb x y ≡ sameValue (caseOf s) a b
   leaf-other h h0 h2 h3 h5 = go (eqb k 1) refl
@@ -140,20 +161,20 @@ module _ (s : List ℕ) (a b k x y p q : ℕ) (c : Checked s) (ka : valueWord s 
   unfolding alike seen sameList
   alike-held n ps qs = after (eq-eqb n n refl) ∙ after refl
 
-  parts-array : k ≡ 6 → sameValue (caseOf s) a b ≡ sameParts (sameValue (caseOf s)) (map (partAt s) (places x 1 p)) (map (partAt s) (places y 1 q))
+  parts-array : (p q : ℕ) → k ≡ 6 → p ≡ valueWord s a 2 → q ≡ valueWord s b 2 → sameValue (caseOf s) a b ≡ sameParts (sameValue (caseOf s)) (map (partAt s) (places x 1 p)) (map (partAt s) (places y 1 q))
   unfolding see valueFrom pick
-  parts-array e = two-is 6 e ∙ alike-held 6 (map (partAt s) (places x 1 p)) (map (partAt s) (places y 1 q))
+  parts-array p q e ep eq = two-is 6 p q e ep eq ∙ alike-held 6 (map (partAt s) (places x 1 p)) (map (partAt s) (places y 1 q))
 
-  parts-object : k ≡ 7 → sameValue (caseOf s) a b ≡ sameParts (sameValue (caseOf s)) (map (partAt s) (places x 1 p)) (map (partAt s) (places y 1 q))
+  parts-object : (p q : ℕ) → k ≡ 7 → p ≡ valueWord s a 2 → q ≡ valueWord s b 2 → sameValue (caseOf s) a b ≡ sameParts (sameValue (caseOf s)) (map (partAt s) (places x 1 p)) (map (partAt s) (places y 1 q))
   unfolding see valueFrom pick
-  parts-object e = two-is 7 e ∙ alike-held 7 (map (partAt s) (places x 1 p)) (map (partAt s) (places y 1 q))
+  parts-object p q e ep eq = two-is 7 p q e ep eq ∙ alike-held 7 (map (partAt s) (places x 1 p)) (map (partAt s) (places y 1 q))
 
-  parts-are : 6 ≤ k → sameValue (caseOf s) a b ≡ sameParts (sameValue (caseOf s)) (map (partAt s) (places x 1 p)) (map (partAt s) (places y 1 q))
-  parts-are h = go (eqb k 6) refl
+  parts-are : (p q : ℕ) → 6 ≤ k → p ≡ valueWord s a 2 → q ≡ valueWord s b 2 → sameValue (caseOf s) a b ≡ sameParts (sameValue (caseOf s)) (map (partAt s) (places x 1 p)) (map (partAt s) (places y 1 q))
+  parts-are p q h ep eq = go (eqb k 6) refl
     where
       go : (t : Bool) → eqb k 6 ≡ t → sameValue (caseOf s) a b ≡ sameParts (sameValue (caseOf s)) (map (partAt s) (places x 1 p)) (map (partAt s) (places y 1 q))
-      go true e = parts-array (eqb-true k 6 e)
-      go false e = let ne = eqb-false k 6 e in let z : k ≡ 7 = omega (arith, kind-small c a) in parts-object z
+      go true e = parts-array p q (eqb-true k 6 e) ep eq
+      go false e = let ne = eqb-false k 6 e in let z : k ≡ 7 = omega (arith, kind-small c a) in parts-object p q z ep eq
 
 longer : (eq : ℕ → ℕ → Bool) (part : ℕ → Part) (p q n m : ℕ) → (n ≡ m → ⊥) → sameParts eq (map part (places p 1 n)) (map part (places q 1 m)) ≡ false
 unfolding sameParts places
@@ -173,7 +194,7 @@ holders c ek ej e h en em ep eq =
 
 module _ (s : List ℕ) (a b n m p q : ℕ) (h : Holders s a b n m p q) where
   held-is : sameValue (caseOf s) a b ≡ sameParts (sameValue (caseOf s)) (map (partAt s) (places p 1 n)) (map (partAt s) (places q 1 m))
-  held-is = parts-are s a b (valueWord s a 0) p q n m (h .checked) refl (sym (h .kinds)) (h .start) (h .start-other) (h .count) (h .other) (h .kind)
+  held-is = parts-are s a b (valueWord s a 0) p q (h .checked) refl (sym (h .kinds)) (h .start) (h .start-other) n m (h .kind) (h .count) (h .other)
 
   counts-differ : (n ≡ m → ⊥) → false ≡ sameValue (caseOf s) a b
   counts-differ ne = sym (held-is ∙ longer (sameValue (caseOf s)) (partAt s) p q n m ne)
@@ -260,19 +281,20 @@ pub record Going (s : List ℕ) (a b : ℕ) (h : Heads) (i : ℕ) : Type 0 where
   pub holders : Holders s a b (h .n) (h .n) (h .p) (h .q)
   pub from : PartsFrom s (h .p) (h .q) (h .n) i
 
+-- values with members are in the table
+module _ {s : List ℕ} {a b : ℕ} {h : Heads} (f : Headed s a b h) (k : h .known ≡ false) where
+  pub left-in : a < 16384
+  left-in = holder-in s a b (h .n) (h .n) (h .p) (h .q) (f .left k)
+
+  pub right-in : b < 16384
+  right-in = holder-in s b a (h .n) (h .n) (h .q) (h .p) (turned s a b (h .n) (h .n) (h .p) (h .q) (f .left k))
+
 pub go-start : {s : List ℕ} {a b : ℕ} {h : Heads} → Headed s a b h → h .known ≡ false → Going s a b h 0
 go-start f k = record { holders = f .left k; from = parts-start }
 
 module _ {s : List ℕ} {a b i : ℕ} {h : Heads} (g : Going s a b h i) where
   runs : sameRuns s (h .p) (h .q) (h .n) ≡ sameValue (caseOf s) a b
   runs = runs-are s a b (h .n) (h .n) (h .p) (h .q) (g .holders) refl
-
-  -- a and b are in the table
-  pub left-in : a < 16384
-  left-in = holder-in s a b (h .n) (h .n) (h .p) (h .q) (g .holders)
-
-  pub right-in : b < 16384
-  right-in = holder-in s b a (h .n) (h .n) (h .q) (h .p) (turned s a b (h .n) (h .n) (h .p) (h .q) (g .holders))
 
   pub go-end : h .n ≤ i → true ≡ sameValue (caseOf s) a b
   unfolding sameParts
@@ -305,8 +327,56 @@ module _ {s : List ℕ} {a b i : ℕ} {h : Heads} (g : Going s a b h i) where
     pub go-falls : {z : ℕ} → a ≡ z → m .a .0 < z
     go-falls q = omega (arith, left-lower)
 
-    pub go-left : {z : ℕ} → a < z → m .a .0 < z
-    go-left q = omega (arith, left-lower)
+-- ---- a plain way, while some of it is left
 
-    pub go-right : {z : ℕ} → b < z → m .b .0 < z
-    go-right q = omega (arith, part-lower s b a (h .n) (h .n) (h .q) (h .p) (turned s a b (h .n) (h .n) (h .p) (h .q) (g .holders)) i (m .b .0) l (e .right))
+-- the members of two runs before i are alike, and some is left
+pub record Looking (s : List ℕ) (left : ℕ) (h : Heads) (i : ℕ) : Type 0 where
+  pub from : PartsFrom s (h .p) (h .q) (h .n) i
+  pub some : 0 < left
+
+pub look-start : {s : List ℕ} {left n : ℕ} {h : Heads} → n < left → Looking s (left - n) h 0
+look-start l = record { from = parts-start; some = omega arith }
+
+look-told : {s : List ℕ} {left x y a b : ℕ} {r : Bool} → 0 < left → r ≡ sameValue (caseOf s) a b → Looked s left x y a b r
+look-told l e = record { some = λ _. e; none = λ z. absurd (omega arith) }
+
+pub look-said : {s : List ℕ} {left x y a b : ℕ} {h : Heads} → 0 < left → Headed s a b h → h .known ≡ true → Looked s left x y a b (h .same)
+look-said l f k = look-told l (f .said k)
+
+-- nothing is left: x and y were compared
+pub look-whole : {s : List ℕ} {x y a b : ℕ} {r : Bool} → r ≡ sameValue (caseOf s) x y → Looked s 0 x y a b r
+look-whole e = record { some = λ l. absurd (omega arith); none = λ _. e }
+
+pub look-spent : {s : List ℕ} {left x y a b d e : ℕ} {r : Bool} → Looked s left x y d e r → left ≡ 0 → Looked s left x y a b r
+look-spent o z = record { some = λ l. absurd (omega arith); none = o .none }
+
+pub look-all : {s : List ℕ} {left a b : ℕ} {r : Bool} → Looked s left a b a b r → r ≡ sameValue (caseOf s) a b
+look-all {s} {left} {a} {b} {r} o = go (eqb left 0) refl
+  where
+    go : (t : Bool) → eqb left 0 ≡ t → r ≡ sameValue (caseOf s) a b
+    go true e = o .none (eqb-true left 0 e)
+    go false e = let ne = eqb-false left 0 e in o .some (omega arith)
+
+module _ {s : List ℕ} {left a b i : ℕ} {h : Heads} (f : Headed s a b h) (k : h .known ≡ false) (g : Looking s left h i) where
+  going : Going s a b h i
+  going = record { holders = f .left k; from = g .from }
+
+  pub look-end : {x y : ℕ} → h .n ≤ i → Looked s left x y a b true
+  look-end l = look-told (g .some) (go-end going l)
+
+  module _ {m : Pair} (l : i < h .n) (e : Paired s (h .p + i) (h .q + i) m) where
+    pub look-falls : {z : ℕ} → a ≡ z → m .a .0 < z
+    look-falls = go-falls going l e
+
+    pub look-name : {x y : ℕ} → not (m .named) ≡ true → Looked s left x y a b false
+    look-name ne = look-told (g .some) (go-name going l e ne)
+
+    pub look-same : {r : Bool} → not (m .named) ≡ false → Surely s (m .a .0) (m .b .0) r → r ≡ true → Looking s left h (i + 1)
+    look-same nn o q = record { from = go-more going l e nn (o .equal q) refl .from; some = g .some }
+
+    module _ {rest x y : ℕ} {r : Bool} (o : Looked s rest x y (m .a .0) (m .b .0) r) (z : rest ≡ 0 → ⊥) where
+      pub look-no : not r ≡ true → Looked s rest x y a b false
+      look-no q = let p : 0 < rest = omega arith in look-told p (go-no going l e (o .some p) q)
+
+      pub look-more : not (m .named) ≡ false → not r ≡ false → Looking s rest h (i + 1)
+      look-more nn q = let p : 0 < rest = omega arith in record { from = go-more going l e nn (o .some p) q .from; some = p }

@@ -1,5 +1,5 @@
 -- Equality of values is an equivalence; values found equal are joined in a table
-use mathlib.Core.Path.{_≡_, refl, sym, _∙_, ap}
+use mathlib.Core.Path.{_≡_, refl, sym, _∙_}
 use mathlib.Core.Bool.{Bool, true, false, not}
 use mathlib.Core.List.{List, [], _∷_}
 use Prim.Native.Nat.{ℕ, zero, suc, _+_, _-_, _<_, _≤_}
@@ -8,18 +8,18 @@ use lib.Dec.{eqb}
 use lib.ListN.{length, getD, set, replicate, length-set, length-replicate}
 use lib.Seq.{getD-set-same, getD-set-other}
 use borrow.Author.Tests.{eqb-true, eqb-false}
-use Rattle.meaning.specs.Tests.{_and_}
 use Rattle.meaning.specs.Case.{Part, valueAt, caseOf}
 use Rattle.meaning.specs.Check.{Checked}
 use Rattle.meaning.specs.Equal.{see, alike, sameList, sameParts, sameValue}
-use Rattle.meaning.specs.Laws.Tests.{both, pass}
+use Rattle.meaning.specs.Laws.Tests.{both}
 use Rattle.meaning.specs.Laws.Lists.{Every, every-map}
 use Rattle.meaning.specs.Laws.Values.{held}
 use Rattle.meaning.specs.Laws.Checked.{lower-parts, sameValue-is}
+use Rattle.equality.specs.declared.Ends.{Ends}
 use Rattle.equality.specs.declared.Heads.{Heads}
 use Rattle.equality.specs.declared.Pair.{Pair}
-use Rattle.equality.specs.Joined.{Headed, Paired, Joined, Stepped, Next, Still, Led, Leads, Met, Compared}
-use Rattle.equality.proofs.Alike.{same-number, Going, go-start, go-name, go-no, go-more, go-end}
+use Rattle.equality.specs.Joined.{Headed, Paired, Joined, Inside, Stepped, Next, Led, Leads, Ended, Met, Compared}
+use Rattle.equality.proofs.Alike.{same-number, left-in, right-in, Going, go-start, go-name, go-no, go-more, go-end}
 
 -- ---- values equal to each other are equal to the same values
 
@@ -78,146 +78,124 @@ none zero v = refl
 none (suc n) zero = refl
 none (suc n) (suc v) = none n v
 
-pub joined-none : {s : List ℕ} (n : ℕ) → n ≤ 16384 → Checked s → Joined s (replicate {A = ℕ} n 0)
-joined-none {s} n h c = record {
-  few = omega (arith, length-replicate {A = ℕ} n 0);
-  low = λ v. omega (arith, none n v);
-  same = λ v. sym (same-number s v (v - getD (replicate {A = ℕ} n 0) v 0) c (omega (arith, none n v)));
+pub joined-none : {s : List ℕ} → Checked s → Joined s (replicate {A = ℕ} 16384 0)
+joined-none {s} c = record {
+  size = length-replicate {A = ℕ} 16384 0;
+  low = λ v. omega (arith, none 16384 v);
+  same = λ v. sym (same-number s v (v - getD (replicate {A = ℕ} 16384 0) v 0) c (omega (arith, none 16384 v)));
 }
 
-pub none-in : (n v : ℕ) → v < n → v < length (replicate {A = ℕ} n 0)
-none-in n v h = omega (arith, length-replicate {A = ℕ} n 0)
-
-still-then : {s t u w : List ℕ} → Still s t u → Still s u w → Still s t w
-still-then a b = record { joined = b .joined; size = b .size ∙ a .size }
-
-still-same : {s t : List ℕ} → Joined s t → Still s t t
-still-same j = record { joined = j; size = refl }
-
-pub led : {s t : List ℕ} {v d : ℕ} → Next s t v d → Led s t (set t v d) v d
+pub led : {s t : List ℕ} {v d : ℕ} → Next s t v d → Led s (set t v d) v d
 led {s} {t} {v} {d} n = record {
-  still = record {
-    joined = record {
-      few = omega (arith, length-set t v d, n .joined .few);
-      low = λ k. go k (eqb k v) refl .0;
-      same = λ k. go k (eqb k v) refl .1;
-    };
-    size = length-set t v d;
+  joined = record {
+    size = length-set t v d ∙ n .joined .size;
+    low = λ k. go k (eqb k v) refl .0;
+    same = λ k. go k (eqb k v) refl .1;
   };
   low = n .low;
   same = n .same;
 }
   where
     go : (k : ℕ) (b : Bool) → eqb k v ≡ b → (getD (set t v d) k 0 ≤ k) × (sameValue (caseOf s) k (k - getD (set t v d) k 0) ≡ true)
-    go k true q = let z : k ≡ v = eqb-true k v q in rw (z, getD-set-same t v d 0 (n .inside)) (n .low, n .same)
+    go k true q = let z : k ≡ v = eqb-true k v q in rw (z, getD-set-same t v d 0 (omega (arith, n .inside, n .joined .size))) (n .low, n .same)
     go k false q = rw (getD-set-other t v k d 0 (eqb-false k v q)) (n .joined .low k, n .joined .same k)
 
 -- ---- from value to value
 
 -- v led to k, which leads to the value that is d below it
-pub record Leading (s t u : List ℕ) (v k d : ℕ) : Type 0 where
+pub record Leading (s t : List ℕ) (v k d : ℕ) : Type 0 where
   pub checked : Checked s
-  pub leads : Leads s t u v k
-  pub inside : v < length t
-  pub step : d ≡ getD u k 0
+  pub leads : Leads s t v k
+  pub inside : v < 16384
+  pub step : d ≡ getD t k 0
   pub low : d ≤ k
 
-lead-from : {s t u : List ℕ} {v k d : ℕ} → Checked s → Leads s t u v k → v < length t → d ≡ getD u k 0 → Leading s t u v k d
-lead-from {k = k} c l h e = record { checked = c; leads = l; inside = h; step = e; low = omega (arith, l .still .joined .low k) }
+lead-from : {s t : List ℕ} {v k d : ℕ} → Checked s → Leads s t v k → v < 16384 → d ≡ getD t k 0 → Leading s t v k d
+lead-from {k = k} c l h e = record { checked = c; leads = l; inside = h; step = e; low = omega (arith, l .joined .low k) }
 
-pub lead-start : {s t : List ℕ} {v k d : ℕ} → Checked s → Joined s t → v < length t → k ≡ v → Stepped t k d → Leading s t t v k d
+pub lead-start : {s t : List ℕ} {v k d : ℕ} → Checked s → Joined s t → v < 16384 → k ≡ v → Stepped t k d → Leading s t v k d
 lead-start {s} {t} {v} {k} c j h e d =
-    lead-from c (record { still = still-same j; low = omega arith; same = sym (same-number s v k c (sym e)) }) h (d .is)
+    lead-from c (record { joined = j; low = omega arith; same = sym (same-number s v k c (sym e)) }) h (d .is)
 
-module _ {s t u : List ℕ} {v k d : ℕ} (l : Leading s t u v k d) where
-  pub lead-next : (f : ℕ) → Stepped u (k - d) f → Next s u k (d + f)
+module _ {s t : List ℕ} {v k d : ℕ} (l : Leading s t v k d) where
+  pub lead-next : (f : ℕ) → Stepped t (k - d) f → Next s t k (d + f)
   lead-next f e =
-      let j = l .leads .still .joined in
+      let j = l .leads .joined in
       let lf : f ≤ k - d = omega (arith, j .low (k - d), e .is) in
       let one : sameValue (caseOf s) k (k - d) ≡ true = rw (l .step) (j .same k) in
       let q : k - (d + f) ≡ k - d - f = omega arith in
       let two : sameValue (caseOf s) (k - d) (k - (d + f)) ≡ true = rw (q, e .is) (j .same (k - d)) in
-      record { joined = j; inside = omega (arith, l .leads .still .size, l .leads .low, l .inside); low = omega (arith, l .low); same = same-trans (l .checked) k (k - d) (k - (d + f)) one two }
+      record { joined = j; inside = omega (arith, l .leads .low, l .inside); low = omega (arith, l .low); same = same-trans (l .checked) k (k - d) (k - (d + f)) one two }
 
-  pub lead-more : (w : List ℕ) (e f : ℕ) → Led s u w k e → Stepped w (k - e) f → Leading s t w v (k - e) f
+  pub lead-more : (w : List ℕ) (e f : ℕ) → Led s w k e → Stepped w (k - e) f → Leading s w v (k - e) f
   lead-more w e f m r =
       lead-from (l .checked)
       (record {
-        still = still-then (l .leads .still) (m .still);
+        joined = m .joined;
         low = omega (arith, l .leads .low);
         same = same-trans (l .checked) v k (k - e) (l .leads .same) (m .same);
       })
       (l .inside) (r .is)
 
--- ---- two values that lead to v and to w
+-- ---- two values, and those that they lead to
 
-module _ {s t t′ t″ : List ℕ} {a b v w : ℕ} (c : Checked s) (r : Leads s t′ t″ b w) (l : Leads s t t′ a v) where
-  both-still : Still s t t″
-  both-still = still-then (l .still) (r .still)
+pub both-end : {s t u : List ℕ} {a b v w : ℕ} → Leads s u b w → Leads s t a v → Ended s u a b (record { v = v; w = w })
+both-end r l = record { joined = r .joined; low = l .low; same = l .same; low-other = r .low; same-other = r .same }
 
-  pub met-is : Met s t t″ a b (eqb v w)
+module _ {s t u : List ℕ} {a b : ℕ} {e : Ends} (o : Inside s u a b) (d : Ended s t a b e) where
+  c : Checked s
+  c = o .checked
+
+  pub met-is : Met s t a b (eqb (e .v) (e .w))
   met-is = record {
-    still = both-still;
-    equal = λ e. sym (same-trans c a v b (l .same) (rw (eqb-true v w e) (same-sym c b w (r .same))));
+    joined = d .joined;
+    equal = λ q. sym (same-trans c a (e .v) b (d .same) (rw (eqb-true (e .v) (e .w) q) (same-sym c b (e .w) (d .same-other))));
   }
 
-  module _ (e : true ≡ sameValue (caseOf s) a b) where
-    ends-same : sameValue (caseOf s) v w ≡ true
-    ends-same = same-trans c v b w (same-trans c v a b (same-sym c a v (l .same)) (sym e)) (r .same)
+  module _ (q : true ≡ sameValue (caseOf s) a b) where
+    ends-same : sameValue (caseOf s) (e .v) (e .w) ≡ true
+    ends-same = same-trans c (e .v) b (e .w) (same-trans c (e .v) a b (same-sym c a (e .v) (d .same)) (sym q)) (d .same-other)
 
-    pub join-down : b < length t → v < w → Next s t″ w (w - v)
-    join-down h d =
-        let q : w - (w - v) ≡ v = omega arith in
-        record { joined = r .still .joined; inside = omega (arith, both-still .size, r .low); low = omega arith; same = rw q (same-sym c v w ends-same) }
+    pub join-down : e .v < e .w → Next s t (e .w) (e .w - e .v)
+    join-down l =
+        let z : e .w - (e .w - e .v) ≡ e .v = omega arith in
+        record { joined = d .joined; inside = omega (arith, d .low-other, o .right); low = omega arith; same = rw z (same-sym c (e .v) (e .w) ends-same) }
 
-    pub join-up : a < length t → w ≤ v → Next s t″ v (v - w)
-    join-up h d =
-        let q : v - (v - w) ≡ w = omega arith in
-        record { joined = r .still .joined; inside = omega (arith, both-still .size, l .low); low = omega arith; same = rw q ends-same }
+    pub join-up : e .w ≤ e .v → Next s t (e .v) (e .v - e .w)
+    join-up l =
+        let z : e .v - (e .v - e .w) ≡ e .w = omega arith in
+        record { joined = d .joined; inside = omega (arith, d .low, o .left); low = omega arith; same = rw z ends-same }
 
 -- ---- two values compared by way of the table
 
--- the table was t and is u, and the members of a and b before i are alike
-pub record Deep (s t u : List ℕ) (a b : ℕ) (h : Heads) (i : ℕ) : Type 0 where
-  pub still : Still s t u
+-- the members of a and b before i are alike
+pub record Deep (s t : List ℕ) (a b : ℕ) (h : Heads) (i : ℕ) : Type 0 where
+  pub joined : Joined s t
   pub going : Going s a b h i
-  pub left-in : a < length u
-  pub right-in : b < length u
 
-pub deep-said : {s t : List ℕ} {a b : ℕ} {h : Heads} → Joined s t → Headed s a b h → h .known ≡ true → Compared s t t a b (h .same)
-deep-said j f k = record { still = still-same j; answer = f .said k }
+module _ {s t : List ℕ} {a b : ℕ} {h : Heads} (f : Headed s a b h) where
+  pub deep-in : Checked s → Joined s t → h .known ≡ false → Inside s t a b
+  deep-in c j k = record { checked = c; joined = j; left = left-in f k; right = right-in f k }
 
-module _ {s t t′ : List ℕ} {a b : ℕ} {r : Bool} (e : Met s t t′ a b r) where
-  pub deep-met : r ≡ true → Compared s t t′ a b true
-  deep-met q = record { still = e .still; answer = e .equal q }
+  pub deep-said : Joined s t → h .known ≡ true → Compared s t a b (h .same)
+  deep-said j k = record { joined = j; answer = f .said k }
 
-  pub deep-start : {h : Heads} → Headed s a b h → h .known ≡ false → a < length t → b < length t → Deep s t′ t′ a b h 0
-  deep-start f k l r = record {
-    still = still-same (e .still .joined);
-    going = go-start f k;
-    left-in = omega (arith, e .still .size);
-    right-in = omega (arith, e .still .size);
-  }
+  pub deep-start : {r : Bool} → Met s t a b r → h .known ≡ false → Deep s t a b h 0
+  deep-start e k = record { joined = e .joined; going = go-start f k }
 
-  module _ {u : List ℕ} {h : Heads} {i : ℕ} (g : Deep s t′ u a b h i) where
-    so-far : Still s t u
-    so-far = still-then (e .still) (g .still)
+pub deep-met : {s t : List ℕ} {a b : ℕ} {r : Bool} → Met s t a b r → r ≡ true → Compared s t a b true
+deep-met e q = record { joined = e .joined; answer = e .equal q }
 
-    pub deep-end : {u′ : List ℕ} → h .n ≤ i → Still s u u′ → Compared s t u′ a b true
-    deep-end n d = record { still = still-then so-far d; answer = go-end (g .going) n }
+module _ {s t : List ℕ} {a b i : ℕ} {h : Heads} (g : Deep s t a b h i) where
+  pub deep-end : {u : List ℕ} → h .n ≤ i → Joined s u → Compared s u a b true
+  deep-end n j = record { joined = j; answer = go-end (g .going) n }
 
-    module _ {m : Pair} (n : i < h .n) (p : Paired s (h .p + i) (h .q + i) m) where
-      pub deep-name : not (m .named) ≡ true → Compared s t u a b false
-      deep-name ne = record { still = so-far; answer = go-name (g .going) n p ne }
+  module _ {m : Pair} (n : i < h .n) (p : Paired s (h .p + i) (h .q + i) m) where
+    pub deep-name : not (m .named) ≡ true → Compared s t a b false
+    deep-name ne = record { joined = g .joined; answer = go-name (g .going) n p ne }
 
-      pub deep-no : {u′ : List ℕ} {y : Bool} → Compared s u u′ (m .a .0) (m .b .0) y → not y ≡ true → Compared s t u′ a b false
-      deep-no d ny = record { still = still-then so-far (d .still); answer = go-no (g .going) n p (d .answer) ny }
+    pub deep-no : {u : List ℕ} {y : Bool} → Compared s u (m .a .0) (m .b .0) y → not y ≡ true → Compared s u a b false
+    deep-no d ny = record { joined = d .joined; answer = go-no (g .going) n p (d .answer) ny }
 
-module _ {s t u : List ℕ} {a b i : ℕ} {h : Heads} {m : Pair} (g : Deep s t u a b h i) (n : i < h .n) (p : Paired s (h .p + i) (h .q + i) m) where
-  pub deep-more : {u′ : List ℕ} {y : Bool} → not (m .named) ≡ false → Compared s u u′ (m .a .0) (m .b .0) y → not y ≡ false → Deep s t u′ a b h (i + 1)
-  deep-more nn d ny = record {
-    still = still-then (g .still) (d .still);
-    going = go-more (g .going) n p nn (d .answer) ny;
-    left-in = omega (arith, d .still .size, g .left-in);
-    right-in = omega (arith, d .still .size, g .right-in);
-  }
+    pub deep-more : {u : List ℕ} {y : Bool} → not (m .named) ≡ false → Compared s u (m .a .0) (m .b .0) y → not y ≡ false → Deep s u a b h (i + 1)
+    deep-more nn d ny = record { joined = d .joined; going = go-more (g .going) n p nn (d .answer) ny }

@@ -51,3 +51,9 @@ struct Pair {
     a: ValNo,
     b: ValNo,
 }
+
+// the lowest values that two values lead to
+struct Ends {
+    v: usize,
+    w: usize,
+}

@@ -1,4 +1,5 @@
 // Equality of values in the table, and of what variables are bound to.
+use crate::Ends;
 use crate::Heads;
 use crate::Pair;
 use crate::decimals::decimal_eq;
@@ -20,7 +21,7 @@ ghost use Rattle.meaning.specs.Check.{Checked, bodies};
 ghost use Rattle.meaning.specs.Equal.{sameValue, boundOf};
 ghost use Rattle.meaning.specs.Rows.{inCells, sameCell};
 ghost use Rattle.equality.specs.Cells.{Settled};
-ghost use Rattle.equality.specs.Joined.{Headed, Told, Paired, Joined, Stepped, Next, Still, Led, Leads, Met, Compared};
+ghost use Rattle.equality.specs.Joined.{Headed, Told, Paired, Surely, Looked, Joined, Inside, Stepped, Next, Led, Leads, Ended, Met, Compared};
 
 pub fn long(x: u32) -> u64
     ensures { λ r. ⌜ r ≡ x ⌝ }
@@ -47,13 +48,11 @@ fn leaf_eq(s: &[u8], k: u32, a: ValNo, b: ValNo) -> bool
 {
     let x = value_word(s, a, 1);
     let y = value_word(s, b, 1);
-    let p = value_word(s, a, 2);
-    let q = value_word(s, b, 2);
     match k {
         0 => true,
-        2 => halves(x, p) == halves(y, q),
+        2 => halves(x, value_word(s, a, 2)) == halves(y, value_word(s, b, 2)),
         3 => decimal_eq(s, StrNo(x), StrNo(y)),
-        5 => both(x == y, p == q),
+        5 => both(x == y, value_word(s, a, 2) == value_word(s, b, 2)),
         _ => x == y,
     }
 }
@@ -119,48 +118,74 @@ fn pair(s: &[u8], p: u32, q: u32, i: u32) -> Pair
     Pair { named, a, b }
 }
 
-// whether to look into a: this chooses the way and not the answer
-fn deeper(s: &[u8], a: ValNo, b: ValNo) -> bool
-    requires { ⌜ bodies (now s) ≡ true ⌝ }
+// two values with the same words are equal, of whatever kind
+fn same_words(s: &[u8], a: ValNo, b: ValNo) -> bool
+    requires { ⌜ Checked (now s) ⌝ }
+    ensures { λ r. ⌜ Surely (now (s .entry)) (a .0) (b .0) r ⌝ }
 {
     if a.0 == b.0 {
+        return true;
+    }
+    if value_word(s, a, 0) != value_word(s, b, 0) {
         return false;
     }
-    5 < value_word(s, a, 0)
+    if value_word(s, a, 1) != value_word(s, b, 1) {
+        return false;
+    }
+    value_word(s, a, 2) == value_word(s, b, 2)
 }
 
-// flat arrays and objects member by member; where one is nested, all anew with a table
+// a small value is compared without a table: a plain way through at most 64 members below those of a
 pub fn dom_eq(s: &[u8], a: ValNo, b: ValNo) -> bool
     requires { ⌜ Checked (now s) ⌝ }
     ensures { λ r. ⌜ _≡_ {A = Bool} r (sameValue (caseOf (now (s .entry))) (a .0) (b .0)) ⌝ }
+{
+    let mut left = wide(value_word(s, a, 2)) + 64;
+    plain_eq(s, &mut left, a, b, a, b)
+}
+
+// a and b member by member; where more than `left` are met, the answer is that of x and y, by a table, and 0 is left
+fn plain_eq(s: &[u8], left: &mut usize, x: ValNo, y: ValNo, a: ValNo, b: ValNo) -> bool
+    requires { ⌜ Checked (now s) ⌝ }
+    requires { ⌜ 0 < now left ⌝ }
+    ensures { λ r. ⌜ Looked (now (s .entry)) (now (left .exit)) (x .0) (y .0) (a .0) (b .0) r ⌝ }
 {
     let h = heads(s, a, b);
     if h.known {
         return h.same;
     }
+    let n = wide(h.n);
+    if *left <= n {
+        *left = 0;
+        return nested_eq(s, x, y);
+    }
+    *left -= n;
     let mut i = 0;
     while i < h.n {
         let m = pair(s, h.p, h.q, i);
         if !m.named {
             return false;
         }
-        if deeper(s, m.a, m.b) {
-            return nested_eq(s, a, b);
+        i += 1;
+        if same_words(s, m.a, m.b) {
+            continue;
         }
-        if !dom_eq(s, m.a, m.b) {
+        let r = plain_eq(s, left, x, y, m.a, m.b);
+        if *left == 0 {
+            return r;
+        }
+        if !r {
             return false;
         }
-        i += 1;
     }
     true
 }
 
 // ---- nested values: those found equal are joined, and so are not looked into twice
 
+// the table is large: the caller calls itself, so that it is not compiled into the caller's frame
 fn nested_eq(s: &[u8], a: ValNo, b: ValNo) -> bool
     requires { ⌜ Checked (now s) ⌝ }
-    requires { ⌜ a .0 < 16384 ⌝ }
-    requires { ⌜ b .0 < 16384 ⌝ }
     ensures { λ r. ⌜ _≡_ {A = Bool} r (sameValue (caseOf (now (s .entry))) (a .0) (b .0)) ⌝ }
 {
     let mut lower: [u16; 16384] = [0; 16384];
@@ -171,9 +196,7 @@ fn nested_eq(s: &[u8], a: ValNo, b: ValNo) -> bool
 fn deep_eq(s: &[u8], lower: &mut [u16], a: ValNo, b: ValNo) -> bool
     requires { ⌜ Checked (now s) ⌝ }
     requires { ⌜ Joined (now s) (now lower) ⌝ }
-    requires { ⌜ a .0 < length (now lower) ⌝ }
-    requires { ⌜ b .0 < length (now lower) ⌝ }
-    ensures { λ r. ⌜ Compared (now (s .entry)) (now (lower .entry)) (now (lower .exit)) (a .0) (b .0) r ⌝ }
+    ensures { λ r. ⌜ Compared (now (s .entry)) (now (lower .exit)) (a .0) (b .0) r ⌝ }
 {
     let h = heads(s, a, b);
     if h.known {
@@ -188,26 +211,33 @@ fn deep_eq(s: &[u8], lower: &mut [u16], a: ValNo, b: ValNo) -> bool
         if !m.named {
             return false;
         }
+        i += 1;
         if !deep_eq(s, lower, m.a, m.b) {
             return false;
         }
-        i += 1;
     }
     join(s, lower, a.0, b.0);
     true
+}
+
+fn short(x: u16) -> usize
+    ensures { λ r. ⌜ r ≡ x ⌝ }
+    ensures { λ r. ⌜ r < 65536 ⌝ }
+{
+    x as usize
 }
 
 fn step(lower: &[u16], v: usize) -> usize
     requires { ⌜ v < length (now lower) ⌝ }
     ensures { λ r. ⌜ Stepped (now (lower .entry)) v r ⌝ }
 {
-    lower[v] as usize
+    short(lower[v])
 }
 
 // v is made to lead to the value that is d below it
 fn lead(s: &[u8], lower: &mut [u16], v: usize, d: usize)
     requires { ⌜ Next (now s) (now lower) v d ⌝ }
-    ensures { λ _. ⌜ Led (now (s .entry)) (now (lower .entry)) (now (lower .exit)) v d ⌝ }
+    ensures { λ _. ⌜ Led (now (s .entry)) (now (lower .exit)) v d ⌝ }
 {
     lower[v] = d as u16;
 }
@@ -216,8 +246,8 @@ fn lead(s: &[u8], lower: &mut [u16], v: usize, d: usize)
 fn lowest(s: &[u8], lower: &mut [u16], v: u32) -> usize
     requires { ⌜ Checked (now s) ⌝ }
     requires { ⌜ Joined (now s) (now lower) ⌝ }
-    requires { ⌜ v < length (now lower) ⌝ }
-    ensures { λ r. ⌜ Leads (now (s .entry)) (now (lower .entry)) (now (lower .exit)) v r ⌝ }
+    requires { ⌜ v < 16384 ⌝ }
+    ensures { λ r. ⌜ Leads (now (s .entry)) (now (lower .exit)) v r ⌝ }
 {
     let mut k = wide(v);
     let mut d = step(lower, k);
@@ -230,30 +260,33 @@ fn lowest(s: &[u8], lower: &mut [u16], v: u32) -> usize
     k
 }
 
-// whether a and b lead to the same value, and so are equal
-fn met(s: &[u8], lower: &mut [u16], a: u32, b: u32) -> bool
-    requires { ⌜ Checked (now s) ⌝ }
-    requires { ⌜ Joined (now s) (now lower) ⌝ }
-    requires { ⌜ a < length (now lower) ⌝ }
-    requires { ⌜ b < length (now lower) ⌝ }
-    ensures { λ r. ⌜ Met (now (s .entry)) (now (lower .entry)) (now (lower .exit)) a b r ⌝ }
+fn ends(s: &[u8], lower: &mut [u16], a: u32, b: u32) -> Ends
+    requires { ⌜ Inside (now s) (now lower) a b ⌝ }
+    ensures { λ r. ⌜ Ended (now (s .entry)) (now (lower .exit)) a b r ⌝ }
 {
     let v = lowest(s, lower, a);
     let w = lowest(s, lower, b);
-    v == w
+    Ends { v, w }
+}
+
+// whether a and b lead to the same value, and so are equal
+fn met(s: &[u8], lower: &mut [u16], a: u32, b: u32) -> bool
+    requires { ⌜ Inside (now s) (now lower) a b ⌝ }
+    ensures { λ r. ⌜ Met (now (s .entry)) (now (lower .exit)) a b r ⌝ }
+{
+    let e = ends(s, lower, a, b);
+    e.v == e.w
 }
 
 // a and b are equal, and lead to the same value from now on
 fn join(s: &[u8], lower: &mut [u16], a: u32, b: u32)
-    requires { ⌜ Checked (now s) ⌝ }
-    requires { ⌜ Joined (now s) (now lower) ⌝ }
-    requires { ⌜ a < length (now lower) ⌝ }
-    requires { ⌜ b < length (now lower) ⌝ }
+    requires { ⌜ Inside (now s) (now lower) a b ⌝ }
     requires { ⌜ true ≡ sameValue (caseOf (now s)) a b ⌝ }
-    ensures { λ _. ⌜ Still (now (s .entry)) (now (lower .entry)) (now (lower .exit)) ⌝ }
+    ensures { λ _. ⌜ Joined (now (s .entry)) (now (lower .exit)) ⌝ }
 {
-    let v = lowest(s, lower, a);
-    let w = lowest(s, lower, b);
+    let e = ends(s, lower, a, b);
+    let v = e.v;
+    let w = e.w;
     if v < w {
         lead(s, lower, w, w - v);
     } else {

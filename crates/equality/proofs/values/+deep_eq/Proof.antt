@@ -1,8 +1,8 @@
 use Prim.Native.Nat.{_-_}
-use borrow.Author.Needs.{needs}
 use Rattle.meaning.specs.Laws.Checked.{checked-bodies}
-use Rattle.equality.proofs.Alike.{go-end, go-falls, go-left, go-right}
-use Rattle.equality.proofs.Joining.{Deep, deep-said, deep-met, deep-start, deep-name, deep-no, deep-more, deep-end}
+use Rattle.equality.proofs.Alike.{go-end, go-falls}
+use Rattle.equality.proofs.Joining.{Deep, deep-in, deep-said, deep-met, deep-start, deep-name, deep-no, deep-more, deep-end}
+use borrow.Author.Needs.{needs}
 use Prim.Native.Nat.{ℕ, _<_}
 use borrow.Fn.Kinds.{In}
 use borrow.Fn.PlainCycle.{Measures, is, falls, and}
@@ -29,7 +29,7 @@ abbrev deep-eq-claims : ℕ → deep-eq-lts.Claims
 deep-eq-claims t = (heads-reads.Asked, heads-reads.Learnt, met-reads.Asked, met-reads.Learnt, pair-reads.Asked, pair-reads.Learnt, deep-eq-below t, deep-eq.Post, join-reads.Asked, join-reads.Learnt)
 
 abbrev deep-eq-Inv-loop : deep-eq-lts.InvT-loop
-deep-eq-Inv-loop s lower₀ a b h i₀ lower i = Deep s lower₀ lower (a .0) (b .0) h i
+deep-eq-Inv-loop s lower₀ a b h i₀ lower i = Deep s lower (a .0) (b .0) h i
 
 abbrev deep-eq-μ-loop : deep-eq-lts.MeasureT-loop
 deep-eq-μ-loop s lower₀ a b h i₀ lower i = h .n - i
@@ -41,7 +41,7 @@ deep-eq-returns : (t : ℕ) → deep-eq-lts.Need-returns (deep-eq-claims t) (dee
 deep-eq-returns t c = search (deep-said, needs)
 
 deep-eq-met-requires : (t : ℕ) → deep-eq-lts.Need-met-requires (deep-eq-claims t) (deep-eq-at t) deep-eq.Post deep-eq-Inv-loop deep-eq-μ-loop
-deep-eq-met-requires t c κs = search needs
+deep-eq-met-requires t c κs = search (deep-in, needs)
 
 deep-eq-same-length : (t : ℕ) → deep-eq-lts.Need-same-length (deep-eq-claims t) (deep-eq-at t) deep-eq.Post deep-eq-Inv-loop deep-eq-μ-loop
 deep-eq-same-length t c = search needs
@@ -61,8 +61,11 @@ deep-eq-same-length-2 t c = search needs
 deep-eq-returns-3 : (t : ℕ) → deep-eq-lts.Need-returns-3 (deep-eq-claims t) (deep-eq-at t) deep-eq.Post deep-eq-Inv-loop deep-eq-μ-loop
 deep-eq-returns-3 t c = search (deep-name, needs)
 
+deep-eq-add-i : (t : ℕ) → deep-eq-lts.Need-add-i (deep-eq-claims t) (deep-eq-at t) deep-eq.Post deep-eq-Inv-loop deep-eq-μ-loop
+deep-eq-add-i t c = search needs
+
 deep-eq-deep-eq-requires : (t : ℕ) → deep-eq-lts.Need-deep-eq-requires (deep-eq-claims t) (deep-eq-at t) deep-eq.Post deep-eq-Inv-loop deep-eq-μ-loop
-deep-eq-deep-eq-requires t c κs = (search (go-falls, needs), (search needs, (search needs, (go-left (c .before .before .before .before .before .before .loop .inv .going) (c .before .before .before .before .if3 .taken) (c .before .before .before .pair .ensures) (c .before .before .before .before .before .before .loop .inv .left-in), go-right (c .before .before .before .before .before .before .loop .inv .going) (c .before .before .before .before .if3 .taken) (c .before .before .before .pair .ensures) (c .before .before .before .before .before .before .loop .inv .right-in)))))
+deep-eq-deep-eq-requires t c κs = search (go-falls, needs)
 
 deep-eq-same-length-3 : (t : ℕ) → deep-eq-lts.Need-same-length-3 (deep-eq-claims t) (deep-eq-at t) deep-eq.Post deep-eq-Inv-loop deep-eq-μ-loop
 deep-eq-same-length-3 t c = search needs
@@ -70,17 +73,14 @@ deep-eq-same-length-3 t c = search needs
 deep-eq-returns-4 : (t : ℕ) → deep-eq-lts.Need-returns-4 (deep-eq-claims t) (deep-eq-at t) deep-eq.Post deep-eq-Inv-loop deep-eq-μ-loop
 deep-eq-returns-4 t c = search (deep-no, needs)
 
-deep-eq-add-i : (t : ℕ) → deep-eq-lts.Need-add-i (deep-eq-claims t) (deep-eq-at t) deep-eq.Post deep-eq-Inv-loop deep-eq-μ-loop
-deep-eq-add-i t c = search needs
-
 deep-eq-loop-less : (t : ℕ) → deep-eq-lts.Need-loop-less (deep-eq-claims t) (deep-eq-at t) deep-eq.Post deep-eq-Inv-loop deep-eq-μ-loop
 deep-eq-loop-less t c = search needs
 
 deep-eq-loop-again : (t : ℕ) → deep-eq-lts.Need-loop-again (deep-eq-claims t) (deep-eq-at t) deep-eq.Post deep-eq-Inv-loop deep-eq-μ-loop
-deep-eq-loop-again t c = deep-more (c .before .before .before .before .before .before .before .before .before .before .loop .inv) (c .before .before .before .before .before .before .before .before .if3 .taken) (c .before .before .before .before .before .before .before .pair .ensures) (c .before .before .before .before .before .if4 .left) (c .before .before .before .deep-eq .ensures) (c .if5 .left)
+deep-eq-loop-again t c = search (deep-more, needs)
 
 deep-eq-join-requires : (t : ℕ) → deep-eq-lts.Need-join-requires (deep-eq-claims t) (deep-eq-at t) deep-eq.Post deep-eq-Inv-loop deep-eq-μ-loop
-deep-eq-join-requires t c κs = (search needs, (search needs, (search needs, (search needs, search (go-end, needs)))))
+deep-eq-join-requires t c κs = (search (deep-in, needs), search (go-end, needs))
 
 deep-eq-same-length-4 : (t : ℕ) → deep-eq-lts.Need-same-length-4 (deep-eq-claims t) (deep-eq-at t) deep-eq.Post deep-eq-Inv-loop deep-eq-μ-loop
 deep-eq-same-length-4 t c = search needs
@@ -102,10 +102,10 @@ pub +deep-eq-spec : {M : Type 1} → statement M
     (deep-eq-pair-requires t)
     (deep-eq-same-length-2 t)
     (deep-eq-returns-3 t)
+    (deep-eq-add-i t)
     (deep-eq-deep-eq-requires t)
     (deep-eq-same-length-3 t)
     (deep-eq-returns-4 t)
-    (deep-eq-add-i t)
     (deep-eq-loop-less t)
     (deep-eq-loop-again t)
     (deep-eq-join-requires t)

@@ -3,20 +3,17 @@ use borrow.Author.Needs.{needs}
 use Rattle.equality.proofs.values.join.Statement.{statement}
 use Rattle.equality.proofs.values.join.Tie as tie
 
-lowest-requires : tie.Need-lowest-requires
-lowest-requires c κs = search needs
-
-lowest-requires-2 : tie.Need-lowest-requires-2
-lowest-requires-2 c κs = search needs
+ends-requires : tie.Need-ends-requires
+ends-requires c κs = search needs
 
 sub-lead : tie.Need-sub-lead
 sub-lead c = search needs
 
 lead-requires : tie.Need-lead-requires
-lead-requires c κs = join-down (c .before .before .before .before .before .before .before .before .before .before .before .before .pre .0) (c .before .before .before .before .lowest2 .ensures) (c .before .before .before .before .before .before .before .before .lowest .ensures) (c .before .before .before .before .before .before .before .before .before .before .before .before .pre .1 .1 .1 .1) (c .before .before .before .before .before .before .before .before .before .before .before .before .pre .1 .1 .1 .0) (c .before .if1 .taken)
+lead-requires c κs = search (join-down, needs)
 
 lead-requires-2 : tie.Need-lead-requires-2
-lead-requires-2 c κs = join-up (c .before .before .before .before .before .before .before .before .before .before .before .before .pre .0) (c .before .before .before .before .lowest2 .ensures) (c .before .before .before .before .before .before .before .before .lowest .ensures) (c .before .before .before .before .before .before .before .before .before .before .before .before .pre .1 .1 .1 .1) (c .before .before .before .before .before .before .before .before .before .before .before .before .pre .1 .1 .0) (c .before .if1 .left)
+lead-requires-2 c κs = search (join-up, needs)
 
 same-length : tie.Need-same-length
 same-length c = search needs
@@ -34,8 +31,7 @@ pub join-spec : {M : Type 1} → statement M
 join-spec =
     tie.close
     (tie.spec
-    lowest-requires
-    lowest-requires-2
+    ends-requires
     sub-lead
     lead-requires
     lead-requires-2

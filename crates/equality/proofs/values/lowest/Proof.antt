@@ -4,7 +4,7 @@ use Rattle.equality.proofs.values.lowest.Statement.{statement}
 use Rattle.equality.proofs.values.lowest.Tie as tie
 
 abbrev Inv-loop : tie.InvT-loop
-Inv-loop s lower₀ v k₀ d₀ lower k d = Leading s lower₀ lower v k d
+Inv-loop s lower₀ v k₀ d₀ lower k d = Leading s lower v k d
 
 abbrev μ-loop : tie.MeasureT-loop
 μ-loop s lower₀ v k₀ d₀ lower k d = k

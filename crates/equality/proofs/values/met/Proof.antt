@@ -3,11 +3,8 @@ use borrow.Author.Needs.{needs}
 use Rattle.equality.proofs.values.met.Statement.{statement}
 use Rattle.equality.proofs.values.met.Tie as tie
 
-lowest-requires : tie.Need-lowest-requires
-lowest-requires c κs = search needs
-
-lowest-requires-2 : tie.Need-lowest-requires-2
-lowest-requires-2 c κs = search needs
+ends-requires : tie.Need-ends-requires
+ends-requires c κs = search needs
 
 same-length : tie.Need-same-length
 same-length c = search needs
@@ -16,4 +13,4 @@ returns : tie.Need-returns
 returns c = search (met-is, needs)
 
 pub met-spec : {M : Type 1} → statement M
-met-spec = tie.close (tie.spec lowest-requires lowest-requires-2 same-length returns)
+met-spec = tie.close (tie.spec ends-requires same-length returns)

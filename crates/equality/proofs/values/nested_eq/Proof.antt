@@ -1,5 +1,4 @@
-use native.Mathlib.Omega.{arith}
-use Rattle.equality.proofs.Joining.{joined-none, none-in}
+use Rattle.equality.proofs.Joining.{joined-none}
 use borrow.Author.Needs.{needs}
 use Rattle.equality.proofs.values.nested_eq.Statement.{statement}
 use Rattle.equality.proofs.values.nested_eq.Tie as tie
@@ -8,7 +7,7 @@ slice-aggregate-deep-eq : tie.Need-slice-aggregate-deep-eq
 slice-aggregate-deep-eq c = search needs
 
 deep-eq-requires : tie.Need-deep-eq-requires
-deep-eq-requires c κs = (search needs, (joined-none 16384 (omega arith) (search needs), (none-in 16384 _ (search needs), none-in 16384 _ (search needs))))
+deep-eq-requires c κs = search (joined-none, needs)
 
 returns : tie.Need-returns
 returns c = search needs

@@ -181,7 +181,12 @@ impl Making<'_> {
         }
         match self.profile.leaning {
             Leaning::Values => self.shared_values(),
-            Leaning::Rows | Leaning::Hundreds => self.many_values(),
+            Leaning::Rows | Leaning::Hundreds => {
+                if self.random.percent(10) {
+                    self.shared_values();
+                }
+                self.many_values();
+            }
             _ => {}
         }
     }

@@ -4,6 +4,7 @@ pub mod compare;
 pub mod convert;
 pub mod examples;
 pub mod lists;
+pub mod mix;
 pub mod reach;
 pub mod run;
 pub mod rust;

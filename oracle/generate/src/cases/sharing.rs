@@ -13,7 +13,10 @@ pub(super) struct Measure {
 }
 
 /// How large a tower may be, were nothing shared: mostly small, now and then with ten doublings.
-const SIZES: [u64; 16] = [4, 8, 8, 16, 16, 16, 32, 32, 32, 64, 64, 64, 128, 256, 512, 2_048];
+const TERM_SIZES: [u64; 16] = [4, 8, 8, 16, 16, 16, 32, 32, 32, 64, 64, 64, 128, 256, 512, 2_048];
+/// Values are held by every point, so fewer are large.
+const VALUE_SIZES: [u64; 24] =
+    [4, 8, 8, 8, 16, 16, 16, 16, 32, 32, 32, 32, 64, 64, 64, 64, 128, 128, 128, 128, 256, 256, 512, 1_024];
 const MOST_LEVELS: usize = 14;
 /// What stands for more nodes, or has more height, is not built upon: the mosts are far from here.
 const MOST_SIZE: u64 = 8_192;
@@ -31,8 +34,8 @@ const PAIRS: [(&str, &str); 6] =
     [("1.0", "1.00"), ("1.0", "1.00"), ("2.50", "2.5"), ("-0.0", "0.0"), ("1.00000", "1.00000"), ("1.0", "1.00000")];
 
 impl Making<'_> {
-    fn tower(&mut self, widths: &[usize], leaves: usize) -> Tower {
-        let most = self.random.pick(&SIZES);
+    fn tower(&mut self, widths: &[usize], leaves: usize, sizes: &[u64]) -> Tower {
+        let most = self.random.pick(sizes);
         let levels = self.random.between(2, MOST_LEVELS);
         Tower::random(self.random, levels, widths, leaves, most)
     }
@@ -43,7 +46,7 @@ impl Making<'_> {
     /// with one of another leaf, or with any other.
     pub(super) fn shared_terms(&mut self, nesting: usize) -> u32 {
         let mut leaves: Vec<u32> = (0..self.random.between(1, 3)).map(|_| self.number_leaf()).collect();
-        let mut tower = self.tower(&[2], leaves.len());
+        let mut tower = self.tower(&[2], leaves.len(), &TERM_SIZES);
         let ops: Vec<u32> = (0..tower.height()).map(|_| self.random.pick(&[0, 0, 0, 1, 1, 2])).collect();
         if self.random.percent(40) {
             leaves.push(self.odd_leaf(nesting, tower.size));
@@ -148,7 +151,7 @@ impl Making<'_> {
         let literal = self.random.percent(60);
         let pairs: Vec<(u32, u32)> = (0..self.random.between(1, 3)).map(|_| self.equal_leaves(literal)).collect();
         let (mut leaves, mut others): (Vec<u32>, Vec<u32>) = pairs.into_iter().unzip();
-        let tower = self.tower(&[1, 2, 2, 2, 2, 3], leaves.len());
+        let tower = self.tower(&[1, 2, 2, 2, 2, 3], leaves.len(), &VALUE_SIZES);
         let holders: Vec<Holder> = (0..tower.height()).map(|_| self.holder(literal)).collect();
         let one = self.build_values(&tower, &[], &leaves, &holders);
         let two = self.build_values(&tower, &[], &others, &holders);

@@ -9,6 +9,7 @@ use mir.Val.{toZ, ofZ, Fits}
 use mir.Facts.{ofZ-toZ}
 use mir.Syntax.{w64}
 use borrow.Author.Tests.{ltb-true, ltb-false, eq-eqb, ne-eqb, eqb-true, eqb-false, not-true, not-false}
+use Rattle.meaning.specs.declared.ValNo.{ValNo}
 use Rattle.meaning.specs.Tests.{_and_, pick}
 use Rattle.meaning.specs.Case.{Case, Part, values, valueWord, memberWord, partAt, valueAt, valueFrom, signed, places, caseOf}
 use Rattle.meaning.specs.Check.{Checked, partValue}
@@ -16,10 +17,17 @@ use Rattle.meaning.specs.Equal.{see, seen, alike, sameList, sameParts, sameValu
 use Rattle.meaning.specs.Laws.Tests.{stop, skip, pass, after, all-at}
 use Rattle.meaning.specs.Laws.Lists.{Every, every-map}
 use Rattle.meaning.specs.Laws.Bodies.{wholes, body-beyond}
-use Rattle.meaning.specs.Laws.Values.{runs, held, holder}
-use Rattle.meaning.specs.Laws.Checked.{checked-bodies, checked-values, lower-parts, sameValue-is}
+use Rattle.meaning.specs.Laws.Values.{held, holder}
+use Rattle.meaning.specs.Laws.Values as Values
+use Rattle.meaning.specs.Laws.Checked.{checked-bodies, checked-values, values-most, lower-parts, sameValue-is}
+use Rattle.equality.specs.declared.Heads.{Heads}
+use Rattle.equality.specs.declared.Pair.{Pair}
+use Rattle.equality.specs.Joined.{Holders, Headed, Told, Paired, Surely, Looked}
 use Rattle.equality.proofs.Scaling.{and-true, list-same}
 use Rattle.equality.proofs.Steps.{open-place, shut-place}
+
+true-false : true ≡ false → ⊥
+true-false e = let z : _≡_ {A = ℕ} 0 1 = cc in omega arith
 
 pub value-none : {s : List ℕ} → Checked s → (v j : ℕ) → values s ≤ v → valueWord s v j ≡ 0
 unfolding valueWord pick
@@ -29,7 +37,7 @@ pub kind-small : {s : List ℕ} → Checked s → (v : ℕ) → valueWord s v 0 
 kind-small {s} c v = go (ltb v (values s)) refl
   where
     go : (b : Bool) → ltb v (values s) ≡ b → valueWord s v 0 < 8
-    go true e = runs s v (ltb-true v (values s) e) (all-at _ _ v (checked-values c) (ltb-true v (values s) e)) .kinds
+    go true e = Values.runs s v (ltb-true v (values s) e) (all-at _ _ v (checked-values c) (ltb-true v (values s) e)) .kinds
     go false e = omega (arith, value-none c v 0 (ltb-false v (values s) e))
 
 seen-kind : (c : Case) (part : ℕ → Part) (k a b : ℕ) → k < 8 → see c (valueFrom part k a b) .kind ≡ k
@@ -74,6 +82,25 @@ self-below {s} c (suc bound) v h =
 pub same-number : (s : List ℕ) (a b : ℕ) → Checked s → a ≡ b → true ≡ sameValue (caseOf s) a b
 same-number s a b c e = sym (rw (← e) (self-below c (suc a) a (omega arith)))
 
+-- ---- the same words
+
+module _ {s : List ℕ} {a b : ℕ} (c : Checked s) where
+  pub words-no : Surely s a b false
+  words-no = record { equal = λ e. absurd (true-false (sym e)) }
+
+  pub words-number : a ≡ b → Surely s a b true
+  words-number e = record { equal = λ _. same-number s a b c e }
+
+  pub words-same : (k j x y p q : ℕ) → k ≡ valueWord s a 0 → j ≡ valueWord s b 0 → k ≡ j → x ≡ valueWord s a 1 → y ≡ valueWord s b 1 → x ≡ y → p ≡ valueWord s a 2 → q ≡ valueWord s b 2 → Surely s a b (eqb p q)
+  unfolding valueAt
+  words-same k j x y p q ek ej e ex ey f ep eq = record {
+    equal = λ g.
+        let ka : valueWord s a 0 ≡ valueWord s b 0 = sym ek ∙ e ∙ ej in
+        let xa : valueWord s a 1 ≡ valueWord s b 1 = sym ex ∙ f ∙ ey in
+        let pa : valueWord s a 2 ≡ valueWord s b 2 = sym ep ∙ eqb-true p q g ∙ eq in
+        same-number s b b c refl ∙ sameValue-is c b b ∙ sym (sameValue-is c a b ∙ rw (ka, xa, pa) refl);
+  }
+
 -- ---- leaves
 
 pub alike-leaf : (eq : ℕ → ℕ → Bool) (k : ℕ) (l m : List ℕ) → alike eq (seen k l []) (seen k m []) ≡ sameList l m
@@ -84,40 +111,42 @@ pub one-same : (x y : ℕ) → sameList (x ∷ []) (y ∷ []) ≡ eqb x y
 unfolding sameList
 one-same x y = and-true (eqb x y)
 
-module _ (s : List ℕ) (a b k x y p q : ℕ) (c : Checked s) (ka : valueWord s a 0 ≡ k) (kb : valueWord s b 0 ≡ k)
-    (ex : x ≡ valueWord s a 1) (ey : y ≡ valueWord s b 1) (ep : p ≡ valueWord s a 2) (eq : q ≡ valueWord s b 2) where
-  two-is : (n : ℕ) → k ≡ n → sameValue (caseOf s) a b ≡ alike (sameValue (caseOf s)) (see (caseOf s) (valueFrom (partAt s) n x p)) (see (caseOf s) (valueFrom (partAt s) n y q))
+module _ (s : List ℕ) (a b k x y : ℕ) (c : Checked s) (ka : valueWord s a 0 ≡ k) (kb : valueWord s b 0 ≡ k) (ex : x ≡ valueWord s a 1) (ey : y ≡ valueWord s b 1) where
+  two-is : (n p q : ℕ) → k ≡ n → p ≡ valueWord s a 2 → q ≡ valueWord s b 2 → sameValue (caseOf s) a b ≡ alike (sameValue (caseOf s)) (see (caseOf s) (valueFrom (partAt s) n x p)) (see (caseOf s) (valueFrom (partAt s) n y q))
   unfolding valueAt
-  two-is n e = sameValue-is c a b ∙ rw (ka, kb, e, ← ex, ← ey, ← ep, ← eq) refl
+  two-is n p q e ep eq = sameValue-is c a b ∙ rw (ka, kb, e, ← ex, ← ey, ← ep, ← eq) refl
+
+  one-is : (n : ℕ) → k ≡ n → sameValue (caseOf s) a b ≡ alike (sameValue (caseOf s)) (see (caseOf s) (valueFrom (partAt s) n x (valueWord s a 2))) (see (caseOf s) (valueFrom (partAt s) n y (valueWord s b 2)))
+  one-is n e = two-is n (valueWord s a 2) (valueWord s b 2) e refl refl
 
   pub leaf-null : k ≡ 0 → true ≡ sameValue (caseOf s) a b
   unfolding see valueFrom pick sameList
-  leaf-null e = sym (two-is 0 e ∙ alike-leaf _ 0 [] [])
+  leaf-null e = sym (one-is 0 e ∙ alike-leaf _ 0 [] [])
 
-  pub leaf-int : (m n : ℕ) → k ≡ 2 → m ≡ x + 4294967296 * p → n ≡ y + 4294967296 * q → Fits w64 m → Fits w64 n → eqb m n ≡ sameValue (caseOf s) a b
+  pub leaf-int : (p q m n : ℕ) → k ≡ 2 → p ≡ valueWord s a 2 → q ≡ valueWord s b 2 → m ≡ x + 4294967296 * p → n ≡ y + 4294967296 * q → Fits w64 m → Fits w64 n → eqb m n ≡ sameValue (caseOf s) a b
   unfolding see valueFrom pick signed
-  leaf-int m n e em en hm hn =
+  leaf-int p q m n e ep eq em en hm hn =
       let l = ofZ w64 (toZ w64 m) in
       let r = ofZ w64 (toZ w64 n) in
-      let parts : sameValue (caseOf s) a b ≡ sameList (l ∷ []) (r ∷ []) = two-is 2 e ∙ rw (← em, ← en) (alike-leaf (sameValue (caseOf s)) 2 (l ∷ []) (r ∷ [])) in
+      let parts : sameValue (caseOf s) a b ≡ sameList (l ∷ []) (r ∷ []) = two-is 2 p q e ep eq ∙ rw (← em, ← en) (alike-leaf (sameValue (caseOf s)) 2 (l ∷ []) (r ∷ [])) in
       let bits : sameList (l ∷ []) (r ∷ []) ≡ eqb m n = rw (ofZ-toZ {w = w64} {n = m} hm, ofZ-toZ {w = w64} {n = n} hn) (one-same m n) in
       sym (parts ∙ bits)
 
   pub leaf-decimal : (r : Bool) → k ≡ 3 → r ≡ sameList (decimalKey (caseOf s) x) (decimalKey (caseOf s) y) → r ≡ sameValue (caseOf s) a b
   unfolding see valueFrom pick
-  leaf-decimal r e h = h ∙ sym (two-is 3 e ∙ alike-leaf _ 3 (decimalKey (caseOf s) x) (decimalKey (caseOf s) y))
+  leaf-decimal r e h = h ∙ sym (one-is 3 e ∙ alike-leaf _ 3 (decimalKey (caseOf s) x) (decimalKey (caseOf s) y))
 
-  pub leaf-entity : (r : Bool) → k ≡ 5 → r ≡ (eqb x y and eqb p q) → r ≡ sameValue (caseOf s) a b
+  pub leaf-entity : (p q : ℕ) (r : Bool) → k ≡ 5 → p ≡ valueWord s a 2 → q ≡ valueWord s b 2 → r ≡ (eqb x y and eqb p q) → r ≡ sameValue (caseOf s) a b
   unfolding see valueFrom pick sameList
-  leaf-entity r e h = h ∙ sym (two-is 5 e ∙ alike-leaf _ 5 (x ∷ p ∷ []) (y ∷ q ∷ []) ∙ ap (λ (t : Bool). eqb x y and t) (and-true (eqb p q)))
+  leaf-entity p q r e ep eq h = h ∙ sym (two-is 5 p q e ep eq ∙ alike-leaf _ 5 (x ∷ p ∷ []) (y ∷ q ∷ []) ∙ ap (λ (t : Bool). eqb x y and t) (and-true (eqb p q)))
 
   leaf-bool : k ≡ 1 → eqb x y ≡ sameValue (caseOf s) a b
   unfolding see valueFrom pick
-  leaf-bool e = sym (two-is 1 e ∙ alike-leaf (sameValue (caseOf s)) 1 (x ∷ []) (y ∷ []) ∙ one-same x y)
+  leaf-bool e = sym (one-is 1 e ∙ alike-leaf (sameValue (caseOf s)) 1 (x ∷ []) (y ∷ []) ∙ one-same x y)
 
   leaf-text : k ≡ 4 → eqb x y ≡ sameValue (caseOf s) a b
   unfolding see valueFrom pick
-  leaf-text e = sym (two-is 4 e ∙ alike-leaf (sameValue (caseOf s)) 4 (x ∷ []) (y ∷ []) ∙ one-same x y)
+  leaf-text e = sym (one-is 4 e ∙ alike-leaf (sameValue (caseOf s)) 4 (x ∷ []) (y ∷ []) ∙ one-same x y)
 
   pub leaf-other : k < 6 → (k ≡ 0 → ⊥) → (k ≡ 2 → ⊥) → (k ≡ 3 → ⊥) → (k ≡ 5 → ⊥) → eqb x y ≡ sameValue (caseOf s) a b
   leaf-other h h0 h2 h3 h5 = go (eqb k 1) refl
@@ -132,20 +161,20 @@ module _ (s : List ℕ) (a b k x y p q : ℕ) (c : Checked s) (ka : valueWord s 
   unfolding alike seen sameList
   alike-held n ps qs = after (eq-eqb n n refl) ∙ after refl
 
-  parts-array : k ≡ 6 → sameValue (caseOf s) a b ≡ sameParts (sameValue (caseOf s)) (map (partAt s) (places x 1 p)) (map (partAt s) (places y 1 q))
+  parts-array : (p q : ℕ) → k ≡ 6 → p ≡ valueWord s a 2 → q ≡ valueWord s b 2 → sameValue (caseOf s) a b ≡ sameParts (sameValue (caseOf s)) (map (partAt s) (places x 1 p)) (map (partAt s) (places y 1 q))
   unfolding see valueFrom pick
-  parts-array e = two-is 6 e ∙ alike-held 6 (map (partAt s) (places x 1 p)) (map (partAt s) (places y 1 q))
+  parts-array p q e ep eq = two-is 6 p q e ep eq ∙ alike-held 6 (map (partAt s) (places x 1 p)) (map (partAt s) (places y 1 q))
 
-  parts-object : k ≡ 7 → sameValue (caseOf s) a b ≡ sameParts (sameValue (caseOf s)) (map (partAt s) (places x 1 p)) (map (partAt s) (places y 1 q))
+  parts-object : (p q : ℕ) → k ≡ 7 → p ≡ valueWord s a 2 → q ≡ valueWord s b 2 → sameValue (caseOf s) a b ≡ sameParts (sameValue (caseOf s)) (map (partAt s) (places x 1 p)) (map (partAt s) (places y 1 q))
   unfolding see valueFrom pick
-  parts-object e = two-is 7 e ∙ alike-held 7 (map (partAt s) (places x 1 p)) (map (partAt s) (places y 1 q))
+  parts-object p q e ep eq = two-is 7 p q e ep eq ∙ alike-held 7 (map (partAt s) (places x 1 p)) (map (partAt s) (places y 1 q))
 
-  parts-are : 6 ≤ k → sameValue (caseOf s) a b ≡ sameParts (sameValue (caseOf s)) (map (partAt s) (places x 1 p)) (map (partAt s) (places y 1 q))
-  parts-are h = go (eqb k 6) refl
+  parts-are : (p q : ℕ) → 6 ≤ k → p ≡ valueWord s a 2 → q ≡ valueWord s b 2 → sameValue (caseOf s) a b ≡ sameParts (sameValue (caseOf s)) (map (partAt s) (places x 1 p)) (map (partAt s) (places y 1 q))
+  parts-are p q h ep eq = go (eqb k 6) refl
     where
       go : (t : Bool) → eqb k 6 ≡ t → sameValue (caseOf s) a b ≡ sameParts (sameValue (caseOf s)) (map (partAt s) (places x 1 p)) (map (partAt s) (places y 1 q))
-      go true e = parts-array (eqb-true k 6 e)
-      go false e = let ne = eqb-false k 6 e in let z : k ≡ 7 = omega (arith, kind-small c a) in parts-object z
+      go true e = parts-array p q (eqb-true k 6 e) ep eq
+      go false e = let ne = eqb-false k 6 e in let z : k ≡ 7 = omega (arith, kind-small c a) in parts-object p q z ep eq
 
 longer : (eq : ℕ → ℕ → Bool) (part : ℕ → Part) (p q n m : ℕ) → (n ≡ m → ⊥) → sameParts eq (map part (places p 1 n)) (map part (places q 1 m)) ≡ false
 unfolding sameParts places
@@ -159,23 +188,13 @@ longer eq part p q (suc n) (suc m) h =
 unfoldable pub sameRuns : List ℕ → ℕ → ℕ → ℕ → Bool
 sameRuns s p q n = sameParts (sameValue (caseOf s)) (map (partAt s) (places p 1 n)) (map (partAt s) (places q 1 n))
 
--- two arrays or two objects, a and b: their kinds, their counts n, m and where their runs start, p, q, as the code has them
-pub record Holders (s : List ℕ) (a b n m p q : ℕ) : Type 0 where
-  pub checked : Checked s
-  pub kind : 6 ≤ valueWord s a 0
-  pub kinds : valueWord s a 0 ≡ valueWord s b 0
-  pub count : n ≡ valueWord s a 2
-  pub other : m ≡ valueWord s b 2
-  pub start : p ≡ valueWord s a 1
-  pub start-other : q ≡ valueWord s b 1
-
-pub holders : (s : List ℕ) (a b k j n m p q : ℕ) → Checked s → k ≡ valueWord s a 0 → j ≡ valueWord s b 0 → k ≡ j → 6 ≤ k → n ≡ valueWord s a 2 → m ≡ valueWord s b 2 → p ≡ valueWord s a 1 → q ≡ valueWord s b 1 → Holders s a b n m p q
-holders s a b k j n m p q c ek ej e h en em ep eq =
+holders : {s : List ℕ} {a b k j n m p q : ℕ} → Checked s → k ≡ valueWord s a 0 → j ≡ valueWord s b 0 → k ≡ j → 6 ≤ k → n ≡ valueWord s a 2 → m ≡ valueWord s b 2 → p ≡ valueWord s a 1 → q ≡ valueWord s b 1 → Holders s a b n m p q
+holders c ek ej e h en em ep eq =
     record { checked = c; kind = omega arith; kinds = sym ek ∙ e ∙ ej; count = en; other = em; start = ep; start-other = eq }
 
 module _ (s : List ℕ) (a b n m p q : ℕ) (h : Holders s a b n m p q) where
   held-is : sameValue (caseOf s) a b ≡ sameParts (sameValue (caseOf s)) (map (partAt s) (places p 1 n)) (map (partAt s) (places q 1 m))
-  held-is = parts-are s a b (valueWord s a 0) p q n m (h .checked) refl (sym (h .kinds)) (h .start) (h .start-other) (h .count) (h .other) (h .kind)
+  held-is = parts-are s a b (valueWord s a 0) p q (h .checked) refl (sym (h .kinds)) (h .start) (h .start-other) n m (h .kind) (h .count) (h .other)
 
   counts-differ : (n ≡ m → ⊥) → false ≡ sameValue (caseOf s) a b
   counts-differ ne = sym (held-is ∙ longer (sameValue (caseOf s)) (partAt s) p q n m ne)
@@ -184,62 +203,180 @@ module _ (s : List ℕ) (a b n m p q : ℕ) (h : Holders s a b n m p q) where
   unfolding sameRuns
   runs-are e = sym (held-is ∙ rw (← e) refl)
 
-  -- each part of a has a lower number
-  pub part-lower : (i x : ℕ) → i < n → x ≡ memberWord s (p + i) 1 → x < a
-  part-lower i x hi ex = go (ltb a (values s)) refl
+  turned : Holders s b a m n q p
+  turned = record { checked = h .checked; kind = omega (arith, h .kind, h .kinds); kinds = sym (h .kinds); count = h .other; other = h .count; start = h .start-other; start-other = h .start }
+
+  inside : a < values s
+  inside = go (ltb a (values s)) refl
     where
-      go : (t : Bool) → ltb a (values s) ≡ t → x < a
-      go true e =
-          let l = ltb-true a (values s) e in
-          let k = holder s a (h .kind) (kind-small (h .checked) a) in
-          let z : memberWord s (valueWord s a 1 + i) 1 < a = unfold partValue in runs s a l (all-at _ _ a (checked-values (h .checked)) l) .lower i (omega (arith, h .count)) in
-          let y : memberWord s (p + i) 1 ≡ memberWord s (valueWord s a 1 + i) 1 = rw (h .start) refl in
-          omega arith
+      go : (t : Bool) → ltb a (values s) ≡ t → a < values s
+      go true e = ltb-true a (values s) e
       go false e = absurd (omega (arith, h .kind, value-none (h .checked) a 0 (ltb-false a (values s) e)))
+
+  holder-in : a < 16384
+  holder-in = omega (arith, inside, values-most (h .checked))
+
+  -- each part of a has a lower number
+  part-lower : (i x : ℕ) → i < n → x ≡ memberWord s (p + i) 1 → x < a
+  part-lower i x hi ex =
+      let k = holder s a (h .kind) (kind-small (h .checked) a) in
+      let z : memberWord s (valueWord s a 1 + i) 1 < a = unfold partValue in Values.runs s a inside (all-at _ _ a (checked-values (h .checked)) inside) .lower i (omega (arith, h .count)) in
+      let y : memberWord s (p + i) 1 ≡ memberWord s (valueWord s a 1 + i) 1 = rw (h .start) refl in
+      omega arith
+
+-- ---- what two values show at once
+
+module _ {s : List ℕ} {a b : ℕ} {h : Heads} where
+  pub head-told : {r : Bool} → r ≡ sameValue (caseOf s) a b → Told r h → Headed s a b h
+  head-told e t = record { said = λ k. t .same ∙ e; left = λ k. absurd (let z : true ≡ false = sym (t .known) ∙ k in true-false z) }
+
+  pub head-same : Checked s → a ≡ b → Told true h → Headed s a b h
+  head-same c e = head-told (same-number s a b c e)
+
+  pub head-unlike : {k m : ℕ} → Checked s → k ≡ valueWord s a 0 → m ≡ valueWord s b 0 → (k ≡ m → ⊥) → Told false h → Headed s a b h
+  head-unlike {k} {m} c ek em ne = head-told (unlike s a b k m c ek em ne)
+
+  pub head-counts : {k j n m : ℕ} → Checked s → k ≡ valueWord s a 0 → j ≡ valueWord s b 0 → k ≡ j → 6 ≤ k → n ≡ valueWord s a 2 → m ≡ valueWord s b 2 → (n ≡ m → ⊥) → Told false h → Headed s a b h
+  head-counts c ek ej e l en em ne = head-told (counts-differ s a b _ _ _ _ (holders c ek ej e l en em refl refl) ne)
+
+pub head-said : {s : List ℕ} {a b : ℕ} {h : Heads} → Headed s a b h → h .known ≡ true → h .same ≡ sameValue (caseOf s) a b
+head-said f k = f .said k
+
+pub head-runs : {s : List ℕ} {a b k j n m p q : ℕ} → Checked s → k ≡ valueWord s a 0 → j ≡ valueWord s b 0 → k ≡ j → 6 ≤ k → n ≡ valueWord s a 2 → m ≡ valueWord s b 2 → n ≡ m → p ≡ valueWord s a 1 → q ≡ valueWord s b 1 → Headed s a b (record { known = false; same = false; n = n; p = p; q = q })
+head-runs c ek ej e l en em enm ep eq =
+    record { said = λ t. absurd (true-false (sym t)); left = λ t. holders c ek ej e l en (enm ∙ em) ep eq }
+
+pub pair-is : {s : List ℕ} {u v x y : ℕ} {a b : ValNo} (p q i : ℕ) → u ≡ p + i → v ≡ q + i → x ≡ memberWord s u 0 → y ≡ memberWord s v 0 → a .0 ≡ memberWord s u 1 → b .0 ≡ memberWord s v 1 → Paired s (p + i) (q + i) (record { named = eqb x y; a = a; b = b })
+pair-is p q i eu ev ex ey ea eb = record { named = cc; left = cc; right = cc }
 
 -- ---- one part after another
 
-pub counts : (s : List ℕ) (a b k j n m : ℕ) → Checked s → k ≡ valueWord s a 0 → j ≡ valueWord s b 0 → k ≡ j → 6 ≤ k → n ≡ valueWord s a 2 → m ≡ valueWord s b 2 → (n ≡ m → ⊥) → false ≡ sameValue (caseOf s) a b
-counts s a b k j n m c ek ej e h en em ne =
-    counts-differ s a b n m (valueWord s a 1) (valueWord s b 1) (holders s a b k j n m _ _ c ek ej e h en em refl refl) ne
+-- what is left of two runs at i
+abbrev rest : List ℕ → ℕ → ℕ → ℕ → ℕ → Bool
+rest s p q n i = sameParts (sameValue (caseOf s)) (map (partAt s) (places (p + i) 1 (n - i))) (map (partAt s) (places (q + i) 1 (n - i)))
 
--- what is left at i of two runs is what is to be said of them
+-- is what is to be said of them
 pub record PartsFrom (s : List ℕ) (p q n i : ℕ) : Type 0 where
   pub inside : i ≤ n
-  pub rest : sameParts (sameValue (caseOf s)) (map (partAt s) (places (p + i) 1 (n - i))) (map (partAt s) (places (q + i) 1 (n - i))) ≡ sameRuns s p q n
+  pub left : rest s p q n i ≡ sameRuns s p q n
 
-pub parts-start : (s : List ℕ) (p q n : ℕ) → PartsFrom s p q n 0
+pub parts-start : {s : List ℕ} {p q n : ℕ} → PartsFrom s p q n 0
 unfolding sameRuns
-parts-start s p q n =
+parts-start {s} {p} {q} {n} =
     let x : p + 0 ≡ p = omega arith in
     let y : q + 0 ≡ q = omega arith in
     let z : n - 0 ≡ n = omega arith in
-    record { inside = omega arith; rest = rw (x, y, z) refl }
+    record { inside = omega arith; left = rw (x, y, z) refl }
 
 module _ (s : List ℕ) (p q n i : ℕ) (from : PartsFrom s p q n i) where
-  part-open : i < n → sameRuns s p q n ≡ (eqb (memberWord s (p + i) 0) (memberWord s (q + i) 0) and sameValue (caseOf s) (memberWord s (p + i) 1) (memberWord s (q + i) 1) and sameParts (sameValue (caseOf s)) (map (partAt s) (places (p + (i + 1)) 1 (n - (i + 1)))) (map (partAt s) (places (q + (i + 1)) 1 (n - (i + 1)))))
+  part-open : i < n → sameRuns s p q n ≡ (eqb (memberWord s (p + i) 0) (memberWord s (q + i) 0) and sameValue (caseOf s) (memberWord s (p + i) 1) (memberWord s (q + i) 1) and rest s p q n (i + 1))
   unfolding sameParts partAt
   part-open h =
       let x : p + (i + 1) ≡ p + i + 1 = omega arith in
       let y : q + (i + 1) ≡ q + i + 1 = omega arith in
-      sym (from .rest) ∙ rw (open-place (p + i) 1 n i (p + (i + 1)) h x, open-place (q + i) 1 n i (q + (i + 1)) h y) refl
+      sym (from .left) ∙ rw (open-place (p + i) 1 n i (p + (i + 1)) h x, open-place (q + i) 1 n i (q + (i + 1)) h y) refl
 
-  module _ (a b m : ℕ) (all : Holders s a b n m p q) (same : n ≡ m) where
-    pub parts-name : (x y : ℕ) → i < n → x ≡ memberWord s (p + i) 0 → y ≡ memberWord s (q + i) 0 → (x ≡ y → ⊥) → false ≡ sameValue (caseOf s) a b
-    parts-name x y h ex ey ne =
-        sym (sym (runs-are s a b n m p q all same) ∙ part-open h ∙ stop _ (ne-eqb _ _ (λ e. ne (ex ∙ e ∙ sym ey))))
+-- two arrays or objects a and b, whose members before i are alike
+pub record Going (s : List ℕ) (a b : ℕ) (h : Heads) (i : ℕ) : Type 0 where
+  pub holders : Holders s a b (h .n) (h .n) (h .p) (h .q)
+  pub from : PartsFrom s (h .p) (h .q) (h .n) i
 
-    pub parts-no : (x y : ℕ) (r : Bool) → i < n → x ≡ memberWord s (p + i) 1 → y ≡ memberWord s (q + i) 1 → r ≡ sameValue (caseOf s) x y → not r ≡ true → false ≡ sameValue (caseOf s) a b
-    parts-no x y r h ex ey er np =
-        sym (sym (runs-are s a b n m p q all same) ∙ part-open h ∙ skip (eqb (memberWord s (p + i) 0) (memberWord s (q + i) 0)) (stop _ (rw (ex, ey) at (sym er ∙ not-true r np))))
+-- values with members are in the table
+module _ {s : List ℕ} {a b : ℕ} {h : Heads} (f : Headed s a b h) (k : h .known ≡ false) where
+  pub left-in : a < 16384
+  left-in = holder-in s a b (h .n) (h .n) (h .p) (h .q) (f .left k)
 
-    pub parts-end : n ≤ i → true ≡ sameValue (caseOf s) a b
-    unfolding sameParts
-    parts-end h = (rw (shut-place (p + i) 1 n i h, shut-place (q + i) 1 n i h) at (from .rest)) ∙ runs-are s a b n m p q all same
+  pub right-in : b < 16384
+  right-in = holder-in s b a (h .n) (h .n) (h .q) (h .p) (turned s a b (h .n) (h .n) (h .p) (h .q) (f .left k))
 
-  pub parts-more : (v w x y : ℕ) (r : Bool) → i < n → v ≡ memberWord s (p + i) 0 → w ≡ memberWord s (q + i) 0 → v ≡ w → x ≡ memberWord s (p + i) 1 → y ≡ memberWord s (q + i) 1 → r ≡ sameValue (caseOf s) x y → not r ≡ false → PartsFrom s p q n (i + 1)
-  parts-more v w x y r h ev ew e ex ey er np =
-      record {
-        inside = omega arith;
-        rest = sym (part-open h ∙ after (eq-eqb _ _ (sym ev ∙ e ∙ ew)) ∙ after (rw (ex, ey) at (sym er ∙ not-false r np)));
-      }
+pub go-start : {s : List ℕ} {a b : ℕ} {h : Heads} → Headed s a b h → h .known ≡ false → Going s a b h 0
+go-start f k = record { holders = f .left k; from = parts-start }
+
+module _ {s : List ℕ} {a b i : ℕ} {h : Heads} (g : Going s a b h i) where
+  runs : sameRuns s (h .p) (h .q) (h .n) ≡ sameValue (caseOf s) a b
+  runs = runs-are s a b (h .n) (h .n) (h .p) (h .q) (g .holders) refl
+
+  pub go-end : h .n ≤ i → true ≡ sameValue (caseOf s) a b
+  unfolding sameParts
+  go-end l = (rw (shut-place (h .p + i) 1 (h .n) i l, shut-place (h .q + i) 1 (h .n) i l) at (g .from .left)) ∙ runs
+
+  module _ {m : Pair} (l : i < h .n) (e : Paired s (h .p + i) (h .q + i) m) where
+    members : sameRuns s (h .p) (h .q) (h .n) ≡ (eqb (memberWord s (h .p + i) 0) (memberWord s (h .q + i) 0) and sameValue (caseOf s) (memberWord s (h .p + i) 1) (memberWord s (h .q + i) 1) and rest s (h .p) (h .q) (h .n) (i + 1))
+    members = part-open s (h .p) (h .q) (h .n) i (g .from) l
+
+    pub go-name : not (m .named) ≡ true → false ≡ sameValue (caseOf s) a b
+    go-name ne = sym (sym runs ∙ members ∙ stop _ (sym (e .named) ∙ not-true (m .named) ne))
+
+    pub go-no : {r : Bool} → r ≡ sameValue (caseOf s) (m .a .0) (m .b .0) → not r ≡ true → false ≡ sameValue (caseOf s) a b
+    go-no {r} er np = sym (sym runs ∙ members ∙ skip _ (stop _ (rw (e .left, e .right) at (sym er ∙ not-true r np))))
+
+    pub go-more : {r : Bool} → not (m .named) ≡ false → r ≡ sameValue (caseOf s) (m .a .0) (m .b .0) → not r ≡ false → Going s a b h (i + 1)
+    go-more {r} nn er np =
+        record {
+          holders = g .holders;
+          from = record {
+            inside = omega arith;
+            left = sym (members ∙ after (sym (e .named) ∙ not-false (m .named) nn) ∙ after (rw (e .left, e .right) at (sym er ∙ not-false r np)));
+          };
+        }
+
+    -- the members at i have lower numbers
+    left-lower : m .a .0 < a
+    left-lower = part-lower s a b (h .n) (h .n) (h .p) (h .q) (g .holders) i (m .a .0) l (e .left)
+
+    pub go-falls : {z : ℕ} → a ≡ z → m .a .0 < z
+    go-falls q = omega (arith, left-lower)
+
+-- ---- a plain way, while some of it is left
+
+-- the members of two runs before i are alike, and some is left
+pub record Looking (s : List ℕ) (left : ℕ) (h : Heads) (i : ℕ) : Type 0 where
+  pub from : PartsFrom s (h .p) (h .q) (h .n) i
+  pub some : 0 < left
+
+pub look-start : {s : List ℕ} {left n : ℕ} {h : Heads} → n < left → Looking s (left - n) h 0
+look-start l = record { from = parts-start; some = omega arith }
+
+look-told : {s : List ℕ} {left x y a b : ℕ} {r : Bool} → 0 < left → r ≡ sameValue (caseOf s) a b → Looked s left x y a b r
+look-told l e = record { some = λ _. e; none = λ z. absurd (omega arith) }
+
+pub look-said : {s : List ℕ} {left x y a b : ℕ} {h : Heads} → 0 < left → Headed s a b h → h .known ≡ true → Looked s left x y a b (h .same)
+look-said l f k = look-told l (f .said k)
+
+-- nothing is left: x and y were compared
+pub look-whole : {s : List ℕ} {x y a b : ℕ} {r : Bool} → r ≡ sameValue (caseOf s) x y → Looked s 0 x y a b r
+look-whole e = record { some = λ l. absurd (omega arith); none = λ _. e }
+
+pub look-spent : {s : List ℕ} {left x y a b d e : ℕ} {r : Bool} → Looked s left x y d e r → left ≡ 0 → Looked s left x y a b r
+look-spent o z = record { some = λ l. absurd (omega arith); none = o .none }
+
+pub look-all : {s : List ℕ} {left a b : ℕ} {r : Bool} → Looked s left a b a b r → r ≡ sameValue (caseOf s) a b
+look-all {s} {left} {a} {b} {r} o = go (eqb left 0) refl
+  where
+    go : (t : Bool) → eqb left 0 ≡ t → r ≡ sameValue (caseOf s) a b
+    go true e = o .none (eqb-true left 0 e)
+    go false e = let ne = eqb-false left 0 e in o .some (omega arith)
+
+module _ {s : List ℕ} {left a b i : ℕ} {h : Heads} (f : Headed s a b h) (k : h .known ≡ false) (g : Looking s left h i) where
+  going : Going s a b h i
+  going = record { holders = f .left k; from = g .from }
+
+  pub look-end : {x y : ℕ} → h .n ≤ i → Looked s left x y a b true
+  look-end l = look-told (g .some) (go-end going l)
+
+  module _ {m : Pair} (l : i < h .n) (e : Paired s (h .p + i) (h .q + i) m) where
+    pub look-falls : {z : ℕ} → a ≡ z → m .a .0 < z
+    look-falls = go-falls going l e
+
+    pub look-name : {x y : ℕ} → not (m .named) ≡ true → Looked s left x y a b false
+    look-name ne = look-told (g .some) (go-name going l e ne)
+
+    pub look-same : {r : Bool} → not (m .named) ≡ false → Surely s (m .a .0) (m .b .0) r → r ≡ true → Looking s left h (i + 1)
+    look-same nn o q = record { from = go-more going l e nn (o .equal q) refl .from; some = g .some }
+
+    module _ {rest x y : ℕ} {r : Bool} (o : Looked s rest x y (m .a .0) (m .b .0) r) (z : rest ≡ 0 → ⊥) where
+      pub look-no : not r ≡ true → Looked s rest x y a b false
+      look-no q = let p : 0 < rest = omega arith in look-told p (go-no going l e (o .some p) q)
+
+      pub look-more : not (m .named) ≡ false → not r ≡ false → Looking s rest h (i + 1)
+      look-more nn q = let p : 0 < rest = omega arith in record { from = go-more going l e nn (o .some p) q .from; some = p }

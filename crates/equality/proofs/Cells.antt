@@ -52,7 +52,7 @@ bound-other s v k bits ek ne eb =
 
 -- ---- numbers beyond 32 bits name no value
 
-far : {s : List ℕ} → Checked s → (u : ℕ) → valueAt s (min 4294967295 u) ≡ valueAt s u
+pub far : {s : List ℕ} → Checked s → (u : ℕ) → valueAt s (min 4294967295 u) ≡ valueAt s u
 far {s} c u = go (leb u 4294967295) refl
   where
     go : (t : Bool) → leb u 4294967295 ≡ t → valueAt s (min 4294967295 u) ≡ valueAt s u

@@ -3,6 +3,8 @@ pub mod Reading
 pub mod Scaling
 pub mod Steps
 pub mod Alike
+pub mod Joining
 pub mod Cells
 pub mod Reach
 pub mod Attributes
+pub mod Hashing

@@ -10,7 +10,6 @@ use lib.ListN.{length, getD, drop}
 use lib.Seq.{drop-cons}
 use lib.Signed.{mag}
 use borrow.Author.Tests.{leb-true, lt-leb, le-leb, ltb-true, ltb-false, eq-eqb, ne-eqb, not-true, not-false}
-use Rattle.meaning.specs.Tests.{_and_}
 use Rattle.meaning.specs.Laws.Tests.{both, stop, after, yes, no}
 use Rattle.meaning.specs.Equal.{isDigit, digits, natural}
 use Rattle.equality.specs.Numbers.{signedBy}

@@ -238,11 +238,11 @@ module _ (s : List ℕ) (n : ℕ) (x : Decimal) (text-is : List ℕ) (et : text-
   unfolding decimalKey caseOf
   text-key e = let d : decimal (text s n) ≡ none = rw (← et, ← ex, e) refl in ap (λ (d : Option ℤ). elim d as (λ d. List ℕ) [ none ↦ 1 ∷ n ∷ [] | some z ↦ 0 ∷ ofZ w64 z ∷ [] ]) d
 
-  key-some : (p : ℕ) → x ≡ Scaled p → decimalKey (caseOf s) n ≡ 0 ∷ ofZ w64 (toZ w64 p) ∷ []
+  pub key-some : (p : ℕ) → x ≡ Scaled p → decimalKey (caseOf s) n ≡ 0 ∷ ofZ w64 (toZ w64 p) ∷ []
   unfolding decimalOf
   key-some p e = number-key (toZ w64 p) (rw e refl)
 
-  key-none : x ≡ NotDecimal → decimalKey (caseOf s) n ≡ 1 ∷ n ∷ []
+  pub key-none : x ≡ NotDecimal → decimalKey (caseOf s) n ≡ 1 ∷ n ∷ []
   unfolding decimalOf
   key-none e = text-key (rw e refl)
 

@@ -2,3 +2,5 @@ pub mod Numbers
 pub mod Decimals
 pub mod Cells
 pub mod Paths
+pub mod Hashes
+pub mod Joined

@@ -2,12 +2,15 @@
 use meaning::ValNo;
 
 mod decimals;
+mod hashes;
 mod numbers;
 mod paths;
 mod values;
 
 pub use decimals::cedar_decimal_value;
 pub use decimals::decimal_eq;
+pub use hashes::binding_hash;
+pub use hashes::mix;
 pub use numbers::calculate;
 pub use numbers::in_window;
 pub use numbers::ordered;
@@ -31,4 +34,26 @@ pub enum Decimal {
 pub enum Found {
     At(ValNo),
     Nothing,
+}
+
+// what two values show at once: the answer, or two runs of n members from p and from q on
+struct Heads {
+    known: bool,
+    same: bool,
+    n: u32,
+    p: u32,
+    q: u32,
+}
+
+// two members: whether they have the same name, and their values
+struct Pair {
+    named: bool,
+    a: ValNo,
+    b: ValNo,
+}
+
+// the lowest values that two values lead to
+struct Ends {
+    v: usize,
+    w: usize,
 }

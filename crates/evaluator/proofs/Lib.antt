@@ -1,6 +1,7 @@
 pub mod Walks
 pub mod Nodes
 pub mod Verdicts
+pub mod Scans
 pub mod Held
 pub mod Relations
 pub mod Loops

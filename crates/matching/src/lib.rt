@@ -1,13 +1,20 @@
-// What the evaluators do besides control: leaf terms, the arguments of a Predicate matched at a point, Tp, the point before, two sides compared or combined. Each equals its definition.
+// What the evaluators do besides control: leaf terms, the arguments of a Predicate matched at a point, Tp, the point before, two sides compared or combined, shared arithmetic. Each equals its definition.
+use meaning::Binding;
 use meaning::Env;
+use meaning::Meter;
 
+mod once;
 mod points;
 mod predicates;
+mod scans;
 mod sides;
 
+pub use once::calculated;
+pub use once::nests;
 pub use points::previous_point;
 pub use predicates::match_args;
 pub use predicates::tp_row;
+pub use scans::skip_down;
 pub use sides::arithmetic;
 pub use sides::compare;
 pub use sides::is_int;
@@ -30,4 +37,16 @@ pub enum Variable {
 pub enum Earlier {
     At(usize),
     Nowhere,
+}
+
+// what a term resolves to with no walk, or open
+pub enum Settled {
+    Is(Binding),
+    Open,
+}
+
+// how far down a scan came: the points left, and the meter there
+pub struct Skipped {
+    pub left: usize,
+    pub meter: Meter,
 }

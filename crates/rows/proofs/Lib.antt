@@ -2,6 +2,7 @@ pub mod Lists
 pub mod Cells
 pub mod Loops
 pub mod Keep
+pub mod Indexing
 pub mod Marking
 pub mod Same
 pub mod Joins

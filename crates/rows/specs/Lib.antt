@@ -2,5 +2,6 @@ pub mod Table
 pub mod Slots
 pub mod Stack
 pub mod Marks
+pub mod Index
 pub mod Halves
 pub mod Laws

@@ -198,6 +198,31 @@ impl Node {
         })
     }
 
+    /// The nodes that it names, but for a Predicate's argument terms, which stand in a list.
+    pub fn children(self) -> Vec<u32> {
+        match self {
+            Node::And { left, right }
+            | Node::Or { left, right }
+            | Node::Since { left, right, .. }
+            | Node::Comparison { left, right, .. }
+            | Node::Arithmetic { left, right, .. } => vec![left, right],
+            Node::Not { inner } => vec![inner],
+            Node::Formerly { body, .. }
+            | Node::Previous { body, .. }
+            | Node::Exists { body, .. }
+            | Node::Sum { body, .. }
+            | Node::Count { body, .. } => vec![body],
+            Node::Aggregate { aggregate } => vec![aggregate],
+            Node::Predicate { .. }
+            | Node::Tp { .. }
+            | Node::Literal { .. }
+            | Node::Context { .. }
+            | Node::Scope { .. }
+            | Node::Variable { .. }
+            | Node::Wildcard => vec![],
+        }
+    }
+
     pub fn is_condition(self) -> bool {
         self.words()[0] <= 10
     }

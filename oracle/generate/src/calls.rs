@@ -167,6 +167,17 @@ pub fn tightened(random: &mut Random, call: &Call, needed: &Outcome, variables: 
     tight
 }
 
+/// The same call with a step limit anywhere in its walk, at its end, or one step beside that.
+pub fn step_limited(random: &mut Random, call: &Call, needed: &Outcome) -> Call {
+    let limit = match random.below(6) {
+        0 => needed.steps,
+        1 => needed.steps + 1,
+        2 => needed.steps.saturating_sub(1),
+        _ => random.below(needed.steps as usize + 1) as u64,
+    };
+    Call { limit, ..call.clone() }
+}
+
 /// A call with one thing wrong, and the refusal that it must get if the walk does not end it first.
 pub struct Spoiled {
     pub call: Call,

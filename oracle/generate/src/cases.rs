@@ -1,5 +1,9 @@
 //! Random cases that pass the check: every node and value kind, nested and shared.
 
+mod logs;
+mod sharing;
+mod towers;
+
 use casefile::{Builder, Node, Point, Run, Tables, Value, Within};
 
 use crate::random::Random;
@@ -13,12 +17,46 @@ pub struct Profile {
     pub most_nesting: usize,
     /// How often, in a hundred, what is rare is there: names, entities, nested values.
     pub rare: usize,
+    pub leaning: Leaning,
+}
+
+/// What a case has more of than a plain one.
+#[derive(Clone, Copy, PartialEq, Eq)]
+pub enum Leaning {
+    Plain,
+    /// Arithmetic over shared arithmetic.
+    Terms,
+    /// Nested values that share members.
+    Values,
+    /// Relations of many rows, some of them.
+    Rows,
+    /// Relations of hundreds of rows.
+    Hundreds,
+    /// Points that a scan passes over.
+    Scans,
 }
 
 impl Profile {
-    pub const TINY: Profile = Profile { most_points: 3, most_rules: 1, most_nesting: 2, rare: 4 };
-    pub const SMALL: Profile = Profile { most_points: 4, most_rules: 1, most_nesting: 3, rare: 10 };
-    pub const USUAL: Profile = Profile { most_points: 7, most_rules: 6, most_nesting: 4, rare: 35 };
+    pub const TINY: Profile =
+        Profile { most_points: 3, most_rules: 1, most_nesting: 2, rare: 4, leaning: Leaning::Plain };
+    pub const SMALL: Profile =
+        Profile { most_points: 4, most_rules: 1, most_nesting: 3, rare: 10, leaning: Leaning::Plain };
+    pub const USUAL: Profile =
+        Profile { most_points: 7, most_rules: 6, most_nesting: 4, rare: 35, leaning: Leaning::Plain };
+    pub const TERMS: Profile =
+        Profile { most_points: 5, most_rules: 3, most_nesting: 3, rare: 10, leaning: Leaning::Terms };
+    pub const VALUES: Profile =
+        Profile { most_points: 5, most_rules: 4, most_nesting: 3, rare: 20, leaning: Leaning::Values };
+    pub const ROWS: Profile =
+        Profile { most_points: 28, most_rules: 3, most_nesting: 3, rare: 10, leaning: Leaning::Rows };
+    /// Enough points for hundreds of pairs.
+    pub const PAIRS: Profile =
+        Profile { most_points: 48, most_rules: 2, most_nesting: 2, rare: 5, leaning: Leaning::Hundreds };
+    /// Enough points for hundreds of rows without pairs.
+    pub const LONG: Profile =
+        Profile { most_points: 1_100, most_rules: 2, most_nesting: 1, rare: 5, leaning: Leaning::Hundreds };
+    pub const SCANS: Profile =
+        Profile { most_points: 120, most_rules: 3, most_nesting: 2, rare: 10, leaning: Leaning::Scans };
 }
 
 pub struct RandomCase {
@@ -67,15 +105,14 @@ pub fn random_case(random: &mut Random, profile: Profile) -> RandomCase {
         scope: Vec::new(),
         literals: Vec::new(),
         conditions: Vec::new(),
+        measures: Vec::new(),
     };
     making.values();
-    for _ in 0..making.random.between(profile.most_points / 2, profile.most_points) {
-        making.point();
-    }
+    making.log();
     let (mut conditions, mut aggregates) = (Vec::new(), Vec::new());
     for _ in 0..making.random.between(1, profile.most_rules) {
         let nesting = making.random.between(1, profile.most_nesting);
-        let rule = making.condition(nesting);
+        let rule = making.rule(nesting);
         conditions.push(making.tall(rule));
     }
     for _ in 0..making.random.between(1, profile.most_rules.div_ceil(2)) {
@@ -108,6 +145,8 @@ struct Making<'a> {
     literals: Vec<u32>,
     /// Conditions made so far, to be shared.
     conditions: Vec<u32>,
+    /// Of each node made so far, up to the last that was measured.
+    measures: Vec<sharing::Measure>,
 }
 
 impl Making<'_> {
@@ -139,6 +178,25 @@ impl Making<'_> {
                 let array = self.builder.array(&[object]);
                 self.common.push(array);
             }
+        }
+        match self.profile.leaning {
+            Leaning::Values => self.shared_values(),
+            Leaning::Rows | Leaning::Hundreds => {
+                if self.random.percent(10) {
+                    self.shared_values();
+                }
+                self.many_values();
+            }
+            _ => {}
+        }
+    }
+
+    fn log(&mut self) {
+        let points = self.random.between(self.profile.most_points / 2, self.profile.most_points);
+        match self.profile.leaning {
+            Leaning::Rows | Leaning::Hundreds => self.long_log(points, false),
+            Leaning::Scans => self.long_log(points, true),
+            _ => (0..points).for_each(|_| self.point()),
         }
     }
 
@@ -347,11 +405,30 @@ impl Making<'_> {
 
     fn condition(&mut self, nesting: usize) -> u32 {
         if !self.conditions.is_empty() && self.random.percent(8) {
-            return self.random.pick(&self.conditions);
+            let shared = self.random.pick(&self.conditions);
+            if self.profile.leaning == Leaning::Plain || self.can_carry(shared, 1) {
+                return shared;
+            }
         }
-        let made = if nesting == 0 { self.simple() } else { self.nested(nesting) };
+        let made = match self.leaning_condition(nesting) {
+            Some(made) => made,
+            None if nesting == 0 => self.simple(),
+            None => self.nested(nesting),
+        };
         self.conditions.push(made);
         made
+    }
+
+    /// Often what the case leans to.
+    fn leaning_condition(&mut self, nesting: usize) -> Option<u32> {
+        match self.profile.leaning {
+            Leaning::Terms if self.random.percent(45) => Some(self.shared_terms(nesting)),
+            Leaning::Values if self.random.percent(45) => Some(self.shared_comparison()),
+            Leaning::Rows if self.random.percent(75) => Some(self.many_rows(nesting)),
+            Leaning::Hundreds if self.random.percent(85) => Some(self.hundreds()),
+            Leaning::Scans if self.random.percent(50) => Some(self.scan()),
+            _ => None,
+        }
     }
 
     fn simple(&mut self) -> u32 {
@@ -381,11 +458,23 @@ impl Making<'_> {
         self.builder.node(node)
     }
 
+    /// A condition; where the case leans to rows, often one that is asked for them by a verdict, too.
+    fn rule(&mut self, nesting: usize) -> u32 {
+        let body = self.condition(nesting);
+        let rows = matches!(self.profile.leaning, Leaning::Rows | Leaning::Hundreds);
+        if !rows || self.variables == 0 || self.random.percent(50) {
+            return body;
+        }
+        let variable = self.variable();
+        self.builder.node(Node::Exists { variable, body })
+    }
+
     /// Now and then a rule of great height, of the 64 allowed.
     fn tall(&mut self, rule: u32) -> u32 {
         let mut top = rule;
         if self.random.percent(3) {
-            for _ in 0..self.random.between(10, 40) {
+            let allowed = 64 - self.measure(rule).height as usize;
+            for _ in 0..self.random.between(10, 40).min(allowed) {
                 top = self.builder.node(Node::Not { inner: top });
             }
         }

@@ -4,6 +4,8 @@ pub mod compare;
 pub mod convert;
 pub mod examples;
 pub mod lists;
+pub mod mix;
+pub mod reach;
 pub mod run;
 pub mod rust;
 pub mod variants;

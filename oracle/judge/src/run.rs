@@ -3,18 +3,16 @@
 use std::collections::BTreeMap;
 
 use casefile::{Node, Tables};
-use generate::calls::{output_fill, random_call, spoiled, tightened, workspace_fill, Done, Spoiled};
+use generate::calls::{output_fill, random_call, spoiled, step_limited, tightened, workspace_fill, Done, Spoiled};
 use generate::cases::random_case;
 use generate::damage::damaged;
 use generate::{Call, Kind, Profile, Random, RandomCase};
 use model::{Model, Outcome, Variant};
 
 use crate::compare::{compare, Found};
+use crate::mix::{Part, PLAIN};
+use crate::reach::Reach;
 use crate::rust::RustCase;
-
-/// Ample for most random questions; the others are refused 11 or 12 by both.
-const LIMIT: u64 = 5_000;
-const ROOM: u64 = 60;
 
 /// Puts a call to another implementation, which must do what the model did; else says what differs.
 pub type Beside = fn(&Call, &[u8], &Done) -> Result<(), String>;
@@ -30,6 +28,13 @@ pub struct Report {
     pub differences: Vec<String>,
 }
 
+/// A case that is asked, with what is made of it once.
+struct Asked<'a> {
+    case: &'a RandomCase,
+    rust: RustCase<'a>,
+    reach: Reach<'a>,
+}
+
 impl Report {
     pub fn new(model: Model) -> Report {
         Report { model, beside: Vec::new(), to_both: 0, counts: BTreeMap::new(), differences: Vec::new() }
@@ -38,14 +43,14 @@ impl Report {
     /// Random cases and questions until this many were put to both, or this many differences found.
     pub fn run(&mut self, random: &mut Random, questions: u64, most_differences: usize) {
         while self.to_both < questions && self.differences.len() < most_differences {
-            let profile = if random.percent(30) { Profile::SMALL } else { Profile::USUAL };
-            let case = random_case(random, profile);
+            let part = Part::random(random);
+            let case = random_case(random, part.profile);
             self.count("random cases");
             let refusal = self.done(&Call::check(), &case.bytes).outcome.refusal;
             self.expect(&case.bytes, refusal == 0, || "a case made by the rules is refused".to_string());
-            self.questions(random, &case, 12);
+            self.questions(random, &case, part);
             for _ in 0..2 {
-                self.damaged_copy(random, &case);
+                self.damaged_copy(random, &case, part);
             }
         }
     }
@@ -54,10 +59,11 @@ impl Report {
     pub fn damage(&mut self, random: &mut Random, copies: u64, most_differences: usize) {
         let mut made = 0;
         while made < copies && self.differences.len() < most_differences {
-            let profile = if random.percent(70) { Profile::SMALL } else { Profile::USUAL };
-            let case = random_case(random, profile);
+            let small = Part { profile: Profile::SMALL, ..PLAIN };
+            let part = if random.percent(60) { small } else { Part::random(random) };
+            let case = random_case(random, part.profile);
             for _ in 0..10.min(copies - made) {
-                self.damaged_copy(random, &case);
+                self.damaged_copy(random, &case, part);
                 made += 1;
             }
         }
@@ -83,12 +89,12 @@ impl Report {
         }
     }
 
-    fn damaged_copy(&mut self, random: &mut Random, case: &RandomCase) {
+    fn damaged_copy(&mut self, random: &mut Random, case: &RandomCase, part: Part) {
         let bytes = damaged(random, &case.bytes);
         let refusal = self.done(&Call::check(), &bytes).outcome.refusal;
         self.count(&format!("damaged copies, check {refusal}"));
         if refusal != 0 {
-            let call = random_call(random, case, LIMIT, ROOM);
+            let call = random_call(random, case, part.limit, part.room);
             let done = self.done(&call, &bytes);
             let same = done.outcome == Outcome { refusal, ..Outcome::default() };
             self.expect(&bytes, same && buffers_kept(&call, &done, 0), || {
@@ -103,31 +109,54 @@ impl Report {
             (0..tables.nodes.len() as u32).partition(|&k| node(k as usize).is_condition());
         let aggregates: Vec<u32> = rest.into_iter().filter(|&k| node(k as usize).is_aggregate()).collect();
         if !conditions.is_empty() && !aggregates.is_empty() && !tables.points.is_empty() {
-            self.questions(random, &RandomCase { tables, bytes, conditions, aggregates }, 2);
+            let part = Part { questions: 2, ..part };
+            self.questions(random, &RandomCase { tables, bytes, conditions, aggregates }, part);
         }
     }
 
-    fn questions(&mut self, random: &mut Random, case: &RandomCase, count: usize) {
-        let mut rust = RustCase::new(&case.tables);
-        for _ in 0..count {
-            let call = random_call(random, case, LIMIT, ROOM);
-            let done = self.question(&call, case, &mut rust);
-            if done.outcome.refusal == 0 && random.percent(60) {
-                let tight = tightened(random, &call, &done.outcome, case.tables.variables);
-                let tight_done = self.question(&tight, case, &mut rust);
-                let kept = limits_kept(&tight, &done.outcome, &tight_done.outcome);
-                self.expect(&case.bytes, kept, || {
-                    format!("a limit does not decide as it must\n{tight:?}\n{tight_done:?}")
-                });
+    fn questions(&mut self, random: &mut Random, case: &RandomCase, part: Part) {
+        let mut asked = Asked { case, rust: RustCase::new(&case.tables), reach: Reach::new(&case.tables) };
+        for _ in 0..part.questions {
+            let mut call = random_call(random, case, part.limit, part.room);
+            if random.percent(part.unbound) {
+                call.start.fill(0);
+            }
+            let done = self.asked(&call, &mut asked);
+            if done.outcome.refusal == 0 {
+                let mut tight = Vec::new();
+                if random.percent(60) {
+                    tight.push(tightened(random, &call, &done.outcome, case.tables.variables));
+                }
+                for _ in 0..part.limited {
+                    tight.push(step_limited(random, &call, &done.outcome));
+                }
+                tight.iter().for_each(|call| self.tight(call, &done, &mut asked));
             }
             if random.percent(10) {
                 let Spoiled { call, refusal } = spoiled(random, &call, case);
-                let said = self.question(&call, case, &mut rust).outcome.refusal;
+                let said = self.asked(&call, &mut asked).outcome.refusal;
                 // Refusal 13 comes after the walk, which may have ended in 11 or 12.
                 let kept = said == refusal || (refusal == 13 && (said == 11 || said == 12));
                 self.expect(&case.bytes, kept, || format!("a spoiled call is refused {said}, not {refusal}\n{call:?}"));
             }
         }
+    }
+
+    /// The same call with limits at or near what it needed.
+    fn tight(&mut self, call: &Call, needed: &Done, asked: &mut Asked) {
+        let done = self.asked(call, asked);
+        let kept = limits_kept(call, &needed.outcome, &done.outcome);
+        self.expect(&asked.case.bytes, kept, || format!("a limit does not decide as it must\n{call:?}\n{done:?}"));
+    }
+
+    /// Puts one question to both, and counts what it came to.
+    fn asked(&mut self, call: &Call, asked: &mut Asked) -> Done {
+        let done = self.question(call, asked.case, &mut asked.rust);
+        let refusal = done.outcome.refusal;
+        if refusal == 0 || refusal > 10 {
+            asked.reach.of(call, &done).into_iter().for_each(|what| self.count(what));
+        }
+        done
     }
 
     /// Puts one question to the model and to the Rust.

@@ -4,6 +4,7 @@
 use generate::Random;
 use judge::examples::ask_examples;
 use judge::lists::{folder, lists};
+use judge::reach;
 use judge::run::Report;
 use model::Model;
 
@@ -25,6 +26,10 @@ fn committed_lists_are_made_again_byte_for_byte() {
 #[test]
 fn model_and_rust_agree() {
     let mut report = Report::new(Model::document());
-    report.run(&mut Random::new(3), 5_000, 1);
+    report.run(&mut Random::new(3), 20_000, 1);
     assert!(report.differences.is_empty(), "{}", report.differences[0]);
+    // What larger cases come to is met in passing, not only in theory.
+    for what in reach::ALL {
+        assert!(report.counts.get(what).is_some_and(|&questions| questions >= 5), "{what}: {:?}", report.counts);
+    }
 }

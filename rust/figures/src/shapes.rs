@@ -11,6 +11,8 @@ pub struct Shape {
     pub points: usize,
     /// Room for rows; shapes without rows take what the program `bench` does.
     pub room: usize,
+    /// The Rust's time doubles with each level of what is shared: it is not asked.
+    pub alone: bool,
     text: fn(usize) -> String,
 }
 
@@ -18,20 +20,46 @@ const WIDE: usize = 400;
 const FEW: usize = 256;
 const ALL: usize = 16_384;
 
+/// A shape that both are asked, with room for what the program `bench` takes.
+const fn shape(name: &'static str, points: usize, text: fn(usize) -> String) -> Shape {
+    Shape { name, points, room: FEW, alone: false, text }
+}
+
+/// A shape that both are asked, with all the room there is.
+const fn roomy(name: &'static str, points: usize, text: fn(usize) -> String) -> Shape {
+    Shape { room: ALL, ..shape(name, points, text) }
+}
+
+const fn alone(name: &'static str, points: usize, text: fn(usize) -> String) -> Shape {
+    Shape { alone: true, ..shape(name, points, text) }
+}
+
 pub const SHAPES: &[Shape] = &[
-    Shape { name: "formerly, hit at once", points: 1_000, room: FEW, text: hit_at_once },
-    Shape { name: "formerly, hit at the far end", points: 1_000, room: FEW, text: hit_at_the_end },
-    Shape { name: "formerly, miss", points: 1_000, room: FEW, text: miss },
-    Shape { name: "formerly, miss, decimals", points: 1_000, room: FEW, text: decimals },
-    Shape { name: "since, hit at the far end", points: 1_000, room: FEW, text: since_hit },
-    Shape { name: "since, no hit", points: 1_000, room: FEW, text: since_miss },
-    Shape { name: "count, no repeats", points: 1_000, room: ALL, text: count_distinct },
-    Shape { name: "count, 8 rows repeated", points: 1_000, room: ALL, text: count_repeated },
-    Shape { name: "sum, no repeats", points: 1_000, room: ALL, text: sum_distinct },
-    Shape { name: "And/Or 40 deep, at each point", points: 250, room: FEW, text: deep_tree },
-    Shape { name: "context of 400 members", points: 1_000, room: FEW, text: wide_context },
-    Shape { name: "logged record of 400 fields", points: 1_000, room: FEW, text: wide_logged },
-    Shape { name: "correlated exists", points: 125, room: FEW, text: correlated },
+    shape("formerly, hit at once", 1_000, hit_at_once),
+    shape("formerly, hit at the far end", 1_000, hit_at_the_end),
+    shape("formerly, miss", 1_000, miss),
+    shape("formerly, miss, decimals", 1_000, decimals),
+    shape("three arguments with a decimal", 1_000, three_arguments),
+    shape("predicate and comparison", 1_000, and_comparison),
+    shape("since, hit at the far end", 1_000, since_hit),
+    shape("since, no hit", 1_000, since_miss),
+    shape("formerly of a since", 125, formerly_since),
+    roomy("count, no repeats", 1_000, count_distinct),
+    roomy("count, 8 rows repeated", 1_000, count_repeated),
+    roomy("sum, no repeats", 1_000, sum_distinct),
+    roomy("or of rows", 1_000, or_of_rows),
+    roomy("since of rows", 1_000, since_of_rows),
+    shape("count at each point", 125, count_each),
+    shape("And/Or 40 deep, at each point", 250, deep_tree),
+    shape("context of 400 members", 1_000, wide_context),
+    shape("logged record of 400 fields", 1_000, wide_logged),
+    shape("correlated exists", 125, correlated),
+    shape("flat arrays", 1_000, flat_arrays),
+    shape("nested arrays", 1_000, nested_arrays),
+    shape("shared arrays, 8 levels", 25, |points| shared_arrays(points, 8)),
+    alone("shared arrays, 29 levels", 25, |points| shared_arrays(points, 29)),
+    shape("shared terms, 8 levels", 25, |points| shared_terms(points, 8)),
+    alone("shared terms, 60 levels", 25, |points| shared_terms(points, 60)),
 ];
 
 impl Shape {
@@ -131,4 +159,78 @@ fn correlated(points: usize) -> String {
     let log = log(points, |k| format!("{} logged @o{}", if k < 8 { "Review" } else { "Flash" }, k % 8));
     let rule = "rule asked = formerly within 9d exists b (Flash(board: b) and not formerly within 9d Review(board: b))";
     format!("variables b\n{}{log}{rule}", objects(8))
+}
+
+fn three_arguments(points: usize) -> String {
+    let rail = |k| format!("value o{k} = {{board: \"b{k}\", n: {k}, volts: decimal \"3.3000\"}}\n");
+    let log = log(points, |k| format!("Flash logged @o{}", k % 8));
+    let rule = "rule asked = formerly within 9d Flash(board: *, volts: decimal \"3.3\", n: 9)";
+    (0..8).map(rail).collect::<String>() + &log + rule
+}
+
+fn and_comparison(points: usize) -> String {
+    let log = log(points, |k| format!("Flash logged @o{} context @limits", k % 8));
+    let rule = "rule asked = formerly within 9d (Flash(n: n) and n > context.most)";
+    format!("variables n\n{}value limits = {{most: 9}}\n{log}{rule}", objects(8))
+}
+
+fn formerly_since(points: usize) -> String {
+    reviewed_once(points)
+        + "rule asked = formerly within 9d (Flash(n: 9) since within 9d Review(board: \"b0\")) and Review(n: 9)"
+}
+
+fn or_of_rows(points: usize) -> String {
+    let rule =
+        "number asked = count for t, n where formerly within 9d ((Flash(n: n) and tp t) or (Flash(n: n, board: *) and tp t))";
+    format!("variables t n\n{}{rule}", flashes(points))
+}
+
+/// All rows come at the last point, where left is not tested.
+fn since_of_rows(points: usize) -> String {
+    let rule =
+        "number asked = count for t, n where (Review(n: *) since within 0s formerly within 9d (Flash(n: n) and tp t))";
+    format!("variables t n\n{}{rule}", flashes(points))
+}
+
+fn count_each(points: usize) -> String {
+    let rule = "rule asked = formerly within 9d ((count for n where formerly within 20s Flash(n: n)) > 8)";
+    format!("variables n\n{}{rule}", flashes(points))
+}
+
+/// Each logged array differs from the context's in its last item.
+fn arrays(points: usize, array: impl Fn(usize) -> String) -> String {
+    let objects: String = (0..8).map(|k| format!("value o{k} = {{v: {}}}\n", array(k))).collect();
+    let log = log(points, |k| format!("Flash logged @o{} context @c", k % 8));
+    format!("{objects}value c = {{v: {}}}\n{log}rule asked = formerly within 9d Flash(v: context.v)", array(9))
+}
+
+fn flat_arrays(points: usize) -> String {
+    arrays(points, |k| format!("[1, 2, 3, 4, 5, 6, 7, {k}]"))
+}
+
+fn nested_arrays(points: usize) -> String {
+    arrays(points, |k| format!("[[1, 2], [3, 4], [5, 6], [7, {k}]]"))
+}
+
+/// Two arrays built apart, equal by decimals, each level of which holds the one below twice.
+fn shared_arrays(points: usize, levels: usize) -> String {
+    let mut text = String::from("value a0 = [decimal \"1.0\"]\nvalue b0 = [decimal \"1.00\"]\n");
+    for (k, below) in (1..=levels).zip(0..) {
+        for array in ["a", "b"] {
+            writeln!(text, "value {array}{k} = [@{array}{below}, @{array}{below}]").expect("a string takes all");
+        }
+    }
+    writeln!(text, "value o = {{v: @a{levels}}}\nvalue c = {{v: @b{levels}}}").expect("a string takes all");
+    let log = log(points, |_| "Flash logged @o context @c".to_string());
+    format!("{text}{log}rule asked = formerly within 9d not Flash(v: context.v)")
+}
+
+/// A sum of which each level adds the one below to itself.
+fn shared_terms(points: usize, levels: usize) -> String {
+    let log = log(points, |k| format!("Flash logged @o{} context @c", k % 8));
+    let mut text = format!("{}value c = {{n: 0}}\n{log}term t0 = context.n + 1\n", objects(8));
+    for (k, below) in (1..=levels).zip(0..) {
+        writeln!(text, "term t{k} = @t{below} + @t{below}").expect("a string takes all");
+    }
+    text + &format!("rule asked = formerly within 9d @t{levels} == 0")
 }

@@ -2,7 +2,6 @@
 
 use std::hint::black_box;
 
-use casefile::text::Packed;
 use dogwood::extension::temporal::ast::{AggExpr, Condition};
 use dogwood::interpreter::eval;
 use dogwood::interpreter::value::Trace;
@@ -10,7 +9,7 @@ use galivodern::{Bindings, Case, Limits, Sort};
 use judge::convert::Converter;
 
 use crate::shapes::{Shape, SHAPES};
-use crate::timing::by_turns;
+use crate::timing::{by_itself, by_turns};
 
 /// The Rust's own form of a rule.
 enum Rule {
@@ -18,73 +17,92 @@ enum Rule {
     Aggregate(AggExpr),
 }
 
-/// One question, ready to be put to both.
-struct Asked {
-    case: Case,
+/// In place of the Rust's time where it doubles with each level.
+const NOT_ASKED: &str = "not asked";
+
+/// A case and a rule as the Rust has them.
+struct Theirs {
     trace: Trace,
     rule: Rule,
+}
+
+/// One question, ready to be put to both, or to ours alone.
+struct Asked {
+    case: Case,
+    theirs: Option<Theirs>,
+    sort: Option<Sort>,
     node: u32,
     point: usize,
     limits: Limits,
 }
 
 impl Asked {
-    fn new(packed: &Packed, room: usize) -> Result<Asked, String> {
+    fn new(shape: &Shape, points: usize) -> Result<Asked, String> {
+        let packed = shape.case(points)?;
         let case = Case::new(packed.tables.encode()).map_err(|refusal| refusal.to_string())?;
         let node = packed.node("asked").ok_or("the rule has another name")?;
         let converter = Converter { tables: &packed.tables };
-        let rule = match case.sort(node) {
-            Some(Sort::Aggregate) => Rule::Aggregate(converter.aggregate(node)),
-            _ => Rule::Condition(converter.condition(node)),
-        };
+        let sort = case.sort(node);
+        let theirs = (!shape.alone).then(|| Theirs {
+            trace: converter.trace(),
+            rule: match sort {
+                Some(Sort::Aggregate) => Rule::Aggregate(converter.aggregate(node)),
+                _ => Rule::Condition(converter.condition(node)),
+            },
+        });
         let point = case.contents().points - 1;
-        let limits = Limits { steps: Limits::MOST_STEPS, room };
-        Ok(Asked { case, trace: converter.trace(), rule, node, point, limits })
+        let limits = Limits { steps: Limits::MOST_STEPS, room: shape.room };
+        Ok(Asked { case, theirs, sort, node, point, limits })
     }
 
     /// The answer's number and the steps it took.
     fn ours(&self) -> Result<(i64, u64), String> {
         let unbound = Bindings::new();
-        match self.rule {
-            Rule::Condition(_) => self
-                .case
-                .verdict(self.point, self.node, &unbound, self.limits)
-                .map(|answer| (i64::from(answer.value), answer.steps)),
-            Rule::Aggregate(_) => self
+        match self.sort {
+            Some(Sort::Aggregate) => self
                 .case
                 .number(self.point, self.node, &unbound, self.limits)
                 .map(|answer| (answer.value, answer.steps)),
+            _ => self
+                .case
+                .verdict(self.point, self.node, &unbound, self.limits)
+                .map(|answer| (i64::from(answer.value), answer.steps)),
         }
         .map_err(|refused| refused.to_string())
     }
+}
 
+impl Theirs {
     /// As a caller of the Rust does it: the request's environment, then the rule.
-    fn theirs(&self) -> i64 {
-        let env = eval::request_env(&self.trace, self.point);
+    fn answer(&self, point: usize) -> i64 {
+        let env = eval::request_env(&self.trace, point);
         match &self.rule {
-            Rule::Condition(condition) => i64::from(eval::eval_condition(&self.trace, self.point, &env, condition)),
-            Rule::Aggregate(aggregate) => eval::eval_agg_expr(&self.trace, self.point, &env, aggregate),
+            Rule::Condition(condition) => i64::from(eval::eval_condition(&self.trace, point, &env, condition)),
+            Rule::Aggregate(aggregate) => eval::eval_agg_expr(&self.trace, point, &env, aggregate),
         }
     }
 }
 
-/// One size of a shape, timed: nanoseconds a question.
+/// One size of a shape, timed: nanoseconds a question; none of the Rust's where ours is timed alone.
 struct Timed {
     points: usize,
     steps: u64,
     ours: f64,
-    theirs: f64,
+    theirs: Option<f64>,
 }
 
 fn timed(shape: &Shape, points: usize) -> Result<Timed, String> {
-    let asked = Asked::new(&shape.case(points)?, shape.room)?;
+    let asked = Asked::new(shape, points)?;
     let (answer, steps) = asked.ours()?;
-    let rust = asked.theirs();
+    let Some(theirs) = &asked.theirs else {
+        return Ok(Timed { points, steps, ours: by_itself(|| asked.ours()), theirs: None });
+    };
+    let rust = theirs.answer(asked.point);
     if answer != rust {
         return Err(format!("{}: {answer}, the Rust says {rust}", shape.name));
     }
-    let (ours, theirs) = by_turns(|| asked.ours(), || asked.theirs());
-    Ok(Timed { points, steps, ours, theirs })
+    let (ours, theirs) = by_turns(|| asked.ours(), || theirs.answer(asked.point));
+    Ok(Timed { points, steps, ours, theirs: Some(theirs) })
 }
 
 pub fn print_tables() -> Result<bool, String> {
@@ -95,15 +113,15 @@ pub fn print_tables() -> Result<bool, String> {
         let sizes = [1, 4, 16].map(|times| timed(shape, times * shape.points));
         let sizes: Vec<Timed> = sizes.into_iter().collect::<Result<_, _>>()?;
         for Timed { points, steps, ours, theirs } in &sizes {
-            let per_step = |time: f64| time / *steps as f64;
+            let per_step = |time: f64| format!("{:.1}", time / *steps as f64);
             println!(
-                "| {} | {points} | {steps} | {} | {} | {:.2} | {:.1} | {:.1} |",
+                "| {} | {points} | {steps} | {} | {} | {} | {} | {} |",
                 shape.name,
                 shown(*ours),
-                shown(*theirs),
-                theirs / ours,
+                theirs.map_or(NOT_ASKED.to_string(), shown),
+                theirs.map_or(String::new(), |time| format!("{:.2}", time / ours)),
                 per_step(*ours),
-                per_step(*theirs),
+                theirs.map_or(String::new(), per_step),
             );
         }
         growth.push((shape.name, sizes));
@@ -111,11 +129,12 @@ pub fn print_tables() -> Result<bool, String> {
     println!("\n| shape | steps, 4x and 16x the points | proved | the Rust |");
     println!("|---|---|---|---|");
     for (name, sizes) in &growth {
-        let times = |of: fn(&Timed) -> f64| {
-            let first = of(&sizes[0]);
-            format!("{:.1}, {:.1}", of(&sizes[1]) / first, of(&sizes[2]) / first)
+        let times = |of: fn(&Timed) -> Option<f64>| match sizes.iter().map(of).collect::<Option<Vec<f64>>>() {
+            Some(of) => format!("{:.1}, {:.1}", of[1] / of[0], of[2] / of[0]),
+            None => NOT_ASKED.to_string(),
         };
-        println!("| {name} | {} | {} | {} |", times(|t| t.steps as f64), times(|t| t.ours), times(|t| t.theirs));
+        let (steps, ours) = (times(|timed| Some(timed.steps as f64)), times(|timed| Some(timed.ours)));
+        println!("| {name} | {steps} | {ours} | {} |", times(|timed| timed.theirs));
     }
     Ok(true)
 }
@@ -133,10 +152,11 @@ fn shown(time: f64) -> String {
 /// One shape at 4x, so many times, of one side alone: for a profiler.
 pub fn once(name: &str, times: u64, rust: bool) -> Result<bool, String> {
     let shape = SHAPES.iter().find(|shape| shape.name == name).ok_or(format!("there is no shape `{name}`"))?;
-    let asked = Asked::new(&shape.case(4 * shape.points)?, shape.room)?;
+    let asked = Asked::new(shape, 4 * shape.points)?;
     for _ in 0..times {
         if rust {
-            black_box(asked.theirs());
+            let theirs = asked.theirs.as_ref().ok_or(format!("the Rust is {NOT_ASKED} of `{name}`"))?;
+            black_box(theirs.answer(asked.point));
         } else {
             black_box(asked.ours()?);
         }

@@ -46,7 +46,10 @@ fn beside(program: &Path, count: u64, seed: u64) -> std::io::Result<u64> {
         *counts.entry(format!("{kind}: {}", says(&expected))).or_insert(0u64) += 1;
         if written != expected.as_bytes() {
             differ += 1;
-            println!("DIFFERENCE at file {k}, {kind}\nmodel:\n{expected}program:\n{}", String::from_utf8_lossy(&written));
+            println!(
+                "DIFFERENCE at file {k}, {kind}\nmodel:\n{expected}program:\n{}",
+                String::from_utf8_lossy(&written)
+            );
         }
     }
     let _ = std::fs::remove_file(&place);
@@ -170,8 +173,17 @@ fn numbered(random: &mut Random, points: usize, term: impl Fn(&mut Builder) -> u
         let n = builder.int(if random.percent(90) { k as i64 } else { 0 });
         let logged = builder.object(&[("n", n)]);
         let time = k as i64;
-        let point =
-            Point { time, namespace: none, action, kind, logged, context, principal: None, resource: None, entities: none };
+        let point = Point {
+            time,
+            namespace: none,
+            action,
+            kind,
+            logged,
+            context,
+            principal: None,
+            resource: None,
+            entities: none,
+        };
         builder.point(point);
     }
     let path = builder.names(&["n"]);

@@ -104,7 +104,7 @@ told-as c binders output l w = go (outcome l started w) (walk-clears c l w)
     }
     go (answered rows m) h =
         given-as c binders output (keptOf (c .file) binders rows) m (fitting (vars (c .file)) binders output (keptOf (c .file) binders rows))
-    go (refused n m) h = ap (λ (after : List ℕ). record { said = refuses (numberOf n) (m .steps) (m .most); workspace = after; output = output }) (unfold workspaceAfter in h)
+    go (refused n m) h = ap (λ (after : List ℕ). record { said = refuses (numberOf n) (m .steps) (m .most); workspace = after; output = output }) h
 
 pub rows-refused : (s : List ℕ) (point n : ℕ) (start : List ℕ) (limits : Limits) (work : List ℕ) (binders output : List ℕ) {o : Opening} {k : Refusal} → Checked s → Opens (sortFor Condition) (callOf s point n start limits work) o → o .against ≡ TurnedDown k → Rowed (callOf s point n start limits work) binders output work output (Refuses k 0 0)
 unfolding rowsCall rowsGiven asRows sortFor

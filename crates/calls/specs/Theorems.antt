@@ -19,6 +19,7 @@ use Rattle.meaning.specs.Calls.{numberOf, Call, Said, gives, refuses, Result, w
 use Rattle.meaning.specs.Demands.{Askable, Exhausted, Tells, SameUpTo, ofFile}
 use Rattle.meaning.specs.Laws.Calls.{answers-when, answers-only-when, rows-when, one-refusal}
 use Rattle.meaning.specs.Laws.Later.{later-points-change-nothing}
+use Rattle.casecheck.specs.declared.Contents.{Contents}
 use Rattle.casecheck.specs.declared.Checking.{Checking}
 use Rattle.casecheck.specs.declared.Checking.the-variants as Che
 use Rattle.casecheck.specs.Answer.{contentsOf, answer, asChecking}
@@ -52,9 +53,14 @@ answer-says s = go (check s)
 pub check-said : (s : List ℕ) {r : Checking} → r ≡ asChecking s → Checks s r
 check-said s is = record { is = ap asCheck is ∙ answer-says s }
 
+same-contents : (k k′ : Contents) → k .vars ≡ k′ .vars → k .strings ≡ k′ .strings → k .values ≡ k′ .values → k .points ≡ k′ .points → k .nodes ≡ k′ .nodes → k ≡ k′
+same-contents k k′ a b c d e =
+    let z : _≡_ {A = Contents} (record { vars = k .vars; strings = k .strings; values = k .values; points = k .points; nodes = k .nodes }) (record { vars = k′ .vars; strings = k′ .strings; values = k′ .values; points = k′ .points; nodes = k′ .nodes }) = cc (a, b, c, d, e) in
+    z
+
 same-check : (r r′ : Checking) → asCheck r ≡ asCheck r′ → r ≡ r′
 unfolding asCheck
-same-check (Che.Passes k) (Che.Passes k′) e = cc
+same-check (Che.Passes k) (Che.Passes k′) e = ap Che.Passes (same-contents k k′ cc cc cc cc cc)
 same-check (Che.Passes k) (Che.Refused n′) e = absurd (never e)
 same-check (Che.Refused n) (Che.Passes k′) e = absurd (never (sym e))
 same-check (Che.Refused n) (Che.Refused n′) e = ap Che.Refused (same-refusal n n′ e)

@@ -124,8 +124,8 @@ module _ {s : List ℕ} {point n : ℕ} {start : List ℕ} {limits : Limits} {wo
 
 pub verdict-refused : {s : List ℕ} {point n : ℕ} {start : List ℕ} {limits : Limits} {work : List ℕ} {o : Opening} {k : Refusal} → Checked s → Opens (sortFor Condition) (callOf s point n start limits work) o → o .against ≡ Refused k → Verdicts (callOf s point n start limits work) work (Ver.Refuses k 0 0)
 unfolding verdictCall asVerdict sortFor
-verdict-refused {k = k} checked opens is =
-    record { is = sym (ap (λ (said : Said Bool). result (callOf _ _ _ _ _ _) said []) (asked-not checked opens (λ m q. m .verdict q) k is) ∙ unwritten checked opens Bool [] k is) }
+verdict-refused {s} {point} {n} {start} {limits} {work} {k = k} checked opens is =
+    record { is = sym (ap (λ (said : Said Bool). result (callOf s point n start limits work) said []) (asked-not checked opens (λ m q. m .verdict q) k is) ∙ unwritten checked opens Bool [] k is) }
 
 pub verdict-told : {s : List ℕ} {point n : ℕ} {start : List ℕ} {limits : Limits} {work : List ℕ} {o : Opening} {v : Verdict} {part : List ℕ} {after : List ℕ} {r : SaidVerdict} → Checked s → Opens (sortFor Condition) (callOf s point n start limits work) o → o .against ≡ Nothing → Decides s (walking limits (o .env) point) (o .env) (node n point) atStart (take (cellsFor (o .env) limits) work) part v → length part ≡ length (take (cellsFor (o .env) limits) work) → after ≡ cleared (cellsFor (o .env) limits) (part ++ drop (cellsFor (o .env) limits) work) → TellsVerdict v r → Verdicts (callOf s point n start limits work) after r
 unfolding verdictCall result walkFor started sortFor
@@ -139,8 +139,8 @@ verdict-told {s} {point} {n} {start} {limits} {work} {o} {part = part} checked o
 
 pub number-refused : {s : List ℕ} {point n : ℕ} {start : List ℕ} {limits : Limits} {work : List ℕ} {o : Opening} {k : Refusal} → Checked s → Opens (sortFor Aggregate) (callOf s point n start limits work) o → o .against ≡ Refused k → Numbers (callOf s point n start limits work) work (Num.Refuses k 0 0)
 unfolding numberCall asNumber inBits sortFor
-number-refused {k = k} checked opens is =
-    record { is = sym (ap (λ (said : Said ℤ). result (callOf _ _ _ _ _ _) (inBits said) []) (asked-not checked opens (λ m q. m .number q) k is) ∙ unwritten checked opens ℕ [] k is) }
+number-refused {s} {point} {n} {start} {limits} {work} {k = k} checked opens is =
+    record { is = sym (ap (λ (said : Said ℤ). result (callOf s point n start limits work) (inBits said) []) (asked-not checked opens (λ m q. m .number q) k is) ∙ unwritten checked opens ℕ [] k is) }
 
 pub number-told : {s : List ℕ} {point n : ℕ} {start : List ℕ} {limits : Limits} {work : List ℕ} {o : Opening} {v : Number} {part : List ℕ} {after : List ℕ} {r : SaidNumber} → Checked s → Opens (sortFor Aggregate) (callOf s point n start limits work) o → o .against ≡ Nothing → NumbersOf s (walking limits (o .env) point) (o .env) n point atStart (take (cellsFor (o .env) limits) work) part v → length part ≡ length (take (cellsFor (o .env) limits) work) → after ≡ cleared (cellsFor (o .env) limits) (part ++ drop (cellsFor (o .env) limits) work) → TellsNumber v r → Numbers (callOf s point n start limits work) after r
 unfolding numberCall result numberFor started sortFor

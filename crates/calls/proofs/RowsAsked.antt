@@ -94,7 +94,7 @@ told-as : (c : Call) (binders output : List ℕ) (l : Limits) (w : W (List Row))
   workspace = cleared (2 * vars (c .file) * c .limits .room) (c .workspace);
   output = outputFrom (c .file) (vars (c .file)) binders output (outcome l started w);
 }
-unfolding rowsGiven result told saidFrom outputFrom projected outputFits
+unfolding rowsGiven result told saidFrom outputFrom projected outputFits workspaceAfter
 told-as c binders output l w = go (outcome l started w) (walk-clears c l w)
   where
     go : (o : Outcome (List Row)) → workspaceAfter c (told o) ≡ cleared (2 * vars (c .file) * c .limits .room) (c .workspace) → rowsGiven c binders output (told o) ≡ record {

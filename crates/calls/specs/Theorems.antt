@@ -60,7 +60,7 @@ same-contents k k′ a b c d e =
 
 same-check : (r r′ : Checking) → asCheck r ≡ asCheck r′ → r ≡ r′
 unfolding asCheck
-same-check (Che.Passes k) (Che.Passes k′) e = ap Che.Passes (same-contents k k′ cc cc cc cc cc)
+same-check (Che.Passes k) (Che.Passes k′) e = ap Che.Passes (same-contents k k′ (cc) (cc) (cc) (cc) (cc))
 same-check (Che.Passes k) (Che.Refused n′) e = absurd (never e)
 same-check (Che.Refused n) (Che.Passes k′) e = absurd (never (sym e))
 same-check (Che.Refused n) (Che.Refused n′) e = ap Che.Refused (same-refusal n n′ e)

@@ -45,7 +45,8 @@ enum galivodern_refusal {
     GALIVODERN_STEPS_EXHAUSTED = 11, /* the answer takes more steps than allowed */
     GALIVODERN_ROOM_EXHAUSTED = 12,  /* the answer takes more rows than allowed */
     GALIVODERN_BAD_OUTPUT = 13,      /* output too short, or a binder that is no variable */
-    GALIVODERN_TOO_FEW_CELLS = 14    /* `contents` or `told` too short: nothing was done */
+    /* of this layer alone: `contents` or `told` too short, and nothing was done */
+    GALIVODERN_TOO_FEW_CELLS = 100
 };
 
 /* The most that is allowed of a call's limits. */
@@ -65,7 +66,7 @@ enum galivodern_contents {
     GALIVODERN_NODES = 4
 };
 
-/* What `told` holds after a call that returned 0 to 13. */
+/* What `told` holds after a call that returned 0 to 13, a refusal too. */
 enum galivodern_told {
     GALIVODERN_ANSWER = 0, /* see each call; 0 where it refused */
     GALIVODERN_STEPS = 1,  /* steps spent; 0 for refusals 1 to 10 */
@@ -92,7 +93,7 @@ uint64_t galivodern_check(const uint8_t *file, size_t file_len, uint64_t *conten
  *
  * They return 0 for an answer, else the lowest refusal that applies, save that
  * of 11 and 12 the one that is met first is given. Refusals 1 to 10 write
- * nothing but `told`; 14 writes nothing at all. */
+ * nothing but `told`; 100 writes nothing at all. */
 
 /* Whether a condition holds: the answer is 1 for yes, 0 for no. */
 uint64_t galivodern_verdict(const uint8_t *file, size_t file_len, size_t point, uint32_t node,

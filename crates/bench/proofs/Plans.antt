@@ -13,9 +13,9 @@ use Rattle.meaning.specs.declared.Refusal.the-variants.{TooLarge, NoSuchNode}
 use Rattle.meaning.specs.Tests.{choose}
 use Rattle.meaning.specs.Laws.Tests.{yes, no}
 use Rattle.meaning.specs.Laws.Checked.{vars-most}
-use Rattle.meaning.specs.Case.{nodes, vars, conditions, sortOf, nodeAt}
+use Rattle.meaning.specs.Case.{isSort, nodes, vars, conditions, sortOf, nodeAt}
 use Rattle.meaning.specs.Check.{check, Checked}
-use Rattle.meaning.specs.Calls.{isSort, verdictCall}
+use Rattle.meaning.specs.Calls.{verdictCall}
 use Rattle.calls.specs.declared.SaidVerdict.{SaidVerdict}
 use Rattle.calls.specs.Promises.{callOf, Verdicts}
 use Rattle.casecheck.specs.declared.Contents.{Contents}

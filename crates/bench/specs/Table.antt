@@ -7,9 +7,9 @@ use lib.ListN.{length, replicate}
 use Rattle.meaning.specs.declared.Refusal.{Refusal}
 use Rattle.meaning.specs.declared.Refusal.the-variants.{TooLarge, NoSuchNode}
 use Rattle.meaning.specs.Tests.{choose}
-use Rattle.meaning.specs.Case.{nodes, points, vars, conditions, sortOf, nodeAt}
+use Rattle.meaning.specs.Case.{nodes, points, vars, conditions, isSort, sortOf, nodeAt}
 use Rattle.meaning.specs.Check.{check}
-use Rattle.meaning.specs.Calls.{isSort, Call}
+use Rattle.meaning.specs.Calls.{Call}
 use Rattle.calls.specs.Promises.{callOf}
 use Rattle.bench.specs.declared.plan.Asking.{Asking}
 use Rattle.bench.specs.declared.plan.Plan.{Plan}

@@ -6,9 +6,8 @@ use meaning::Refusal;
 use stringcheck::both;
 ghost use mathlib.Core.Path.{_≡_};
 ghost use mathlib.Core.Bool.{Bool};
-ghost use Rattle.meaning.specs.Case.{conditions, sortOf, nodeAt};
+ghost use Rattle.meaning.specs.Case.{conditions, isSort, sortOf, nodeAt};
 ghost use Rattle.meaning.specs.Check.{Checked};
-ghost use Rattle.meaning.specs.Calls.{isSort};
 ghost use Rattle.casecheck.specs.Answer.{contentsOf};
 ghost use Rattle.bench.specs.Table.{planChecked, planOf};
 

@@ -13,18 +13,18 @@ use mir.Val.{Fits}
 use mir.Syntax.{w64}
 use types.Run.{OneOf}
 use denote.Enum.Declared.{tagOf}
-use borrow.Author.Tests.{leb-true, le-leb, lt-leb, lt-ltb, le-ltb, ltb-false, not-true, not-false}
+use borrow.Author.Tests.{leb-true, le-leb, lt-leb, lt-ltb, le-ltb, ltb-true, ltb-false, not-true, not-false}
 use Rattle.meaning.proofs.Node.{the-type}
 use Rattle.meaning.specs.declared.Limits.{Limits}
 use Rattle.meaning.specs.declared.Node.{Node}
 use Rattle.meaning.specs.declared.Node.the-variants.{And, Or, Not, Formerly, Previous, Since, Predicate, Comparison, Exists, Tp, Literal, Context, Scope, Variable, Wildcard, Aggregate, Arithmetic, Sum, Count, Broken}
 use Rattle.meaning.specs.declared.Refusal.{Refusal}
 use Rattle.meaning.specs.declared.Refusal.the-variants.{NoSuchPoint, NoSuchNode, BadStart, BadLimits}
-use Rattle.meaning.specs.Tests.{_and_, _or_, choose, onlyIf, isSome, pick}
-use Rattle.meaning.specs.Case.{Sort, conditions, terms, aggregates, broken, sortOf, points, nodes, vars, nodeAt, caseOf, decode}
+use Rattle.meaning.specs.Tests.{_and_, firstBroken, onlyIf, isSome, pick}
+use Rattle.meaning.specs.Case.{Sort, conditions, terms, aggregates, broken, isSort, sortOf, points, nodes, vars, nodeAt}
 use Rattle.meaning.specs.Check.{Checked, bodies}
 use Rattle.meaning.specs.Rows.{rowOf}
-use Rattle.meaning.specs.Calls.{Call, isSort, beyond, against, startRow, startOr}
+use Rattle.meaning.specs.Calls.{Call, against, startRow, startOr}
 use Rattle.meaning.specs.Laws.Tests.{both, yes, no}
 use Rattle.meaning.specs.Laws.Checked.{checked-bodies, points-most}
 use Rattle.meaning.specs.Laws.Nodes.{node-beyond}
@@ -34,7 +34,7 @@ use Rattle.calls.specs.declared.opening.Opening.{Opening}
 use Rattle.calls.specs.declared.opening.Against.the-variants.{Nothing}
 use Rattle.calls.specs.declared.start.Start.{Start}
 use Rattle.calls.specs.Start.{Starts}
-use Rattle.calls.specs.Opening.{sortFor, overLimits, refusalIn, turnedDown, Opens}
+use Rattle.calls.specs.Opening.{sortFor, inLimits, refusalIn, turnedDown, Opens}
 
 -- ---- sorts, by the number of a node's variant
 
@@ -112,47 +112,47 @@ module _ (sort : Wanted) (nd : Node) (r : Bool) where
   sort-aggregate e is = rw e is
 
 -- beyond the table no node is of a sort that is asked for
-broken-none : (sort : Sort) → isSort sort (sortOf Broken) ≡ false
-unfolding isSort sortOf
-broken-none conditions = refl
-broken-none terms = refl
-broken-none aggregates = refl
-broken-none broken = refl
+broken-none : (sort : Wanted) → isSort (sortFor sort) (sortOf Broken) ≡ false
+unfolding isSort sortOf sortFor
+broken-none Condition = refl
+broken-none Aggregates = refl
 
-no-sort-beyond : (sort : Sort) (s : List ℕ) (n : ℕ) → bodies s ≡ true → (leb (nodes s) n or not (isSort sort (sortOf (nodeAt s n)))) ≡ not (isSort sort (sortOf (nodeAt s n)))
-unfolding _or_
+no-sort-beyond : (sort : Wanted) (s : List ℕ) (n : ℕ) → bodies s ≡ true → (ltb n (nodes s) and isSort (sortFor sort) (sortOf (nodeAt s n))) ≡ isSort (sortFor sort) (sortOf (nodeAt s n))
+unfolding _and_
 no-sort-beyond sort s n h =
-    go (leb (nodes s) n) refl
+    go (ltb n (nodes s)) refl
   where
-    go : (b : Bool) → leb (nodes s) n ≡ b → (b or not (isSort sort (sortOf (nodeAt s n)))) ≡ not (isSort sort (sortOf (nodeAt s n)))
-    go true e = rw (node-beyond s h n (leb-true (nodes s) n e), broken-none sort)
-    go false e = refl
+    go : (b : Bool) → ltb n (nodes s) ≡ b → (b and isSort (sortFor sort) (sortOf (nodeAt s n))) ≡ isSort (sortFor sort) (sortOf (nodeAt s n))
+    go true e = refl
+    go false e = sym (rw (node-beyond s h n (ltb-false n (nodes s) e)) (broken-none sort))
 
 -- ---- limits
 
-neither : (a b : Bool) → (a or b) ≡ false → (a ≡ false) × (b ≡ false)
-unfolding _or_
-neither true b e = (e, cc)
-neither false b e = (refl, e)
+above-not : (a b : ℕ) → ltb a b ≡ not (leb b a)
+above-not a b = go (ltb a b) refl
+  where
+    go : (t : Bool) → ltb a b ≡ t → t ≡ not (leb b a)
+    go true e = rw (lt-leb b a (ltb-true a b e)) refl
+    go false e = rw (le-leb b a (ltb-false a b e)) refl
 
 module _ (vars : ℕ) (limits : Limits) (cells : ℕ) where
-  pub steps-beyond : 1000000000 < limits .steps → true ≡ overLimits vars limits cells
-  unfolding _or_
-  steps-beyond h = rw (lt-ltb 1000000000 (limits .steps) h)
+  pub steps-beyond : 1000000000 < limits .steps → true ≡ not (inLimits vars limits cells)
+  unfolding _and_
+  steps-beyond h = rw (lt-leb (limits .steps) 1000000000 h) refl
 
   module _ (few : limits .steps ≤ 1000000000) where
-    pub room-beyond : 16384 < limits .room → true ≡ overLimits vars limits cells
-    unfolding _or_
-    room-beyond h = rw (le-ltb 1000000000 (limits .steps) few, lt-ltb 16384 (limits .room) h)
+    pub room-beyond : 16384 < limits .room → true ≡ not (inLimits vars limits cells)
+    unfolding _and_
+    room-beyond h = rw (le-leb (limits .steps) 1000000000 few, lt-leb (limits .room) 16384 h) refl
 
-    pub cells-beyond : limits .room ≤ 16384 → ltb cells (2 * vars * limits .room) ≡ overLimits vars limits cells
-    unfolding _or_
-    cells-beyond h = rw (le-ltb 1000000000 (limits .steps) few, le-ltb 16384 (limits .room) h)
+    pub cells-beyond : limits .room ≤ 16384 → ltb cells (2 * vars * limits .room) ≡ not (inLimits vars limits cells)
+    unfolding _and_
+    cells-beyond h = rw (le-leb (limits .steps) 1000000000 few, le-leb (limits .room) 16384 h) (above-not cells (2 * vars * limits .room))
 
-  beyond-not : overLimits vars limits cells ≡ false → (limits .room ≤ 16384) × (2 * vars * limits .room ≤ cells)
-  beyond-not e =
-      let room-on = neither (ltb 1000000000 (limits .steps)) _ e .1 in
-      (ltb-false 16384 (limits .room) (neither _ _ room-on .0), ltb-false cells (2 * vars * limits .room) (neither _ _ room-on .1))
+  limits-are : inLimits vars limits cells ≡ true → (limits .room ≤ 16384) × (2 * vars * limits .room ≤ cells)
+  limits-are e =
+      let later = both _ _ (both _ _ e .1) in
+      (leb-true (limits .room) 16384 (later .0), leb-true (2 * vars * limits .room) cells (later .1))
 
 pub room-fits : {v n : ℕ} → v ≤ 16 → n ≤ 16384 → Fits w64 (2 * v * n)
 room-fits {v} {n} few small = record { fits = omega (arith, mul-le-mul (mul-le-mul-left 2 few) small) }
@@ -164,66 +164,64 @@ some-if false x = refl
 
 -- ---- a call, refused or opened
 
-module _ (sort : Sort) (c : Call) (first : Start) where
-  abbrev limits-last : Option Refusal
-  limits-last = onlyIf (beyond (decode (c .file)) c) BadLimits
+module _ (sort : Wanted) (c : Call) (first : Start) where
+  abbrev limits-last : List (Bool × Refusal)
+  limits-last = (inLimits (vars (c .file)) (c .limits) (length (c .workspace)), BadLimits) ∷ []
 
-  abbrev start-next : Option Refusal
-  start-next = choose (not (isSome (startRow (decode (c .file)) (vars (c .file)) (c .start)))) (some BadStart) limits-last
+  abbrev start-next : List (Bool × Refusal)
+  start-next = (isSome (startRow (c .file) (vars (c .file)) (c .start)), BadStart) ∷ limits-last
 
-  abbrev node-next : Option Refusal
-  node-next = choose (leb (nodes (c .file)) (c .node) or not (isSort sort (sortOf (nodeAt (c .file) (c .node))))) (some NoSuchNode) start-next
+  abbrev node-next : List (Bool × Refusal)
+  node-next = (ltb (c .node) (nodes (c .file)) and isSort (sortFor sort) (sortOf (nodeAt (c .file) (c .node))), NoSuchNode) ∷ start-next
 
-  refused-with : (n : Refusal) {r : Opening} → against sort (decode (c .file)) c ≡ some n → r ≡ turnedDown n (first .env) → Opens sort c r
+  refused-with : (n : Refusal) {r : Opening} → against (sortFor sort) c ≡ some n → r ≡ turnedDown n (first .env) → Opens (sortFor sort) c r
   unfolding refusalIn
   refused-with n e is = rw is (record { is = sym e; opened = tt })
 
   module _ (many : ℕ) (points-are : many ≡ points (c .file)) where
-    pub no-such-point : {r : Opening} → many ≤ c .point → r ≡ turnedDown NoSuchPoint (first .env) → Opens sort c r
-    unfolding against decode
-    no-such-point le is = refused-with NoSuchPoint (yes _ (le-leb (points (c .file)) (c .point) (omega arith))) is
+    pub no-such-point : {r : Opening} → many ≤ c .point → r ≡ turnedDown NoSuchPoint (first .env) → Opens (sortFor sort) c r
+    unfolding against
+    no-such-point le is = refused-with NoSuchPoint (no _ (le-ltb (c .point) (points (c .file)) (omega arith)) refl) is
 
-    module _ (there : c .point < many) (passed : Checked (c .file)) (nd : Node) (node-is : nd ≡ nodeAt (c .file) (c .node)) (right : Bool) (sorted : right ≡ isSort sort (sortOf nd)) where
-      past-point : {x : Option Refusal} → node-next ≡ x → against sort (decode (c .file)) c ≡ x
-      unfolding against decode caseOf
-      past-point e = no _ (lt-leb (points (c .file)) (c .point) (omega arith)) e
+    module _ (there : c .point < many) (passed : Checked (c .file)) (nd : Node) (node-is : nd ≡ nodeAt (c .file) (c .node)) (right : Bool) (sorted : right ≡ isSort (sortFor sort) (sortOf nd)) where
+      past-point : {x : Option Refusal} → firstBroken node-next ≡ x → against (sortFor sort) c ≡ x
+      unfolding against
+      past-point e = yes _ (lt-ltb (c .point) (points (c .file)) (omega arith)) ∙ e
 
-      node-test : (leb (nodes (c .file)) (c .node) or not (isSort sort (sortOf (nodeAt (c .file) (c .node))))) ≡ not right
+      node-test : (ltb (c .node) (nodes (c .file)) and isSort (sortFor sort) (sortOf (nodeAt (c .file) (c .node)))) ≡ right
       node-test =
           no-sort-beyond sort (c .file) (c .node) (checked-bodies passed)
-          ∙ ap not (sym (sorted ∙ ap (λ (n : Node). isSort sort (sortOf n)) node-is))
+          ∙ sym (sorted ∙ ap (λ (n : Node). isSort (sortFor sort) (sortOf n)) node-is)
 
-      pub no-such-node : {r : Opening} → not right ≡ true → r ≡ turnedDown NoSuchNode (first .env) → Opens sort c r
-      no-such-node wrong is = refused-with NoSuchNode (past-point (yes _ (node-test ∙ wrong))) is
+      pub no-such-node : {r : Opening} → not right ≡ true → r ≡ turnedDown NoSuchNode (first .env) → Opens (sortFor sort) c r
+      no-such-node wrong is = refused-with NoSuchNode (past-point (no _ (node-test ∙ not-true right wrong) refl)) is
 
       module _ (fine : not right ≡ false) (starts : Starts (c .file) (c .start) first) where
-        past-node : {x : Option Refusal} → start-next ≡ x → against sort (decode (c .file)) c ≡ x
-        past-node e = past-point (no _ (node-test ∙ fine) e)
+        past-node : {x : Option Refusal} → firstBroken start-next ≡ x → against (sortFor sort) c ≡ x
+        past-node e = past-point (yes _ (node-test ∙ not-false right fine) ∙ e)
 
-        start-test : isSome (startRow (decode (c .file)) (vars (c .file)) (c .start)) ≡ first .ok
+        start-test : isSome (startRow (c .file) (vars (c .file)) (c .start)) ≡ first .ok
         start-test = rw (← starts .is) (some-if (first .ok) (rowOf (first .env)))
 
-        pub bad-start : {r : Opening} → not (first .ok) ≡ true → r ≡ turnedDown BadStart (first .env) → Opens sort c r
-        bad-start wrong is = refused-with BadStart (past-node (yes _ (ap not start-test ∙ wrong))) is
+        pub bad-start : {r : Opening} → not (first .ok) ≡ true → r ≡ turnedDown BadStart (first .env) → Opens (sortFor sort) c r
+        bad-start wrong is = refused-with BadStart (past-node (no _ (start-test ∙ not-true (first .ok) wrong) refl)) is
 
-        module _ (good : not (first .ok) ≡ false) (over : Bool) (over-is : over ≡ overLimits (first .env .count) (c .limits) (length (c .workspace))) where
-          past-start : {x : Option Refusal} → limits-last ≡ x → against sort (decode (c .file)) c ≡ x
-          past-start e = past-node (no _ (ap not start-test ∙ good) e)
+        module _ (good : not (first .ok) ≡ false) (over : Bool) (over-is : over ≡ not (inLimits (first .env .count) (c .limits) (length (c .workspace)))) where
+          past-start : {x : Option Refusal} → firstBroken limits-last ≡ x → against (sortFor sort) c ≡ x
+          past-start e = past-node (yes _ (start-test ∙ not-false (first .ok) good) ∙ e)
 
-          beyond-is : beyond (decode (c .file)) c ≡ over
-          unfolding beyond decode
-          beyond-is = rw (over-is, starts .count)
+          limits-test : not (inLimits (vars (c .file)) (c .limits) (length (c .workspace))) ≡ over
+          limits-test = rw (← starts .count) (sym over-is)
 
-          pub bad-limits : {r : Opening} → over ≡ true → r ≡ turnedDown BadLimits (first .env) → Opens sort c r
-          unfolding onlyIf
-          bad-limits wrong is = refused-with BadLimits (past-start (rw (beyond-is, wrong))) is
+          pub bad-limits : {r : Opening} → over ≡ true → r ≡ turnedDown BadLimits (first .env) → Opens (sortFor sort) c r
+          bad-limits wrong is = refused-with BadLimits (past-start (no _ (not-true _ (limits-test ∙ wrong)) refl)) is
 
-          pub opened : over ≡ false → Opens sort c (record { against = Nothing; env = first .env })
+          pub opened : over ≡ false → Opens (sortFor sort) c (record { against = Nothing; env = first .env })
           unfolding onlyIf refusalIn startOr
           opened fits =
-              let limits = beyond-not (first .env .count) (c .limits) (length (c .workspace)) (sym over-is ∙ fits) in
+              let limits = limits-are (first .env .count) (c .limits) (length (c .workspace)) (not-false _ (sym over-is ∙ fits)) in
               record {
-                is = sym (past-start (rw (beyond-is, fits)));
+                is = sym (past-start (yes _ (not-false _ (limits-test ∙ fits))));
                 opened = record {
                   sized = starts .sized;
                   count = starts .count;

@@ -9,11 +9,14 @@ use Rattle.meaning.specs.declared.Env.{Env}
 use Rattle.meaning.specs.declared.Limits.{Limits}
 use Rattle.meaning.specs.declared.Meter.{Meter}
 use Rattle.meaning.specs.declared.Refusal.{Refusal}
+use Rattle.meaning.specs.declared.Refusal.the-variants.{BadOutput}
+use Rattle.meaning.specs.Tests.{choose}
 use Rattle.meaning.specs.Walk.{W, started, Outcome, answered, refused, outcome}
-use Rattle.meaning.specs.Case.{decode, vars}
+use Rattle.meaning.specs.Case.{vars}
 use Rattle.meaning.specs.Check.{Checked}
 use Rattle.meaning.specs.Rows.{Row}
-use Rattle.meaning.specs.Calls.{Call, walked, told, cleared, workspaceAfter, result, projected, outputFits, toOutput, rowsGiven, rowsCall}
+use Rattle.meaning.specs.Calls.{numberOf, Call, gives, refuses, told, cleared, workspaceAfter, result, filled, projected, outputFits, rowsGiven, rowsCall}
+use Rattle.meaning.specs.Laws.Calls.{walk-clears}
 use Rattle.rows.specs.declared.Relation.{Relation}
 use Rattle.rows.specs.declared.Relation.the-variants.{Held, Refused}
 use Rattle.rows.specs.Table.{Fit, rowsIn}
@@ -29,7 +32,7 @@ use Rattle.calls.specs.declared.SaidRows.the-variants.{Refuses}
 use Rattle.calls.specs.Promises.{callOf, asRows, Rowed}
 use Rattle.calls.specs.Opening.{sortFor, Opens}
 use Rattle.calls.specs.Given.{keptOf, fitting, saidOf, outputOf, saidFrom, outputFrom, TellsRows, Given}
-use Rattle.calls.proofs.Asked.{cellsFor, walking, atStart, opened, asked-not, walked-as, workspace-as}
+use Rattle.calls.proofs.Asked.{cellsFor, walking, atStart, opened, asked-not, unwritten, walked-as, workspace-as}
 
 -- ---- a relation that is held is an answer, its rows at the bottom; one that is refused, a refusal
 
@@ -77,32 +80,41 @@ part-fit ready long = record { vars = ready .fit .vars; room = ready .fit .room;
 
 -- ---- the rows call
 
-given-as : (c : Call) (binders output : List ℕ) (kept : List Row) (m : Meter) (fits : Bool) → toOutput c binders output kept m fits ≡ record {
-  result = record { said = saidOf kept m fits; workspace = cleared (2 * decode (c .file) .vars * c .limits .room) (c .workspace) };
+given-as : (c : Call) (binders output : List ℕ) (kept : List Row) (m : Meter) (fits : Bool) → choose fits (result c (gives (length kept) (m .steps) (m .most)) (filled binders kept ++ drop (length (filled binders kept)) output)) (result c (refuses (numberOf BadOutput) (m .steps) (m .most)) output) ≡ record {
+  said = saidOf kept m fits;
+  workspace = cleared (2 * vars (c .file) * c .limits .room) (c .workspace);
   output = outputOf binders output kept fits;
 }
-unfolding toOutput result told workspaceAfter saidOf outputOf
+unfolding choose result workspaceAfter numberOf saidOf outputOf
 given-as c binders output kept m true = refl
 given-as c binders output kept m false = refl
 
-told-as : (c : Call) (binders output : List ℕ) (o : Outcome (List Row)) → rowsGiven c binders output (walked o) ≡ record {
-  result = record { said = saidFrom (c .file) (vars (c .file)) binders output o; workspace = cleared (2 * decode (c .file) .vars * c .limits .room) (c .workspace) };
-  output = outputFrom (c .file) (vars (c .file)) binders output o;
+told-as : (c : Call) (binders output : List ℕ) (l : Limits) (w : W (List Row)) → rowsGiven c binders output (told (outcome l started w)) ≡ record {
+  said = saidFrom (c .file) (vars (c .file)) binders output (outcome l started w);
+  workspace = cleared (2 * vars (c .file) * c .limits .room) (c .workspace);
+  output = outputFrom (c .file) (vars (c .file)) binders output (outcome l started w);
 }
-unfolding rowsGiven result told workspaceAfter saidFrom outputFrom projected outputFits decode
-told-as c binders output (answered rows m) =
-    given-as c binders output (keptOf (c .file) binders rows) m (fitting (vars (c .file)) binders output (keptOf (c .file) binders rows))
-told-as c binders output (refused n m) = refl
+unfolding rowsGiven result told saidFrom outputFrom projected outputFits workspaceAfter
+told-as c binders output l w = go (outcome l started w) (walk-clears c l w)
+  where
+    go : (o : Outcome (List Row)) → workspaceAfter c (told o) ≡ cleared (2 * vars (c .file) * c .limits .room) (c .workspace) → rowsGiven c binders output (told o) ≡ record {
+      said = saidFrom (c .file) (vars (c .file)) binders output o;
+      workspace = cleared (2 * vars (c .file) * c .limits .room) (c .workspace);
+      output = outputFrom (c .file) (vars (c .file)) binders output o;
+    }
+    go (answered rows m) h =
+        given-as c binders output (keptOf (c .file) binders rows) m (fitting (vars (c .file)) binders output (keptOf (c .file) binders rows))
+    go (refused n m) h = ap (λ (after : List ℕ). record { said = refuses (numberOf n) (m .steps) (m .most); workspace = after; output = output }) h
 
 pub rows-refused : (s : List ℕ) (point n : ℕ) (start : List ℕ) (limits : Limits) (work : List ℕ) (binders output : List ℕ) {o : Opening} {k : Refusal} → Checked s → Opens (sortFor Condition) (callOf s point n start limits work) o → o .against ≡ TurnedDown k → Rowed (callOf s point n start limits work) binders output work output (Refuses k 0 0)
-unfolding rowsCall rowsGiven asRows result told workspaceAfter sortFor
+unfolding rowsCall rowsGiven asRows sortFor
 rows-refused s point n start limits work binders output {k = k} checked opens is =
-    record { is = sym (ap (rowsGiven (callOf s point n start limits work) binders output) (asked-not checked opens (λ m q. m .rows q) k is)) }
+    record { is = sym (ap (rowsGiven (callOf s point n start limits work) binders output) (asked-not checked opens (λ m q. m .rows q) k is) ∙ unwritten checked opens ℕ output k is) }
 
 pub rows-told : (s : List ℕ) (point n : ℕ) (start : List ℕ) (limits : Limits) (work : List ℕ) (binders output : List ℕ) {o : Opening} (part : List ℕ) {after output′ : List ℕ} {r : SaidRows} → Checked s → Opens (sortFor Condition) (callOf s point n start limits work) o → o .against ≡ Nothing → TellsRows s (o .env .count) binders output (outcome limits started (rowsFor s (walking limits (o .env) point) (o .env) (nodeRows n point))) output′ r → length part ≡ length (take (cellsFor (o .env) limits) work) → after ≡ cleared (cellsFor (o .env) limits) (part ++ drop (cellsFor (o .env) limits) work) → Rowed (callOf s point n start limits work) binders output after output′ r
 unfolding rowsCall rowsFor sortFor
 rows-told s point n start limits work binders output {o} part checked opens is tells long after =
     let a = walked-as checked opens is (λ m q. m .rows q) in
     record {
-      is = sym (ap (rowsGiven (callOf s point n start limits work) binders output) a ∙ told-as (callOf s point n start limits work) binders output _ ∙ sym (cc (tells .said, tells .written, workspace-as checked opens is part long after, opened opens is .count)));
+      is = sym (ap (rowsGiven (callOf s point n start limits work) binders output) a ∙ told-as (callOf s point n start limits work) binders output limits _ ∙ sym (cc (tells .said, tells .written, workspace-as checked opens is part long after, opened opens is .count)));
     }

@@ -13,10 +13,10 @@ use denote.Enum.Declared.{tagOf}
 use borrow.Author.Tests.{lt-ltb, le-ltb, not-true, not-false}
 use Rattle.meaning.specs.declared.Binding.{Binding}
 use Rattle.meaning.specs.declared.Env.{Env}
-use Rattle.meaning.specs.Tests.{_and_, onlyIf, pick}
-use Rattle.meaning.specs.Case.{File, Part, Value, values, strings, vars, valueAt, caseOf, decode}
+use Rattle.meaning.specs.Tests.{_and_, onlyIf, isSome, pick}
+use Rattle.meaning.specs.Case.{Part, Value, values, strings, vars, valueAt}
 use Rattle.meaning.specs.Check.{Checked}
-use Rattle.meaning.specs.Equal.{Bound}
+use Rattle.meaning.specs.Equal.{Bound, boundOf, integer}
 use Rattle.meaning.specs.Rows.{Row, inCells, rowOf}
 use Rattle.meaning.specs.Calls.{isInt, wellFormed, moreRow, startRow}
 use Rattle.meaning.specs.Laws.Checked.{vars-most}
@@ -34,7 +34,7 @@ abbrev NoInt : Read → Type 0
 NoInt w = OneOf (0 ∷ 1 ∷ 3 ∷ 4 ∷ 5 ∷ 6 ∷ 7 ∷ []) (tagOf the-type w)
 
 other-than-int : (part : ℕ → Part) (w : Read) → NoInt w → isInt (meant part w) ≡ false
-unfolding isInt meant
+unfolding isInt isSome integer boundOf meant
 other-than-int part Null h = refl
 other-than-int part (Flag b) h = refl
 other-than-int part (Int bits) h = absurd (miss (0 ∷ 1 ∷ 3 ∷ 4 ∷ 5 ∷ 6 ∷ 7 ∷ []) 2 tt h)
@@ -46,7 +46,7 @@ other-than-int part (Object r) h = refl
 
 module _ (part : ℕ → Part) (w : Read) (v : Value) where
   pub int-is : (bits : ℕ) → w ≡ Int bits → meant part w ≡ v → false ≡ not (isInt v)
-  unfolding isInt meant
+  unfolding isInt isSome integer boundOf meant
   int-is bits is e = cc (is, e)
 
   pub no-int : NoInt w → meant part w ≡ v → true ≡ not (isInt v)
@@ -55,27 +55,27 @@ module _ (part : ℕ → Part) (w : Read) (v : Value) where
 -- ---- one variable's two cells
 
 module _ (s : List ℕ) (tag bits : ℕ) where
-  pub formed-unbound : tag ≡ 0 → eqb bits 0 ≡ wellFormed (decode s) tag bits
+  pub formed-unbound : tag ≡ 0 → eqb bits 0 ≡ wellFormed s tag bits
   unfolding wellFormed pick
   formed-unbound e = rw e
 
-  pub formed-int : tag ≡ 1 → true ≡ wellFormed (decode s) tag bits
+  pub formed-int : tag ≡ 1 → true ≡ wellFormed s tag bits
   unfolding wellFormed pick
   formed-int e = rw e
 
-  pub formed-value : (n : ℕ) (r : Bool) → tag ≡ 2 → n ≡ values s → bits < n → r ≡ not (isInt (valueAt s bits)) → r ≡ wellFormed (decode s) tag bits
-  unfolding wellFormed pick decode caseOf _and_
+  pub formed-value : (n : ℕ) (r : Bool) → tag ≡ 2 → n ≡ values s → bits < n → r ≡ not (isInt (valueAt s bits)) → r ≡ wellFormed s tag bits
+  unfolding wellFormed pick _and_
   formed-value n r e m lt is = rw (e, lt-ltb bits (values s) (omega arith)) is
 
-  pub formed-no-value : (n : ℕ) → tag ≡ 2 → n ≡ values s → n ≤ bits → false ≡ wellFormed (decode s) tag bits
-  unfolding wellFormed pick decode caseOf _and_
+  pub formed-no-value : (n : ℕ) → tag ≡ 2 → n ≡ values s → n ≤ bits → false ≡ wellFormed s tag bits
+  unfolding wellFormed pick _and_
   formed-no-value n e m le = rw (e, le-ltb bits (values s) (omega arith))
 
-  pub formed-part : (n : ℕ) → tag ≡ 3 → n ≡ strings s → ltb bits n ≡ wellFormed (decode s) tag bits
-  unfolding wellFormed pick decode
+  pub formed-part : (n : ℕ) → tag ≡ 3 → n ≡ strings s → ltb bits n ≡ wellFormed s tag bits
+  unfolding wellFormed pick
   formed-part n e m = rw (e, m)
 
-pub formed-other : (s : List ℕ) (tag bits : ℕ) → (tag ≡ 0 → ⊥) → (tag ≡ 1 → ⊥) → (tag ≡ 2 → ⊥) → (tag ≡ 3 → ⊥) → false ≡ wellFormed (decode s) tag bits
+pub formed-other : (s : List ℕ) (tag bits : ℕ) → (tag ≡ 0 → ⊥) → (tag ≡ 1 → ⊥) → (tag ≡ 2 → ⊥) → (tag ≡ 3 → ⊥) → false ≡ wellFormed s tag bits
 unfolding wellFormed pick
 formed-other s zero bits a b c d = absurd (a refl)
 formed-other s (suc zero) bits a b c d = absurd (b refl)
@@ -85,7 +85,7 @@ formed-other s (suc (suc (suc (suc tag)))) bits a b c d = refl
 
 -- ---- the cells of all variables
 
-module _ (f : File) where
+module _ (f : List ℕ) where
   -- too few or too many
   start-many : (v : ℕ) (l : List ℕ) → (length l ≡ 2 * v → ⊥) → startRow f v l ≡ none
   unfolding startRow moreRow
@@ -124,7 +124,7 @@ pub record Reading (s start : List ℕ) (env : Env) (x : ℕ) : Type 0 where
   pub count : env .count ≡ vars s
   pub within : x ≤ vars s
   pub long : length start ≡ 2 * vars s
-  pub is : startRow (decode s) (vars s - x) (drop (2 * x) start) ≡ some (drop x (rowOf env))
+  pub is : startRow s (vars s - x) (drop (2 * x) start) ≡ some (drop x (rowOf env))
 
 -- sixteen slots that are free
 abbrev free : Binding
@@ -140,7 +140,7 @@ module _ (s start : List ℕ) where
   pub start-wrong-length : (v : ℕ) → v ≡ vars s → Checked s → (length start ≡ 2 * v → ⊥) → Starts s start (record { ok = false; env = blank v })
   unfolding onlyIf
   start-wrong-length v e h ne = record {
-    is = sym (start-many (decode s) (vars s) start (λ q. ne (omega arith)));
+    is = sym (start-many s (vars s) start (λ q. ne (omega arith)));
     sized = blank-sized v e h;
     count = e;
   }
@@ -179,15 +179,15 @@ module _ {s start : List ℕ} {env : Env} {y : ℕ} (t : Reading s start env y) 
     abbrev bits : ℕ
     bits = getD start (2 * x + 1) 0
 
-    one-more : startRow (decode s) (vars s - x) (drop (2 * x) start) ≡ moreRow (wellFormed (decode s) tag bits) (inCells tag bits) (some (drop (suc x) (rowOf env)))
+    one-more : startRow s (vars s - x) (drop (2 * x) start) ≡ moreRow (wellFormed s tag bits) (inCells tag bits) (some (drop (suc x) (rowOf env)))
     one-more =
         let k : vars s - x ≡ suc (vars s - suc x) = omega (arith, t .within) in
         let next : y ≡ suc x = omega arith in
-        let rest : startRow (decode s) (vars s - suc x) (drop (2 * suc x) start) ≡ some (drop (suc x) (rowOf env)) =
-        subst (λ (n : ℕ). startRow (decode s) (vars s - n) (drop (2 * n) start) ≡ some (drop n (rowOf env))) next (t .is) in
-        rw (k, ← rest) (start-more (decode s) x (vars s - suc x) start (omega (arith, t .within, t .long)))
+        let rest : startRow s (vars s - suc x) (drop (2 * suc x) start) ≡ some (drop (suc x) (rowOf env)) =
+        subst (λ (n : ℕ). startRow s (vars s - n) (drop (2 * n) start) ≡ some (drop n (rowOf env))) next (t .is) in
+        rw (k, ← rest) (start-more s x (vars s - suc x) start (omega (arith, t .within, t .long)))
 
-    module _ (formed : Bool) (are : formed ≡ wellFormed (decode s) tag bits) where
+    module _ (formed : Bool) (are : formed ≡ wellFormed s tag bits) where
       pub reading-more : {r : Env} → not formed ≡ false → Becomes env (set (rowOf env) x (inCells tag bits)) r → Reading s start r x
       unfolding moreRow onlyIf
       reading-more {r} good m =
@@ -205,7 +205,7 @@ module _ {s start : List ℕ} {env : Env} {y : ℕ} (t : Reading s start env y) 
       reading-bad bad =
           let v : x + (vars s - x) ≡ vars s = omega (arith, t .within) in
           record {
-            is = sym (rw v at (start-later (decode s) x (vars s - x) start (rw (← are, not-true formed bad) at one-more)));
+            is = sym (rw v at (start-later s x (vars s - x) start (rw (← are, not-true formed bad) at one-more)));
             sized = t .sized;
             count = t .count;
           }

@@ -1,8 +1,10 @@
 -- The public calls: a case that passes the check is a checked one, and one that does not is refused before all else
 use mathlib.Core.Path.{_≡_, refl, ap, sym, _∙_}
-use mathlib.Core.List.{List}
+use mathlib.Core.Bool.{Bool}
+use mathlib.Core.List.{List, []}
 use mathlib.Core.Option.{Option, none, some}
 use Prim.Native.Nat.{ℕ}
+use lib.IntN.{ℤ}
 use native.Mathlib.Omega.{arith}
 use Rattle.meaning.specs.declared.Limits.{Limits}
 use Rattle.meaning.specs.declared.Refusal.{Refusal}
@@ -10,7 +12,8 @@ use Rattle.meaning.specs.Walk.{W}
 use Rattle.meaning.specs.Case.{Sort, conditions, aggregates}
 use Rattle.meaning.specs.Check.{Checked, check}
 use Rattle.meaning.specs.Meaning.{Meaning, Question}
-use Rattle.meaning.specs.Calls.{not-asked, unlessRefused, asking, told, workspaceAfter, result, verdictCall, numberCall, rowsGiven, rowsCall}
+use Rattle.meaning.specs.Calls.{numberOf, Said, refuses, unlessRefused, asking, result, verdictCall, inBits, numberCall, rowsGiven, rowsCall}
+use Rattle.meaning.specs.Laws.Calls.{check-early, refused-early}
 use Rattle.casecheck.specs.declared.Contents.{Contents}
 use Rattle.casecheck.specs.declared.Checking.{Checking}
 use Rattle.casecheck.specs.declared.Checking.the-variants.{Passes, Refused}
@@ -32,18 +35,21 @@ refused-by s {r} {k} is refusing = go (check s) refl
     go (some n) e = let z : Refused k ≡ Refused n = cc (is, refusing, e) in let y : k ≡ n = cc in e ∙ ap some (sym y)
 
 module _ (s : List ℕ) {r : Checking} {k : Refusal} (is : r ≡ asChecking s) (refusing : r ≡ Refused k) (point n : ℕ) (start : List ℕ) (limits : Limits) (work : List ℕ) where
-  asked-not : {A : Type 0} (sort : Sort) (manner : Meaning → Question → W A) → asking sort manner (callOf s point n start limits work) ≡ not-asked k
+  asked-not : {A : Type 0} (sort : Sort) (manner : Meaning → Question → W A) → asking sort manner (callOf s point n start limits work) ≡ refuses (numberOf k) 0 0
   unfolding asking unlessRefused
   asked-not sort manner = rw (refused-by s is refusing) refl
 
+  unwritten : (A : Type 0) (output : List ℕ) → result {A = A} (callOf s point n start limits work) (refuses (numberOf k) 0 0) output ≡ record { said = refuses (numberOf k) 0 0; workspace = work; output = output }
+  unwritten A output = refused-early A (callOf s point n start limits work) k output (check-early s k (refused-by s is refusing))
+
   pub verdict-unchecked : Verdicts (callOf s point n start limits work) work (Ver.Refuses k 0 0)
-  unfolding verdictCall asVerdict result told workspaceAfter
-  verdict-unchecked = record { is = sym (ap (result (callOf s point n start limits work)) (asked-not conditions (λ m q. m .verdict q))) }
+  unfolding verdictCall asVerdict
+  verdict-unchecked = record { is = sym (ap (λ (said : Said Bool). result (callOf s point n start limits work) said []) (asked-not conditions (λ m q. m .verdict q)) ∙ unwritten Bool []) }
 
   pub number-unchecked : Numbers (callOf s point n start limits work) work (Num.Refuses k 0 0)
-  unfolding numberCall asNumber result told workspaceAfter
-  number-unchecked = record { is = sym (ap (result (callOf s point n start limits work)) (asked-not aggregates (λ m q. m .number q))) }
+  unfolding numberCall asNumber inBits
+  number-unchecked = record { is = sym (ap (λ (said : Said ℤ). result (callOf s point n start limits work) (inBits said) []) (asked-not aggregates (λ m q. m .number q)) ∙ unwritten ℕ []) }
 
   pub rows-unchecked : {binders output : List ℕ} → Rowed (callOf s point n start limits work) binders output work output (Rows.Refuses k 0 0)
-  unfolding rowsCall rowsGiven asRows result told workspaceAfter
-  rows-unchecked {binders} {output} = record { is = sym (ap (rowsGiven (callOf s point n start limits work) binders output) (asked-not conditions (λ m q. m .rows q))) }
+  unfolding rowsCall rowsGiven asRows
+  rows-unchecked {binders} {output} = record { is = sym (ap (rowsGiven (callOf s point n start limits work) binders output) (asked-not conditions (λ m q. m .rows q)) ∙ unwritten ℕ output) }

@@ -11,7 +11,7 @@ use Rattle.meaning.specs.Tests.{_and_}
 use Rattle.meaning.specs.Walk.{Outcome, answered, refused}
 use Rattle.meaning.specs.Case.{caseOf}
 use Rattle.meaning.specs.Rows.{Row, onto, addNew}
-use Rattle.meaning.specs.Calls.{Said, gives, refuses, walked, told, filled, allUnder}
+use Rattle.meaning.specs.Calls.{numberOf, Said, gives, refuses, told, inBits, filled, allUnder}
 use Rattle.calls.specs.declared.SaidRows.{SaidRows}
 use Rattle.calls.specs.declared.SaidVerdict.{SaidVerdict}
 use Rattle.calls.specs.declared.SaidNumber.{SaidNumber}
@@ -29,7 +29,7 @@ fitting v binders output kept = allUnder v binders and leb (length (filled binde
 
 unfoldable pub saidOf : List Row → Meter → Bool → Said ℕ
 saidOf kept m true = gives (length kept) (m .steps) (m .most)
-saidOf kept m false = refuses BadOutput (m .steps) (m .most)
+saidOf kept m false = refuses (numberOf BadOutput) (m .steps) (m .most)
 
 unfoldable pub outputOf : List ℕ → List ℕ → List Row → Bool → List ℕ
 outputOf binders output kept true = filled binders kept ++ drop (length (filled binders kept)) output
@@ -43,7 +43,7 @@ pub record Given (s : List ℕ) (v : ℕ) (m : Meter) (binders : List ℕ) (rows
 unfoldable pub saidFrom : List ℕ → ℕ → List ℕ → List ℕ → Outcome (List Row) → Said ℕ
 saidFrom s v binders output (answered rows m) =
     saidOf (keptOf s binders rows) m (fitting v binders output (keptOf s binders rows))
-saidFrom s v binders output (refused n m) = refuses n (m .steps) (m .most)
+saidFrom s v binders output (refused n m) = refuses (numberOf n) (m .steps) (m .most)
 
 unfoldable pub outputFrom : List ℕ → ℕ → List ℕ → List ℕ → Outcome (List Row) → List ℕ
 outputFrom s v binders output (answered rows m) =
@@ -54,9 +54,9 @@ pub record TellsRows (s : List ℕ) (v : ℕ) (binders output : List ℕ) (o : O
   pub said : asRows r ≡ saidFrom s v binders output o
   pub written : after ≡ outputFrom s v binders output o
 
--- a walk's verdict or number, told
+-- a walk's verdict, or the bits of its number, told
 pub record TellsVerdict (v : WalkVerdict) (r : SaidVerdict) : Type 0 where
-  pub is : asVerdict r ≡ told (walked (outcomeVerdict v))
+  pub is : asVerdict r ≡ told (outcomeVerdict v)
 
 pub record TellsNumber (v : WalkNumber) (r : SaidNumber) : Type 0 where
-  pub is : asNumber r ≡ told (walked (outcomeNumber v))
+  pub is : asNumber r ≡ inBits (told (outcomeNumber v))

@@ -3,13 +3,13 @@ use mathlib.Core.Path.{_≡_}
 use mathlib.Core.Bool.{Bool}
 use mathlib.Core.Option.{Option, none, some}
 use Prim.Native.Nat.{ℕ, _*_, _≤_, _<_}
-use lib.Dec.{ltb}
+use lib.Dec.{leb}
 use lib.ListN.{length}
 use Rattle.meaning.specs.declared.Env.{Env}
 use Rattle.meaning.specs.declared.Limits.{Limits}
 use Rattle.meaning.specs.declared.Refusal.{Refusal}
-use Rattle.meaning.specs.Tests.{_or_}
-use Rattle.meaning.specs.Case.{conditions, aggregates, decode, vars}
+use Rattle.meaning.specs.Tests.{_and_}
+use Rattle.meaning.specs.Case.{conditions, aggregates, vars}
 use Rattle.meaning.specs.Case.{Sort as NodeSort}
 use Rattle.meaning.specs.Rows.{rowOf}
 use Rattle.meaning.specs.Calls.{Call, startRow, startOr, against}
@@ -25,8 +25,8 @@ sortFor Condition = conditions
 sortFor Aggregate = aggregates
 
 -- the definition's test of limits, by the numbers that it reads: variables, limits, cells of the workspace
-abbrev pub overLimits : ℕ → Limits → ℕ → Bool
-overLimits v limits cells = ltb 1000000000 (limits .steps) or (ltb 16384 (limits .room) or ltb cells (2 * v * limits .room))
+abbrev pub inLimits : ℕ → Limits → ℕ → Bool
+inLimits v limits cells = leb (limits .steps) 1000000000 and leb (limits .room) 16384 and leb (2 * v * limits .room) cells
 
 unfoldable pub refusalIn : Against → Option Refusal
 refusalIn Nothing = none
@@ -39,7 +39,7 @@ turnedDown n env = record { against = Refused n; env = env }
 pub record Opened (c : Call) (env : Env) : Type 0 where
   pub sized : Sized env
   pub count : env .count ≡ vars (c .file)
-  pub bindings : rowOf env ≡ startOr (startRow (decode (c .file)) (vars (c .file)) (c .start))
+  pub bindings : rowOf env ≡ startOr (startRow (c .file) (vars (c .file)) (c .start))
   pub point : c .point < 16384
   pub room : c .limits .room ≤ 16384
   pub cells : 2 * env .count * c .limits .room ≤ length (c .workspace)
@@ -49,5 +49,5 @@ OpenedBy c env Nothing = Opened c env
 OpenedBy c env (Refused n) = Unit {0}
 
 pub record Opens (sort : NodeSort) (c : Call) (r : Opening) : Type 0 where
-  pub is : refusalIn (r .against) ≡ against sort (decode (c .file)) c
+  pub is : refusalIn (r .against) ≡ against sort c
   pub opened : OpenedBy c (r .env) (r .against)

@@ -1,13 +1,12 @@
--- What each asking call promises: what it says, and its buffers after it, are the defined call's
+-- What each of the four calls promises: what it says, with document 01's number of a refusal, and its buffers after it, are the defined call's
 use mathlib.Core.Path.{_≡_}
 use mathlib.Core.Bool.{Bool}
-use mathlib.Core.List.{List}
+use mathlib.Core.List.{List, [], _∷_}
 use Prim.Native.Nat.{ℕ}
-use lib.IntN.{ℤ}
-use mir.Val.{toZ}
-use mir.Syntax.{w64}
 use Rattle.meaning.specs.declared.Limits.{Limits}
-use Rattle.meaning.specs.Calls.{Call, Said, gives, refuses, Result, RowsResult, verdictCall, numberCall, rowsCall}
+use Rattle.meaning.specs.Calls.{numberOf, Call, Said, gives, refuses, Result, checkCall, verdictCall, numberCall, rowsCall}
+use Rattle.casecheck.specs.declared.Checking.{Checking}
+use Rattle.casecheck.specs.declared.Checking.the-variants as Che
 use Rattle.calls.specs.declared.SaidVerdict.{SaidVerdict}
 use Rattle.calls.specs.declared.SaidVerdict.the-variants as Ver
 use Rattle.calls.specs.declared.SaidNumber.{SaidNumber}
@@ -28,25 +27,32 @@ callOf s point node start limits work = record {
 
 -- ---- what the code's answers say
 
+unfoldable pub asCheck : Checking → Said (List ℕ)
+asCheck (Che.Passes k) = gives (k .vars ∷ k .strings ∷ k .values ∷ k .points ∷ k .nodes ∷ []) 0 0
+asCheck (Che.Refused n) = refuses (numberOf n) 0 0
+
 unfoldable pub asVerdict : SaidVerdict → Said Bool
 asVerdict (Ver.Gives b steps most) = gives b steps most
-asVerdict (Ver.Refuses n steps most) = refuses n steps most
+asVerdict (Ver.Refuses n steps most) = refuses (numberOf n) steps most
 
-unfoldable pub asNumber : SaidNumber → Said ℤ
-asNumber (Num.Gives u steps most) = gives (toZ w64 u) steps most
-asNumber (Num.Refuses n steps most) = refuses n steps most
+unfoldable pub asNumber : SaidNumber → Said ℕ
+asNumber (Num.Gives bits steps most) = gives bits steps most
+asNumber (Num.Refuses n steps most) = refuses (numberOf n) steps most
 
 unfoldable pub asRows : SaidRows → Said ℕ
 asRows (Rows.Gives n steps most) = gives n steps most
-asRows (Rows.Refuses n steps most) = refuses n steps most
+asRows (Rows.Refuses n steps most) = refuses (numberOf n) steps most
 
 -- ---- promises
 
+pub record Checks (s : List ℕ) (r : Checking) : Type 0 where
+  pub is : asCheck r ≡ checkCall s
+
 pub record Verdicts (c : Call) (after : List ℕ) (r : SaidVerdict) : Type 0 where
-  pub is : _≡_ {A = Result Bool} (record { said = asVerdict r; workspace = after }) (verdictCall c)
+  pub is : _≡_ {A = Result Bool} (record { said = asVerdict r; workspace = after; output = [] }) (verdictCall c)
 
 pub record Numbers (c : Call) (after : List ℕ) (r : SaidNumber) : Type 0 where
-  pub is : _≡_ {A = Result ℤ} (record { said = asNumber r; workspace = after }) (numberCall c)
+  pub is : _≡_ {A = Result ℕ} (record { said = asNumber r; workspace = after; output = [] }) (numberCall c)
 
 pub record Rowed (c : Call) (binders output after filled : List ℕ) (r : SaidRows) : Type 0 where
-  pub is : _≡_ {A = RowsResult} (record { result = record { said = asRows r; workspace = after }; output = filled }) (rowsCall binders output c)
+  pub is : _≡_ {A = Result ℕ} (record { said = asRows r; workspace = after; output = filled }) (rowsCall binders output c)

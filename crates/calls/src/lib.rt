@@ -7,9 +7,7 @@ use casecheck::Checking;
 use meaning::Limits;
 use meaning::NodeNo;
 use meaning::Refusal;
-ghost use mathlib.Core.Path.{_≡_};
-ghost use Rattle.casecheck.specs.Answer.{asChecking};
-ghost use Rattle.calls.specs.Promises.{callOf, Verdicts, Numbers, Rowed};
+ghost use Rattle.calls.specs.Promises.{callOf, Checks, Verdicts, Numbers, Rowed};
 
 // an answer or a refusal, each with the steps spent and the greatest number of rows held
 pub enum SaidVerdict {
@@ -30,7 +28,7 @@ pub enum SaidRows {
 }
 
 pub fn check(file: &[u8]) -> Checking
-    ensures { λ r. ⌜ r ≡ asChecking (now (file .entry)) ⌝ }
+    ensures { λ r. ⌜ Checks (now (file .entry)) r ⌝ }
 {
     casecheck::check(file)
 }

@@ -7,13 +7,12 @@ use meaning::NodeNo;
 use meaning::Refusal;
 use stringcheck::point_count;
 ghost use mathlib.Core.Path.{_≡_};
-ghost use mathlib.Core.Bool.{Bool};
+ghost use mathlib.Core.Bool.{Bool, not};
 ghost use Prim.Native.Nat.{_≤_};
-ghost use Rattle.meaning.specs.Case.{conditions, aggregates, sortOf};
+ghost use Rattle.meaning.specs.Case.{conditions, aggregates, isSort, sortOf};
 ghost use Rattle.meaning.specs.Check.{Checked};
-ghost use Rattle.meaning.specs.Calls.{isSort};
 ghost use Rattle.calls.specs.Promises.{callOf};
-ghost use Rattle.calls.specs.Opening.{sortFor, overLimits, turnedDown, Opens};
+ghost use Rattle.calls.specs.Opening.{sortFor, inLimits, turnedDown, Opens};
 
 // the sort of node that a call answers
 pub enum Sort {
@@ -84,7 +83,7 @@ fn is_aggregate(node: Node) -> bool
 // limits above their most, or a workspace too short for the rows
 fn beyond(vars: usize, limits: Limits, cells: usize) -> bool
     requires { ⌜ vars ≤ 16 ⌝ }
-    ensures { λ r. ⌜ _≡_ {A = Bool} r (overLimits vars limits cells) ⌝ }
+    ensures { λ r. ⌜ _≡_ {A = Bool} r (not (inLimits vars limits cells)) ⌝ }
 {
     if 1000000000 < limits.steps {
         return true;

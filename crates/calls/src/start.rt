@@ -9,7 +9,7 @@ use stringcheck::var_count;
 use tables::Value;
 ghost use mathlib.Core.Path.{_≡_};
 ghost use mathlib.Core.Bool.{Bool, not};
-ghost use Rattle.meaning.specs.Case.{decode, valueAt};
+ghost use Rattle.meaning.specs.Case.{valueAt};
 ghost use Rattle.meaning.specs.Check.{Checked};
 ghost use Rattle.meaning.specs.Calls.{isInt, wellFormed};
 ghost use Rattle.calls.specs.Start.{Starts};
@@ -35,7 +35,7 @@ fn is_no_int(s: &[u8], v: ValNo) -> bool
 // whether a variable's two cells are well formed
 fn well_formed(s: &[u8], tag: u64, bits: u64) -> bool
     requires { ⌜ Checked (now s) ⌝ }
-    ensures { λ r. ⌜ _≡_ {A = Bool} r (wellFormed (decode (now (s .entry))) tag bits) ⌝ }
+    ensures { λ r. ⌜ _≡_ {A = Bool} r (wellFormed (now (s .entry)) tag bits) ⌝ }
 {
     if tag == 0 {
         return bits == 0;

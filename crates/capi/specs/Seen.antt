@@ -2,34 +2,27 @@
 use mathlib.Core.Path.{_≡_}
 use mathlib.Core.Bool.{Bool, cond}
 use mathlib.Core.List.{List, [], _∷_, _++_}
-use mathlib.Core.Option.{Option, none, some}
 use Prim.Native.Nat.{ℕ}
 use lib.Dec.{ltb}
 use lib.ListN.{length, drop}
-use mir.Val.{ofZ}
-use mir.Syntax.{w64}
-use Rattle.meaning.specs.declared.Refusal.{Refusal}
 use Rattle.meaning.specs.Tests.{choose}
-use Rattle.meaning.specs.Case.{vars, strings, values, points, nodes}
-use Rattle.meaning.specs.Calls.{numberOf, checkCall, verdictCall, numberCall, rowsCall, Call, Said, gives, refuses, Result}
+use Rattle.meaning.specs.Calls.{checkCall, verdictCall, numberCall, rowsCall, Call, Said, gives, refuses, Result}
 
--- told that the cells for the answer are too few, before anything is done
+-- the layer's own complaint, which no document's refusal has: the cells for the answer are too few, and nothing was done
 abbrev pub tooFew : ℕ
-tooFew = 14
+tooFew = 100
+
+-- 0 for an answer, or the refusal's number
+unfoldable pub saidNumber : {A : Type 0} → Said A → ℕ
+saidNumber (gives a steps most) = 0
+saidNumber (refuses n steps most) = n
 
 -- ---- the check
 
-unfoldable pub checkNumber : Option Refusal → ℕ
-checkNumber none = 0
-checkNumber (some n) = numberOf n
-
--- V, strings, values, points, nodes
-abbrev pub contentsCells : List ℕ → List ℕ
-contentsCells s = vars s ∷ strings s ∷ values s ∷ points s ∷ nodes s ∷ []
-
-unfoldable pub contentsAfter : List ℕ → List ℕ → Option Refusal → List ℕ
-contentsAfter s lent none = contentsCells s ++ drop 5 lent
-contentsAfter s lent (some n) = lent
+-- V, strings, values, points, nodes where the case passes
+unfoldable pub contentsAfter : List ℕ → Said (List ℕ) → List ℕ
+contentsAfter lent (gives counts steps most) = counts ++ drop 5 lent
+contentsAfter lent (refuses n steps most) = lent
 
 -- the number returned, and the cells for the contents after the call
 pub record CheckSeen : Type 0 where
@@ -39,16 +32,12 @@ pub record CheckSeen : Type 0 where
 unfoldable pub checkSeen : List ℕ → List ℕ → CheckSeen
 checkSeen s lent =
     choose (ltb (length lent) 5) (record { number = tooFew; contents = lent })
-    (record { number = checkNumber (checkCall s); contents = contentsAfter s lent (checkCall s) })
+    (record { number = saidNumber (checkCall s); contents = contentsAfter lent (checkCall s) })
 
 pub record Checks (s lent after : List ℕ) (r : ℕ) : Type 0 where
   pub is : _≡_ {A = CheckSeen} (record { number = r; contents = after }) (checkSeen s lent)
 
 -- ---- asking
-
-unfoldable pub saidNumber : {A : Type 0} → Said A → ℕ
-saidNumber (gives a steps most) = 0
-saidNumber (refuses n steps most) = numberOf n
 
 -- the answer's cell (0 where refused), steps spent, the greatest number of rows held
 unfoldable pub toldCells : {A : Type 0} → (A → ℕ) → Said A → List ℕ
@@ -82,7 +71,7 @@ verdictSeen c lent =
 -- a number's cell has its 64 bits
 unfoldable pub numberSeen : Call → List ℕ → AskSeen
 numberSeen c lent =
-    choose (ltb (length lent) 3) (notAsked (c .workspace) lent) (askSeen (ofZ w64) (numberCall c) lent)
+    choose (ltb (length lent) 3) (notAsked (c .workspace) lent) (askSeen (λ bits. bits) (numberCall c) lent)
 
 -- what is seen of the other calls, and the output
 pub record RowsSeen : Type 0 where
@@ -93,7 +82,7 @@ unfoldable pub rowsSeen : List ℕ → List ℕ → Call → List ℕ → RowsSe
 rowsSeen binders output c lent =
     let r = rowsCall binders output c in
     choose (ltb (length lent) 3) (record { asked = notAsked (c .workspace) lent; output = output })
-    (record { asked = askSeen (λ n. n) (r .result) lent; output = r .output })
+    (record { asked = askSeen (λ n. n) r lent; output = r .output })
 
 -- workspace and told cells after the call, and the number returned
 abbrev pub seen : List ℕ → List ℕ → ℕ → AskSeen

@@ -13,8 +13,8 @@ ghost use Rattle.meaning.specs.Check.{Checked};
 ghost use Rattle.calls.specs.Promises.{callOf};
 ghost use Rattle.capi.specs.Seen.{Checks, TellsVerdict, TellsNumber, TellsRows};
 
-// the cells for the answer are too few
-const TOO_FEW: u64 = 14;
+// the layer's own complaint: the cells for the answer are too few
+const TOO_FEW: u64 = 100;
 
 #[no_mangle]
 pub extern "C" fn galivodern_check(file: &[u8], contents: &mut [u64]) -> u64

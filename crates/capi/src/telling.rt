@@ -7,8 +7,6 @@ ghost use mathlib.Core.Path.{_≡_};
 ghost use mathlib.Core.List.{[], _∷_, _++_};
 ghost use Prim.Native.Nat.{ℕ, _≤_};
 ghost use lib.ListN.{length, drop};
-ghost use mir.Val.{ofZ};
-ghost use mir.Syntax.{w64};
 ghost use Rattle.calls.specs.Promises.{asVerdict, asNumber, asRows};
 ghost use Rattle.capi.specs.Seen.{yesCell, saidNumber, toldCells};
 
@@ -58,7 +56,7 @@ pub fn tell_verdict(said: SaidVerdict, lent: &mut [u64]) -> u64
 
 pub fn tell_number(said: SaidNumber, lent: &mut [u64]) -> u64
     requires { ⌜ 3 ≤ length (now lent) ⌝ }
-    ensures { λ r. ⌜ (r ≡ saidNumber (asNumber said)) × (now (lent .exit) ≡ toldCells (ofZ w64) (asNumber said) ++ drop 3 (now (lent .entry))) ⌝ }
+    ensures { λ r. ⌜ (r ≡ saidNumber (asNumber said)) × (now (lent .exit) ≡ toldCells (λ (n : ℕ). n) (asNumber said) ++ drop 3 (now (lent .entry))) ⌝ }
 {
     match said {
         SaidNumber::Gives(bits, steps, most) => {

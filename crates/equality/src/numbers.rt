@@ -2,13 +2,12 @@
 use meaning::ArithOp;
 use meaning::CmpOp;
 use meaning::Interval;
-use meaning::TimeUnit;
 ghost use mathlib.Core.Path.{_≡_};
 ghost use mathlib.Core.Bool.{Bool};
 ghost use Prim.Native.Nat.{_*_, min};
 ghost use mir.Val.{toZ};
 ghost use mir.Syntax.{w64};
-ghost use Rattle.meaning.specs.Number.{calculate as calculated, clamp, secondsOf, seconds as secondsIn, inWindow};
+ghost use Rattle.meaning.specs.Number.{calculate as calculated, clamp, seconds as secondsIn, inWindow};
 ghost use Rattle.meaning.specs.Laws.Number.{bias};
 ghost use Rattle.meaning.specs.declared.ArithOp.the-variants.{Add, Sub, Mul};
 ghost use Rattle.equality.specs.Numbers.{orders, isNegative, magnitudeOf, signedBy};
@@ -158,23 +157,13 @@ pub fn calculate(op: ArithOp, a: u64, b: u64) -> u64
 
 // ---- windows
 
-fn seconds_of(unit: TimeUnit) -> u64
-    ensures { λ r. ⌜ toZ w64 r ≡ secondsOf unit ⌝ }
-{
-    match unit {
-        TimeUnit::Seconds => TimeUnit::SECOND,
-        TimeUnit::Minutes => TimeUnit::MINUTE,
-        TimeUnit::Hours => TimeUnit::HOUR,
-        TimeUnit::Days => TimeUnit::DAY,
-    }
-}
-
+// an interval's seconds, saturating
 pub fn seconds(within: Interval) -> u64
     ensures { λ r. ⌜ toZ w64 r ≡ secondsIn within ⌝ }
 {
     let amount = within.amount;
     let unit = within.unit;
-    saturating_mul(amount, seconds_of(unit))
+    saturating_mul(amount, unit.seconds())
 }
 
 // whether `later` lies at least 0 and at most `span` after `earlier`: each the 64 bits of a signed number

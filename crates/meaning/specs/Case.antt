@@ -1,7 +1,7 @@
 -- The case file: its contents, bodies and records, read from its bytes
 use mathlib.Core.List.{List, [], _∷_, map}
-use mathlib.Core.Option.{Option, none}
-use mathlib.Core.Bool.{not}
+use mathlib.Core.Option.{Option}
+use mathlib.Core.Bool.{Bool, true, false, not}
 use Prim.Native.Nat.{ℕ, zero, suc, _+_, _*_, _/_}
 use lib.Dec.{eqb}
 use lib.ListN.{getD, take, drop}
@@ -144,16 +144,6 @@ pub record Case : Type 0 where
   pub node : ℕ → Node
   pub list : ℕ → ℕ
 
--- a case with its log of points, and how many there are of each
-pub record File : Type 0 where
-  pub vars : ℕ
-  pub strings : ℕ
-  pub values : ℕ
-  pub points : ℕ
-  pub nodes : ℕ
-  pub case : Case
-  pub point : ℕ → Point
-
 -- ---- runs
 
 -- the numbers first, first + width, .. of so many items
@@ -267,89 +257,65 @@ module _ (s : List ℕ) where
   unfoldable pub caseOf : Case
   caseOf = record { text = text s; value = valueAt; node = nodeAt; list = list s }
 
-  unfoldable pub decode : File
-  decode = record {
-    vars = vars s;
-    strings = strings s;
-    values = values s;
-    points = points s;
-    nodes = nodes s;
-    case = caseOf;
-    point = pointAt;
-  }
-
 -- ---- nodes: their sorts and their children
 
 pub data Sort : Type 0 where
   conditions terms aggregates broken : Sort
 
+unfoldable pub isSort : Sort → Sort → Bool
+isSort conditions s = elim s [ conditions ↦ true | terms ↦ false | aggregates ↦ false | broken ↦ false ]
+isSort terms s = elim s [ conditions ↦ false | terms ↦ true | aggregates ↦ false | broken ↦ false ]
+isSort aggregates s = elim s [ conditions ↦ false | terms ↦ false | aggregates ↦ true | broken ↦ false ]
+isSort broken s = elim s [ conditions ↦ false | terms ↦ false | aggregates ↦ false | broken ↦ true ]
+
+-- a Predicate's children are its arguments' terms
+pub data Children : Type 0 where
+  leaf : Children
+  one : NodeNo → Children
+  two : NodeNo → NodeNo → Children
+  arguments : Run → Children
+
+-- a node's sort and its children
+abbrev pub about : Node → Sort × Children
+about (And l r) = (conditions, two l r)
+about (Or l r) = (conditions, two l r)
+about (Not n) = (conditions, one n)
+about (Formerly span n) = (conditions, one n)
+about (Previous span n) = (conditions, one n)
+about (Since l r span) = (conditions, two l r)
+about (Predicate namespace action kind args) = (conditions, arguments args)
+about (Comparison op l r) = (conditions, two l r)
+about (Exists x n) = (conditions, one n)
+about (Tp x) = (conditions, leaf)
+about (Literal v) = (terms, leaf)
+about (Context path) = (terms, leaf)
+about (Scope root path) = (terms, leaf)
+about (Variable x) = (terms, leaf)
+about Wildcard = (terms, leaf)
+about (Aggregate n) = (terms, one n)
+about (Arithmetic op l r) = (terms, two l r)
+about (Sum x binders n) = (aggregates, one n)
+about (Count binders n) = (aggregates, one n)
+about Broken = (broken, leaf)
+
 unfoldable pub sortOf : Node → Sort
-sortOf (And l r) = conditions
-sortOf (Or l r) = conditions
-sortOf (Not n) = conditions
-sortOf (Formerly span n) = conditions
-sortOf (Previous span n) = conditions
-sortOf (Since l r span) = conditions
-sortOf (Predicate namespace action kind arguments) = conditions
-sortOf (Comparison op l r) = conditions
-sortOf (Exists x n) = conditions
-sortOf (Tp x) = conditions
-sortOf (Literal v) = terms
-sortOf (Context path) = terms
-sortOf (Scope root path) = terms
-sortOf (Variable x) = terms
-sortOf Wildcard = terms
-sortOf (Aggregate n) = terms
-sortOf (Arithmetic op l r) = terms
-sortOf (Sum x binders n) = aggregates
-sortOf (Count binders n) = aggregates
-sortOf Broken = broken
+sortOf n = about n .0
 
--- how many children a node has
-unfoldable pub arity : Node → ℕ
-arity (And l r) = 2
-arity (Or l r) = 2
-arity (Not n) = 1
-arity (Formerly span n) = 1
-arity (Previous span n) = 1
-arity (Since l r span) = 2
-arity (Predicate namespace action kind arguments) = arguments .count
-arity (Comparison op l r) = 2
-arity (Exists x n) = 1
-arity (Tp x) = 0
-arity (Literal v) = 0
-arity (Context path) = 0
-arity (Scope root path) = 0
-arity (Variable x) = 0
-arity Wildcard = 0
-arity (Aggregate n) = 1
-arity (Arithmetic op l r) = 2
-arity (Sum x binders n) = 1
-arity (Count binders n) = 1
-arity Broken = 0
-
-abbrev two : NodeNo → NodeNo → ℕ → ℕ
-two l r i = pick (l .0 ∷ r .0 ∷ []) i 0
+abbrev pub howMany : Children → ℕ
+howMany leaf = 0
+howMany (one n) = 1
+howMany (two l r) = 2
+howMany (arguments args) = args .count
 
 -- child i, where the lists hold the arguments: path run, term
+abbrev pub childOf : (ℕ → ℕ) → Children → ℕ → ℕ
+childOf list leaf i = 0
+childOf list (one n) i = n .0
+childOf list (two l r) i = pick (l .0 ∷ r .0 ∷ []) i 0
+childOf list (arguments args) i = list (args .first + 3 * i + 2)
+
+unfoldable pub arity : Node → ℕ
+arity n = howMany (about n .1)
+
 unfoldable pub child : (ℕ → ℕ) → Node → ℕ → ℕ
-child list (And l r) i = two l r i
-child list (Or l r) i = two l r i
-child list (Not n) i = n .0
-child list (Formerly span n) i = n .0
-child list (Previous span n) i = n .0
-child list (Since l r span) i = two l r i
-child list (Predicate namespace action kind arguments) i = list (arguments .first + 3 * i + 2)
-child list (Comparison op l r) i = two l r i
-child list (Exists x n) i = n .0
-child list (Tp x) i = 0
-child list (Literal v) i = 0
-child list (Context path) i = 0
-child list (Scope root path) i = 0
-child list (Variable x) i = 0
-child list Wildcard i = 0
-child list (Aggregate n) i = n .0
-child list (Arithmetic op l r) i = two l r i
-child list (Sum x binders n) i = n .0
-child list (Count binders n) i = n .0
-child list Broken i = 0
+child list n i = childOf list (about n .1) i

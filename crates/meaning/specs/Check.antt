@@ -2,7 +2,7 @@
 use mathlib.Core.Path.{_≡_}
 use mathlib.Core.Bool.{Bool, false, not}
 use mathlib.Core.List.{List, [], _∷_}
-use mathlib.Core.Option.{Option, none, some}
+use mathlib.Core.Option.{Option, none}
 use Prim.Native.Nat.{ℕ, zero, suc, _+_, _*_, _-_, _%_}
 use lib.Dec.{leb, ltb, eqb}
 use lib.ListN.{length}
@@ -11,7 +11,7 @@ use Rattle.meaning.specs.declared.Node.{Node}
 use Rattle.meaning.specs.declared.Node.the-variants.{And, Or, Not, Formerly, Previous, Since, Predicate, Comparison, Exists, Tp, Literal, Context, Scope, Variable, Wildcard, Aggregate, Arithmetic, Sum, Count, Broken}
 use Rattle.meaning.specs.declared.Refusal.{Refusal}
 use Rattle.meaning.specs.declared.Refusal.the-variants.{BadContents, TooLarge, BadStrings, BadValues, BadPoints, BadNodes}
-use Rattle.meaning.specs.Tests.{_and_, _or_, choose, pick, allBelow, rises, within, levels, throughout}
+use Rattle.meaning.specs.Tests.{_and_, _or_, choose, firstBroken, pick, allBelow, rises, within, levels, throughout}
 use Rattle.meaning.specs.Text.{before, free, utf8}
 use Rattle.meaning.specs.Case.{nothing, contents, offset, size, vars, strings, values, members, points, nodes, lists, stringWord, valueWord, memberWord, pointWord, nodeWord, list, text, nodeAt, arity, child}
 
@@ -36,14 +36,14 @@ module _ (s : List ℕ) where
   bodyRule k = eqb (offset s k) (startOf k) and eqb (size s k % recordBytes k) 0
 
   unfoldable pub bodies : Bool
-  bodies = leb 64 (length s) and (eqb (contents s 0) 1 and (allBelow 7 bodyRule and eqb (startOf 7) (length s)))
+  bodies = leb 64 (length s) and eqb (contents s 0) 1 and allBelow 7 bodyRule and eqb (startOf 7) (length s)
 
   -- ---- 2: mosts
 
   unfoldable pub mosts : Bool
   mosts =
       leb (length s) 4194304
-      and (leb (strings s) 16384 and (leb (values s) 16384 and (leb (points s) 16384 and (leb (nodes s) 1024 and leb (vars s) 16))))
+      and leb (strings s) 16384 and leb (values s) 16384 and leb (points s) 16384 and leb (nodes s) 1024 and leb (vars s) 16
 
   -- ---- 3: strings
 
@@ -70,7 +70,7 @@ module _ (s : List ℕ) where
   orderRule k = rises (λ i j. before (text s i) (text s j)) k
 
   unfoldable pub stringRules : Bool
-  stringRules = endToEnd and (allBelow (strings s) utf8Rule and allBelow (strings s) orderRule)
+  stringRules = endToEnd and allBelow (strings s) utf8Rule and allBelow (strings s) orderRule
 
   -- ---- 4: values and members
 
@@ -117,17 +117,17 @@ module _ (s : List ℕ) where
   textRule v = isString (valueWord s v 1) and restZero v
 
   abbrev pub entityValueRule : ℕ → Bool
-  entityValueRule v = isString (valueWord s v 1) and (isString (valueWord s v 2) and eqb (valueWord s v 3) 0)
+  entityValueRule v = isString (valueWord s v 1) and isString (valueWord s v 2) and eqb (valueWord s v 3) 0
 
   abbrev pub arrayRule : ℕ → Bool
   arrayRule v =
       eqb (valueWord s v 3) 0
-      and (inTable (members s) 1 (valueWord s v 1) (valueWord s v 2) and allBelow (valueWord s v 2) (arrayItem v (valueWord s v 1)))
+      and inTable (members s) 1 (valueWord s v 1) (valueWord s v 2) and allBelow (valueWord s v 2) (arrayItem v (valueWord s v 1))
 
   abbrev pub objectRule : ℕ → Bool
   objectRule v =
       eqb (valueWord s v 3) 0
-      and (inTable (members s) 1 (valueWord s v 1) (valueWord s v 2) and allBelow (valueWord s v 2) (objectItem v (valueWord s v 1)))
+      and inTable (members s) 1 (valueWord s v 1) (valueWord s v 2) and allBelow (valueWord s v 2) (objectItem v (valueWord s v 1))
 
   abbrev pub noKind : ℕ → Bool
   noKind v = false
@@ -152,7 +152,7 @@ module _ (s : List ℕ) where
   depthRule v = leb (depth v) 32
 
   unfoldable pub valueRules : Bool
-  valueRules = allBelow (members s) memberRule and (allBelow (values s) valueRule and allBelow (values s) depthRule)
+  valueRules = allBelow (members s) memberRule and allBelow (values s) valueRule and allBelow (values s) depthRule
 
   -- ---- 5: points and entities
 
@@ -186,7 +186,7 @@ module _ (s : List ℕ) where
   unfoldable pub entityRule : ℕ → Bool
   entityRule i =
       (isString (list s i) and free 34 (text s (list s i)))
-      and (isString (list s (i + 1)) and plainObject (list s (i + 2)))
+      and isString (list s (i + 1)) and plainObject (list s (i + 2))
 
   unfoldable pub entityItem : ℕ → ℕ → Bool
   entityItem first i = entityRule (first + 3 * i) and rises (λ i j. entityBefore (first + 3 * i) (first + 3 * j)) i
@@ -197,13 +197,13 @@ module _ (s : List ℕ) where
   unfoldable pub pointRule : ℕ → Bool
   pointRule p =
       stringRun (pointWord s p 2) (pointWord s p 3)
-      and (isString (pointWord s p 4)
-      and (isString (pointWord s p 5)
-      and (isObject (pointWord s p 6)
-      and (plainObject (pointWord s p 7)
-      and (maybeValue (pointWord s p 8)
-      and (maybeValue (pointWord s p 9)
-      and entityRun (pointWord s p 10) (pointWord s p 11)))))))
+      and isString (pointWord s p 4)
+      and isString (pointWord s p 5)
+      and isObject (pointWord s p 6)
+      and plainObject (pointWord s p 7)
+      and maybeValue (pointWord s p 8)
+      and maybeValue (pointWord s p 9)
+      and entityRun (pointWord s p 10) (pointWord s p 11)
 
   unfoldable pub pointRules : Bool
   pointRules = allBelow (points s) pointRule
@@ -257,29 +257,29 @@ module _ (s : List ℕ) where
 
   -- the rule of node n by what it is; a unit, an op or a root is read from its own word
   unfoldable pub ruleOf : ℕ → Node → Bool
-  ruleOf n (And l r) = isCondition n (l .0) and (isCondition n (r .0) and zerosFrom n 3)
-  ruleOf n (Or l r) = isCondition n (l .0) and (isCondition n (r .0) and zerosFrom n 3)
+  ruleOf n (And l r) = isCondition n (l .0) and isCondition n (r .0) and zerosFrom n 3
+  ruleOf n (Or l r) = isCondition n (l .0) and isCondition n (r .0) and zerosFrom n 3
   ruleOf n (Not x) = isCondition n (x .0) and zerosFrom n 2
-  ruleOf n (Formerly span x) = leb (nodeWord s n 3) 3 and (isCondition n (x .0) and zerosFrom n 5)
-  ruleOf n (Previous span x) = leb (nodeWord s n 3) 3 and (isCondition n (x .0) and zerosFrom n 5)
-  ruleOf n (Since l r span) = isCondition n (l .0) and (isCondition n (r .0) and (leb (nodeWord s n 5) 3 and zerosFrom n 6))
+  ruleOf n (Formerly span x) = leb (nodeWord s n 3) 3 and isCondition n (x .0) and zerosFrom n 5
+  ruleOf n (Previous span x) = leb (nodeWord s n 3) 3 and isCondition n (x .0) and zerosFrom n 5
+  ruleOf n (Since l r span) = isCondition n (l .0) and isCondition n (r .0) and leb (nodeWord s n 5) 3 and zerosFrom n 6
   ruleOf n (Predicate namespace action kind arguments) =
       stringRun (namespace .first) (namespace .count)
-      and (isString (action .0)
-      and (isString (kind .0) and (argumentRun n (arguments .first) (arguments .count) and zerosFrom n 7)))
-  ruleOf n (Comparison op l r) = leb (nodeWord s n 1) 5 and (isOperand n (l .0) and (isOperand n (r .0) and zerosFrom n 4))
-  ruleOf n (Exists x b) = isVariable x and (isCondition n (b .0) and zerosFrom n 3)
+      and isString (action .0)
+      and isString (kind .0) and argumentRun n (arguments .first) (arguments .count) and zerosFrom n 7
+  ruleOf n (Comparison op l r) = leb (nodeWord s n 1) 5 and isOperand n (l .0) and isOperand n (r .0) and zerosFrom n 4
+  ruleOf n (Exists x b) = isVariable x and isCondition n (b .0) and zerosFrom n 3
   ruleOf n (Tp x) = isVariable x and zerosFrom n 2
-  ruleOf n (Literal v) = ltb (v .0) (values s) and (literal (v .0) and zerosFrom n 2)
-  ruleOf n (Context path) = leb 1 (path .count) and (pathRun (path .first) (path .count) and zerosFrom n 3)
-  ruleOf n (Scope root path) = leb (nodeWord s n 1) 1 and (pathRun (path .first) (path .count) and zerosFrom n 4)
+  ruleOf n (Literal v) = ltb (v .0) (values s) and literal (v .0) and zerosFrom n 2
+  ruleOf n (Context path) = leb 1 (path .count) and pathRun (path .first) (path .count) and zerosFrom n 3
+  ruleOf n (Scope root path) = leb (nodeWord s n 1) 1 and pathRun (path .first) (path .count) and zerosFrom n 4
   ruleOf n (Variable x) = isVariable x and zerosFrom n 2
   ruleOf n Wildcard = zerosFrom n 1
   ruleOf n (Aggregate a) = isAggregate n (a .0) and zerosFrom n 2
-  ruleOf n (Arithmetic op l r) = leb (nodeWord s n 1) 2 and (isOperand n (l .0) and (isOperand n (r .0) and zerosFrom n 4))
+  ruleOf n (Arithmetic op l r) = leb (nodeWord s n 1) 2 and isOperand n (l .0) and isOperand n (r .0) and zerosFrom n 4
   ruleOf n (Sum x binders b) =
-      isVariable x and (variableRun (binders .first) (binders .count) and (isCondition n (b .0) and zerosFrom n 5))
-  ruleOf n (Count binders b) = variableRun (binders .first) (binders .count) and (isCondition n (b .0) and zerosFrom n 4)
+      isVariable x and variableRun (binders .first) (binders .count) and isCondition n (b .0) and zerosFrom n 5
+  ruleOf n (Count binders b) = variableRun (binders .first) (binders .count) and isCondition n (b .0) and zerosFrom n 4
   ruleOf n Broken = false
 
   unfoldable pub nodeRule : ℕ → Bool
@@ -299,18 +299,15 @@ module _ (s : List ℕ) where
 
   unfoldable pub check : Option Refusal
   check =
-      choose bodies
-      (choose mosts
-      (choose stringRules
-      (choose valueRules
-      (choose pointRules
-      (choose nodeRules none
-      (some BadNodes))
-      (some BadPoints))
-      (some BadValues))
-      (some BadStrings))
-      (some TooLarge))
-      (some BadContents)
+      firstBroken (
+      (bodies, BadContents)
+      ∷ (mosts, TooLarge)
+      ∷ (stringRules, BadStrings)
+      ∷ (valueRules, BadValues)
+      ∷ (pointRules, BadPoints)
+      ∷ (nodeRules, BadNodes)
+      ∷ []
+      )
 
 -- a case that passes
 pub record Checked (s : List ℕ) : Type 0 where

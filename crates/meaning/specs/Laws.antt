@@ -6,6 +6,7 @@ pub mod Number
 pub mod Lists
 pub mod Values
 pub mod Nodes
+pub mod Sorts
 pub mod Checked
 pub mod Walk
 pub mod Meaning

@@ -10,5 +10,6 @@ pub mod Rows
 pub mod Walk
 pub mod Meaning
 pub mod Calls
+pub mod Demands
 pub mod Laws
 pub mod Examples

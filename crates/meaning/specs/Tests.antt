@@ -33,6 +33,11 @@ unfoldable pub orElse : {A : Type 0} → Option A → Option A → Option A
 orElse none b = b
 orElse (some a) b = some a
 
+-- of rules that hold or not, each with its refusal: the first broken one's
+abbrev pub firstBroken : {A : Type 0} → List (Bool × A) → Option A
+firstBroken [] = none
+firstBroken (rule ∷ rules) = choose (rule .0) (firstBroken rules) (some (rule .1))
+
 -- the entry under a number
 unfoldable pub pick : {A : Type 0} → List A → ℕ → A → A
 pick [] n other = other

@@ -1,5 +1,10 @@
 // The plain types that the definition in specs/ and all code above share.
 
+ghost use mathlib.Core.Path.{_≡_};
+ghost use mir.Val.{toZ};
+ghost use mir.Syntax.{w64};
+ghost use Rattle.meaning.specs.Number.{secondsOf};
+
 // a string's number, in the strings' order
 pub struct StrNo(pub u32);
 
@@ -30,6 +35,18 @@ impl TimeUnit {
     pub const HOUR: u64 = 3600;
 
     pub const DAY: u64 = 86400;
+
+    // the unit's own seconds; an Interval's saturating product is `equality::seconds`
+    pub fn seconds(self) -> u64
+        ensures { λ r. ⌜ toZ w64 r ≡ secondsOf self ⌝ }
+    {
+        match self {
+            TimeUnit::Seconds => TimeUnit::SECOND,
+            TimeUnit::Minutes => TimeUnit::MINUTE,
+            TimeUnit::Hours => TimeUnit::HOUR,
+            TimeUnit::Days => TimeUnit::DAY,
+        }
+    }
 }
 
 // a window's length: the 64 bits of a signed amount, and its unit

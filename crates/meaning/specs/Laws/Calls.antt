@@ -1,63 +1,196 @@
 -- Demand 3: an asking call answers exactly when its limits reach the walk's numbers, and then with that answer and those numbers
-use mathlib.Core.Path.{_≡_, refl, _∙_, ap}
-use mathlib.Core.Bool.{true}
-use mathlib.Core.List.{List, _++_}
-use mathlib.Core.Option.{none}
+use mathlib.Core.Path.{_≡_, refl, sym, _∙_, ap}
+use mathlib.Core.Bool.{Bool, true}
+use mathlib.Core.List.{List, [], _∷_, _++_}
+use mathlib.Core.Option.{none, some}
 use Prim.Native.Nat.{ℕ, _*_, _≤_}
+use lib.Dec.{leb}
 use lib.ListN.{length, drop}
-use Rattle.meaning.specs.Tests.{_and_, _or_}
+use lib.IntN.{ℤ}
+use borrow.Author.Tests.{lt-ltb, le-leb, ltb-true, leb-true}
+use Rattle.meaning.specs.declared.Limits.{Limits}
+use Rattle.meaning.specs.declared.Refusal.{Refusal}
+use Rattle.meaning.specs.declared.Refusal.the-variants.{BadContents, TooLarge, BadStrings, BadValues, BadPoints, BadNodes, NoSuchPoint, NoSuchNode, BadStart, BadLimits, StepsExhausted, RoomExhausted, BadOutput}
+use Rattle.meaning.specs.Tests.{_and_, choose, pick}
 use Rattle.meaning.specs.Walk.{W, started, spent, most, Outcome, answered, refused, outcome}
-use Rattle.meaning.specs.Case.{Sort, conditions, vars, decode}
-use Rattle.meaning.specs.Check.{Checked}
+use Rattle.meaning.specs.Case.{Sort, conditions, terms, aggregates, broken, isSort, vars}
+use Rattle.meaning.specs.Check.{check, Checked, bodies, mosts, stringRules, valueRules, pointRules, nodeRules}
 use Rattle.meaning.specs.Rows.{Row}
 use Rattle.meaning.specs.Meaning.{Meaning, Question}
-use Rattle.meaning.specs.Calls.{Call, Said, gives, refuses, against, walked, walkOf, unlessRefused, asking, told, cleared, workspaceAfter, result, filled, projected, outputFits, toOutput, rowsGiven, rowsCall}
-use Rattle.meaning.specs.Laws.Walk.{answers, tells, Told, Exhausted}
+use Rattle.meaning.specs.Calls.{numberOf, Call, Said, gives, refuses, against, walkOf, told, unlessRefused, asking, cleared, workspaceAfter, result, inBits, filled, projected, outputFits, rowsGiven, rowsCall}
+use Rattle.meaning.specs.Demands.{Askable, steps-out, room-out, Tells}
+use Rattle.meaning.specs.Laws.Tests.{both, unbroken, either}
+use Rattle.meaning.specs.Laws.Walk.{answers, tells, Told}
 
--- a checked case, a point in it, a node of the sort, well-formed starting bindings, limits in range, a workspace long enough
-pub record Askable (sort : Sort) (c : Call) : Type 0 where
-  pub checked : Checked (c .file)
-  pub nothing-against : against sort (decode (c .file)) c ≡ none
+-- ---- 7 to 10: nothing is against a call exactly where document 01's conditions hold
+
+own-sort : (a : Sort) → isSort a a ≡ true
+unfolding isSort
+own-sort conditions = refl
+own-sort terms = refl
+own-sort aggregates = refl
+own-sort broken = refl
+
+same-sort : (a b : Sort) → isSort a b ≡ true → b ≡ a
+unfolding isSort
+same-sort conditions conditions e = refl
+same-sort conditions terms e = cc
+same-sort conditions aggregates e = cc
+same-sort conditions broken e = cc
+same-sort terms conditions e = cc
+same-sort terms terms e = refl
+same-sort terms aggregates e = cc
+same-sort terms broken e = cc
+same-sort aggregates conditions e = cc
+same-sort aggregates terms e = cc
+same-sort aggregates aggregates e = refl
+same-sort aggregates broken e = cc
+same-sort broken conditions e = cc
+same-sort broken terms e = cc
+same-sort broken aggregates e = cc
+same-sort broken broken e = refl
+
+pub nothing-against : {sort : Sort} {c : Call} → Askable sort c → against sort c ≡ none
+unfolding against choose _and_
+nothing-against {sort} ok =
+    rw (
+      lt-ltb _ _ (ok .point),
+      lt-ltb _ _ (ok .node),
+      ok .of-sort,
+      own-sort sort,
+      ok .start,
+      le-leb _ _ (ok .steps),
+      le-leb _ _ (ok .room),
+      le-leb _ _ (ok .cells),
+    ) refl
+
+pub askable : {sort : Sort} {c : Call} → Checked (c .file) → against sort c ≡ none → Askable sort c
+unfolding against
+askable checked e =
+    let h7 = unbroken _ _ _ e in
+    let h8 = unbroken _ _ _ (h7 .1) in
+    let h9 = unbroken _ _ _ (h8 .1) in
+    let limits = both _ _ (unbroken _ _ _ (h9 .1) .0) in
+    record {
+      checked = checked;
+      point = ltb-true _ _ (h7 .0);
+      node = ltb-true _ _ (both _ _ (h8 .0) .0);
+      of-sort = same-sort _ _ (both _ _ (h8 .0) .1);
+      start = h9 .0;
+      steps = leb-true _ _ (limits .0);
+      room = leb-true _ _ (both _ _ (limits .1) .0);
+      cells = leb-true _ _ (both _ _ (limits .1) .1);
+    }
+
+-- ---- the workspace: as it was after 1 to 10, cleared after a walk
+
+abbrev early : Refusal → Bool
+early n = leb (numberOf n) 10
+
+pub check-early : (s : List ℕ) (n : Refusal) → check s ≡ some n → leb (numberOf n) 10 ≡ true
+unfolding check numberOf
+check-early s n e =
+    either early (bodies s) _ _ refl
+    (either early (mosts s) _ _ refl
+    (either early (stringRules s) _ _ refl
+    (either early (valueRules s) _ _ refl
+    (either early (pointRules s) _ _ refl
+    (either early (nodeRules s) _ _ refl
+    (λ k none-is. cc)))))) n e
+
+pub against-early : (sort : Sort) (c : Call) (n : Refusal) → against sort c ≡ some n → leb (numberOf n) 10 ≡ true
+unfolding against numberOf
+against-early sort c n e =
+    either early _ _ _ refl
+    (either early _ _ _ refl
+    (either early _ _ _ refl
+    (either early _ _ _ refl
+    (λ k none-is. cc)))) n e
+
+-- refused before the walk: nothing is written
+pub refused-early : (A : Type 0) (c : Call) (n : Refusal) (output : List ℕ) → leb (numberOf n) 10 ≡ true → result {A = A} c (refuses (numberOf n) 0 0) output ≡ record { said = refuses (numberOf n) 0 0; workspace = c .workspace; output = output }
+unfolding result workspaceAfter choose
+refused-early A c n output e = rw e refl
+
+-- walked: cleared, whatever came of it
+module _ {A : Type 0} (c : Call) (l : Limits) (w : W A) where
+  abbrev afterWalk : List ℕ
+  afterWalk = cleared (2 * vars (c .file) * c .limits .room) (c .workspace)
+
+  pub walk-clears : workspaceAfter c (told (outcome l started w)) ≡ afterWalk
+  unfolding workspaceAfter told choose
+  walk-clears = go (outcome l started w) (tells l w)
+    where
+      go : (o : Outcome A) → Told l w o → workspaceAfter c (told o) ≡ afterWalk
+      go (answered a m) h = refl
+      go (refused n m) (steps-out e _ _) = rw e refl
+      go (refused n m) (room-out e _ _) = rw e refl
+
+pub bits-clear : (c : Call) (said : Said ℤ) → workspaceAfter c (inBits said) ≡ workspaceAfter c said
+unfolding workspaceAfter inBits
+bits-clear c (gives z steps most) = refl
+bits-clear c (refuses n steps most) = refl
+
+-- ---- an answer exactly when the limits suffice
 
 module _ {A : Type 0} (sort : Sort) (manner : Meaning → Question → W A) (c : Call) (ok : Askable sort c) where
-  asking-is : asking sort manner c ≡ walked (outcome (c .limits) started (walkOf manner c))
+  abbrev theWalk : W A
+  theWalk = walkOf manner (c .file) (c .point) (c .node) (c .start)
+
+  asking-is : asking sort manner c ≡ told (outcome (c .limits) started theWalk)
   unfolding asking unlessRefused
-  asking-is = rw (ok .checked .passes, ok .nothing-against) refl
+  asking-is = rw (ok .checked .passes, nothing-against ok) refl
 
   -- enough of both: the definition's answer, with its numbers
-  pub answers-when : spent (walkOf manner c) ≤ c .limits .steps → most (walkOf manner c) ≤ c .limits .room → told (asking sort manner c) ≡ gives (walkOf manner c .answer) (spent (walkOf manner c)) (most (walkOf manner c))
+  pub answers-when : spent theWalk ≤ c .limits .steps → most theWalk ≤ c .limits .room → asking sort manner c ≡ gives (theWalk .answer) (spent theWalk) (most theWalk)
   unfolding told spent most
-  answers-when hs hr = ap told (asking-is ∙ ap walked (answers (c .limits) (walkOf manner c) hs hr))
+  answers-when hs hr = asking-is ∙ ap told (answers (c .limits) theWalk hs hr)
 
   -- and only then; else 11 with all steps spent, or 12 with all room held
-  abbrev pub Tells : Said A → Type 0
-  Tells (gives a steps held) =
-      (a ≡ walkOf manner c .answer) × (steps ≡ spent (walkOf manner c)) × (held ≡ most (walkOf manner c))
-      × (spent (walkOf manner c) ≤ c .limits .steps) × (most (walkOf manner c) ≤ c .limits .room)
-  Tells (refuses n steps held) = Exhausted (c .limits) n steps held
-
-  pub answers-only-when : Tells (told (asking sort manner c))
+  pub answers-only-when : Tells (c .limits) theWalk (asking sort manner c)
   unfolding told
-  answers-only-when = rw asking-is (go (outcome (c .limits) started (walkOf manner c)) (tells (c .limits) (walkOf manner c)))
+  answers-only-when = rw asking-is (go (outcome (c .limits) started theWalk) (tells (c .limits) theWalk))
     where
-      go : (o : Outcome A) → Told (c .limits) (walkOf manner c) o → Tells (told (walked o))
+      go : (o : Outcome A) → Told (c .limits) theWalk o → Tells (c .limits) theWalk (told o)
       go (answered a m) h = h
       go (refused n m) h = h
 
 -- the rows call, with binders the case has and an output long enough for its rows
-pub rows-when : (c : Call) (binders output : List ℕ) (ok : Askable conditions c)
-    → let w : W (List Row) = walkOf (λ m q. m .rows q) c in
-    let kept : List Row = projected c binders (w .answer) in
-    outputFits c binders output kept ≡ true
+pub rows-when : (c : Call) (binders output : List ℕ) → Askable conditions c
+    → let w : W (List Row) = walkOf (λ m q. m .rows q) (c .file) (c .point) (c .node) (c .start) in
+    let kept : List Row = projected (c .file) binders (w .answer) in
+    outputFits (c .file) binders output kept ≡ true
     → spent w ≤ c .limits .steps → most w ≤ c .limits .room
     → rowsCall binders output c ≡ record {
-      result = record {
-        said = gives (length kept) (spent w) (most w);
-        workspace = cleared (2 * decode (c .file) .vars * c .limits .room) (c .workspace);
-      };
+      said = gives (length kept) (spent w) (most w);
+      workspace = cleared (2 * vars (c .file) * c .limits .room) (c .workspace);
       output = filled binders kept ++ drop (length (filled binders kept)) output;
     }
-unfolding rowsCall rowsGiven toOutput result told workspaceAfter spent most
+unfolding rowsCall rowsGiven result workspaceAfter choose
 rows-when c binders output ok fits hs hr =
-    ap (rowsGiven c binders output) (asking-is conditions (λ m q. m .rows q) c ok ∙ ap walked (answers (c .limits) (walkOf (λ m q. m .rows q) c) hs hr))
-    ∙ ap (toOutput c binders output _ _) fits
+    ap (rowsGiven c binders output) (answers-when conditions (λ m q. m .rows q) c ok hs hr) ∙ rw fits refl
+
+-- ---- no two refusals share a number
+
+refusalOf : ℕ → Refusal
+refusalOf k =
+    pick (BadContents ∷ BadContents ∷ TooLarge ∷ BadStrings ∷ BadValues ∷ BadPoints ∷ BadNodes ∷ NoSuchPoint ∷ NoSuchNode ∷ BadStart ∷ BadLimits ∷ StepsExhausted ∷ RoomExhausted ∷ BadOutput ∷ []) k BadContents
+
+numbered : (n : Refusal) → refusalOf (numberOf n) ≡ n
+unfolding refusalOf numberOf pick
+numbered BadContents = refl
+numbered TooLarge = refl
+numbered BadStrings = refl
+numbered BadValues = refl
+numbered BadPoints = refl
+numbered BadNodes = refl
+numbered NoSuchPoint = refl
+numbered NoSuchNode = refl
+numbered BadStart = refl
+numbered BadLimits = refl
+numbered StepsExhausted = refl
+numbered RoomExhausted = refl
+numbered BadOutput = refl
+
+pub one-refusal : (n n′ : Refusal) → numberOf n ≡ numberOf n′ → n ≡ n′
+one-refusal n n′ e = sym (numbered n) ∙ ap refusalOf e ∙ numbered n′

@@ -1,17 +1,14 @@
 -- What a passed check says, rule by rule: what everything above asks of a case
-use mathlib.Core.Path.{_≡_, refl}
-use mathlib.Core.Bool.{Bool, true, false}
+use mathlib.Core.Path.{_≡_}
+use mathlib.Core.Bool.{true}
 use mathlib.Core.List.{List}
-use mathlib.Core.Option.{Option, none, some}
 use Prim.Native.Nat.{ℕ, _<_, _≤_}
 use borrow.Author.Tests.{leb-true}
-use Rattle.meaning.specs.declared.Refusal.{Refusal}
-use Rattle.meaning.specs.declared.Refusal.the-variants.{BadContents, TooLarge, BadStrings, BadValues, BadPoints, BadNodes}
-use Rattle.meaning.specs.Tests.{_and_, choose, allBelow}
+use Rattle.meaning.specs.Tests.{_and_, allBelow}
 use Rattle.meaning.specs.Case.{strings, values, points, nodes, vars, list, nodeAt, valueAt, arity, child, caseOf}
 use Rattle.meaning.specs.Equal.{see, alike, sameValue}
 use Rattle.meaning.specs.Check.{check, Checked, bodies, mosts, stringRules, valueRules, pointRules, nodeRules, endToEnd, valueRule, nodeRule}
-use Rattle.meaning.specs.Laws.Tests.{both}
+use Rattle.meaning.specs.Laws.Tests.{both, unbroken}
 use Rattle.meaning.specs.Laws.Lists.{Every}
 use Rattle.meaning.specs.Laws.Values as Values
 use Rattle.meaning.specs.Laws.Nodes as Nodes
@@ -25,20 +22,15 @@ pub record Rules (s : List ℕ) : Type 0 where
   pub points : pointRules s ≡ true
   pub nodes : nodeRules s ≡ true
 
-chosen : (b : Bool) (x : Option Refusal) (r : Refusal) → choose b x (some r) ≡ none → (b ≡ true) × (x ≡ none)
-unfolding choose
-chosen true x r h = (refl, h)
-chosen false x r h = (cc, cc)
-
 pub rules : (s : List ℕ) → Checked s → Rules s
 unfolding check
 rules s c =
-    let h1 = chosen (bodies s) _ BadContents (c .passes) in
-    let h2 = chosen (mosts s) _ TooLarge (h1 .1) in
-    let h3 = chosen (stringRules s) _ BadStrings (h2 .1) in
-    let h4 = chosen (valueRules s) _ BadValues (h3 .1) in
-    let h5 = chosen (pointRules s) _ BadPoints (h4 .1) in
-    let h6 = chosen (nodeRules s) _ BadNodes (h5 .1) in
+    let h1 = unbroken (bodies s) _ _ (c .passes) in
+    let h2 = unbroken (mosts s) _ _ (h1 .1) in
+    let h3 = unbroken (stringRules s) _ _ (h2 .1) in
+    let h4 = unbroken (valueRules s) _ _ (h3 .1) in
+    let h5 = unbroken (pointRules s) _ _ (h4 .1) in
+    let h6 = unbroken (nodeRules s) _ _ (h5 .1) in
     record { bodies = h1 .0; mosts = h2 .0; strings = h3 .0; values = h4 .0; points = h5 .0; nodes = h6 .0 }
 
 module _ {s : List ℕ} (c : Checked s) where

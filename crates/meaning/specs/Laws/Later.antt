@@ -1,46 +1,50 @@
 -- Points added after the one asked about change nothing in what the three asking calls say
 use mathlib.Core.Path.{_≡_, refl, sym, _∙_, ap, fun-ext}
-use mathlib.Core.Bool.{Bool, true, false}
-use mathlib.Core.List.{List, [], _∷_, _++_}
+use mathlib.Core.List.{List, [], _∷_, _++_, append-nil}
 use Prim.Native.Nat.{ℕ, zero, suc, _+_, _*_, _/_, _≤_, _<_}
 use native.Mathlib.Omega.{arith}
 use lib.Dec.{lit<}
-use lib.ListN.{length, getD, take, drop, length-append}
-use borrow.Author.Tests.{lt-leb}
+use lib.ListN.{length, getD, take, drop, length-append, take-append-drop}
+use lib.Seq.{length-take-le, take-append-le}
+use borrow.Author.Tests.{lt-ltb}
 use Rattle.meaning.specs.declared.Refusal.the-variants.{BadOutput}
-use Rattle.meaning.specs.Tests.{_and_}
-use Rattle.meaning.specs.Walk.{W, answered, refused}
-use Rattle.meaning.specs.Case.{Case, File, Sort, conditions, aggregates, words, size, vars, strings, values, points, nodes, body, bodyWord, stringWord, valueWord, memberWord, pointWord, nodeWord, list, text, valueFrom, nodeFrom, partAt, valueAt, entityAt, pointAt, nodeAt, caseOf, decode}
+use Rattle.meaning.specs.Walk.{W}
+use Rattle.meaning.specs.Case.{Case, Sort, conditions, aggregates, words, size, vars, strings, values, points, nodes, body, bodyWord, stringWord, valueWord, memberWord, pointWord, nodeWord, list, text, valueFrom, nodeFrom, partAt, valueAt, entityAt, pointAt, nodeAt, caseOf}
 use Rattle.meaning.specs.Check.{Checked}
 use Rattle.meaning.specs.Rows.{Row}
 use Rattle.meaning.specs.Meaning.{Meaning, Question}
-use Rattle.meaning.specs.Calls.{Call, Result, wellFormed, startRow, startOr, beyond, against, Asked, not-asked, walked, walkOf, asking, workspaceAfter, result, verdictCall, numberCall, projected, outputFits, toOutput, rowsGiven, rowsCall}
+use Rattle.meaning.specs.Calls.{numberOf, Call, Said, gives, refuses, wellFormed, startRow, startOr, against, walkOf, asking, workspaceAfter, result, verdictCall, inBits, numberCall, filled, projected, outputFits, rowsGiven, rowsCall}
+use Rattle.meaning.specs.Demands.{SameTables, bytesUpTo, SameUpTo, SameAnswers, ofFile}
 use Rattle.meaning.specs.Laws.Words.{words-first}
 use Rattle.meaning.specs.Laws.Bodies.{body-length}
 use Rattle.meaning.specs.Laws.Checked.{checked-bodies}
 use Rattle.meaning.specs.Laws.Meaning.{later-points}
 
 -- two files that a call about point i cannot tell apart
-pub record Alike (f g : File) (i : ℕ) : Type 0 where
-  pub vars : f .vars ≡ g .vars
-  pub strings : f .strings ≡ g .strings
-  pub values : f .values ≡ g .values
-  pub nodes : f .nodes ≡ g .nodes
-  pub case : f .case ≡ g .case
-  pub point : (j : ℕ) → j ≤ i → f .point j ≡ g .point j
-  pub here : i < f .points
-  pub there : i < g .points
+record Alike (s t : List ℕ) (i : ℕ) : Type 0 where
+  vars : vars s ≡ vars t
+  strings : strings s ≡ strings t
+  values : values s ≡ values t
+  nodes : nodes s ≡ nodes t
+  case : caseOf s ≡ caseOf t
+  point : (j : ℕ) → j ≤ i → pointAt s j ≡ pointAt t j
+  here : i < points s
+  there : i < points t
 
--- the same call of another file
-unfoldable pub ofFile : Call → List ℕ → Call
-ofFile c s = record { file = s; point = c .point; node = c .node; start = c .start; limits = c .limits; workspace = c .workspace }
+module _ (c : Call) (s t : List ℕ) (alike : Alike s t (c .point)) where
+  value-same : (v : ℕ) → valueAt s v ≡ valueAt t v
+  unfolding caseOf
+  value-same v = ap (λ (k : Case). k .value v) (alike .case)
 
-module _ (c : Call) (s t : List ℕ) (alike : Alike (decode s) (decode t) (c .point)) where
-  formed-same : (tag n : ℕ) → wellFormed (decode s) tag n ≡ wellFormed (decode t) tag n
+  node-same : (n : ℕ) → nodeAt s n ≡ nodeAt t n
+  unfolding caseOf
+  node-same n = ap (λ (k : Case). k .node n) (alike .case)
+
+  formed-same : (tag n : ℕ) → wellFormed s tag n ≡ wellFormed t tag n
   unfolding wellFormed
-  formed-same tag n = cc (alike .values, alike .strings, alike .case)
+  formed-same tag n = cc (alike .values, alike .strings, value-same n)
 
-  row-same : (v : ℕ) (cells : List ℕ) → startRow (decode s) v cells ≡ startRow (decode t) v cells
+  row-same : (v : ℕ) (cells : List ℕ) → startRow s v cells ≡ startRow t v cells
   unfolding startRow
   row-same zero [] = refl
   row-same zero (a ∷ rest) = refl
@@ -48,64 +52,56 @@ module _ (c : Call) (s t : List ℕ) (alike : Alike (decode s) (decode t) (c .po
   row-same (suc v) (a ∷ []) = refl
   row-same (suc v) (a ∷ b ∷ rest) = cc (row-same v rest, formed-same a b)
 
-  start-same : startRow (decode s) (decode s .vars) (c .start) ≡ startRow (decode t) (decode t .vars) (c .start)
-  start-same = row-same (decode s .vars) (c .start) ∙ ap (λ (v : ℕ). startRow (decode t) v (c .start)) (alike .vars)
+  start-same : startRow s (vars s) (c .start) ≡ startRow t (vars t) (c .start)
+  start-same = row-same (vars s) (c .start) ∙ ap (λ (v : ℕ). startRow t v (c .start)) (alike .vars)
 
-  against-same : (sort : Sort) → against sort (decode s) (ofFile c s) ≡ against sort (decode t) (ofFile c t)
-  unfolding against ofFile beyond
+  against-same : (sort : Sort) → against sort (ofFile c s) ≡ against sort (ofFile c t)
+  unfolding against ofFile
   against-same sort =
-      cc (lt-leb _ _ (alike .here), lt-leb _ _ (alike .there), alike .nodes, alike .case, start-same, alike .vars)
+      cc (lt-ltb _ _ (alike .here), lt-ltb _ _ (alike .there), alike .nodes, node-same (c .node), start-same, alike .vars)
 
-  walk-same : {A : Type 0} (manner : Meaning → Question → W A) → walkOf manner (ofFile c s) ≡ walkOf manner (ofFile c t)
-  unfolding walkOf ofFile
+  walk-same : {A : Type 0} (manner : Meaning → Question → W A) → walkOf manner s (c .point) (c .node) (c .start) ≡ walkOf manner t (c .point) (c .node) (c .start)
+  unfolding walkOf
   walk-same manner =
-      cc (alike .case, start-same, later-points (decode s .point) (decode t .point) (c .point) (startOr (startRow (decode t) (decode t .vars) (c .start))) (alike .point))
+      cc (alike .case, start-same, later-points (pointAt s) (pointAt t) (c .point) (startOr (startRow t (vars t) (c .start))) (alike .point))
 
   module _ (hs : Checked s) (ht : Checked t) where
     asking-same : {A : Type 0} (sort : Sort) (manner : Meaning → Question → W A) → asking sort manner (ofFile c s) ≡ asking sort manner (ofFile c t)
     unfolding asking ofFile
     asking-same sort manner = cc (hs .passes, ht .passes, against-same sort, walk-same manner)
 
-    result-same : {A : Type 0} (a : Asked A) → result (ofFile c s) a ≡ result (ofFile c t) a
-    unfolding result workspaceAfter ofFile
-    result-same (not-asked n) = refl
-    result-same (walked o) = cc (alike .vars)
+    workspace-same : {A : Type 0} (said : Said A) → workspaceAfter (ofFile c s) said ≡ workspaceAfter (ofFile c t) said
+    unfolding workspaceAfter ofFile
+    workspace-same (gives a steps most) = cc (alike .vars)
+    workspace-same (refuses n steps most) = cc (alike .vars)
 
-    pub verdict-same : verdictCall (ofFile c s) ≡ verdictCall (ofFile c t)
+    result-same : {A : Type 0} (output : List ℕ) {said said′ : Said A} → said ≡ said′ → result (ofFile c s) said output ≡ result (ofFile c t) said′ output
+    unfolding result
+    result-same output {said} e = cc (e, workspace-same said)
+
+    verdict-same : verdictCall (ofFile c s) ≡ verdictCall (ofFile c t)
     unfolding verdictCall
-    verdict-same = ap (result (ofFile c s)) (asking-same conditions (λ m q. m .verdict q)) ∙ result-same _
+    verdict-same = result-same [] (asking-same conditions (λ m q. m .verdict q))
 
-    pub number-same : numberCall (ofFile c s) ≡ numberCall (ofFile c t)
+    number-same : numberCall (ofFile c s) ≡ numberCall (ofFile c t)
     unfolding numberCall
-    number-same = ap (result (ofFile c s)) (asking-same aggregates (λ m q. m .number q)) ∙ result-same _
+    number-same = result-same [] (ap inBits (asking-same aggregates (λ m q. m .number q)))
 
-    given-same : (binders output : List ℕ) (a : Asked (List Row)) → rowsGiven (ofFile c s) binders output a ≡ rowsGiven (ofFile c t) binders output a
-    unfolding rowsGiven projected outputFits ofFile result workspaceAfter
-    given-same binders output (not-asked n) = refl
-    given-same binders output (walked (refused n m)) = ap (λ (r : Result ℕ). record { result = r; output = output }) (result-same (walked (refused n m)))
-    given-same binders output (walked (answered rows m)) =
-        let kept : projected (ofFile c s) binders rows ≡ projected (ofFile c t) binders rows = cc (alike .case) in
-        let fits : outputFits (ofFile c s) binders output (projected (ofFile c s) binders rows) ≡ outputFits (ofFile c t) binders output (projected (ofFile c t) binders rows) = cc (alike .vars, kept) in
-        out-same _ ∙ cc (kept, fits)
-      where
-        out-same : (b : Bool) → toOutput (ofFile c s) binders output (projected (ofFile c s) binders rows) m b ≡ toOutput (ofFile c t) binders output (projected (ofFile c s) binders rows) m b
-        out-same true = unfold toOutput in cc (result-same (walked (answered (length (projected (ofFile c s) binders rows)) m)))
-        out-same false = unfold toOutput in cc (result-same {A = ℕ} (walked (refused BadOutput m)))
+    given-same : (binders output : List ℕ) (said : Said (List Row)) → rowsGiven (ofFile c s) binders output said ≡ rowsGiven (ofFile c t) binders output said
+    unfolding rowsGiven projected outputFits ofFile
+    given-same binders output (refuses n steps most) = result-same output refl
+    given-same binders output (gives rows steps most) =
+        let kept : projected s binders rows ≡ projected t binders rows = cc (alike .case) in
+        cc (
+          kept,
+          alike .vars,
+          result-same {A = ℕ} output (refl {a = refuses (numberOf BadOutput) steps most}),
+          result-same (filled binders (projected s binders rows) ++ drop (length (filled binders (projected s binders rows))) output) (refl {a = gives (length (projected s binders rows)) steps most}),
+        )
 
-    pub rows-same : (binders output : List ℕ) → rowsCall binders output (ofFile c s) ≡ rowsCall binders output (ofFile c t)
+    rows-same : (binders output : List ℕ) → rowsCall binders output (ofFile c s) ≡ rowsCall binders output (ofFile c t)
     unfolding rowsCall
     rows-same binders output = ap (rowsGiven (ofFile c s) binders output) (asking-same conditions (λ m q. m .rows q)) ∙ given-same binders output _
-
--- the same case with more points after those it has: V and all bodies but the points' as they were
-pub record Longer (s t : List ℕ) (more : List ℕ) : Type 0 where
-  pub vars : vars s ≡ vars t
-  pub strings : body s 0 ≡ body t 0
-  pub values : body s 1 ≡ body t 1
-  pub members : body s 2 ≡ body t 2
-  pub points : body t 3 ≡ body s 3 ++ more
-  pub nodes : body s 4 ≡ body t 4
-  pub lists : body s 5 ≡ body t 5
-  pub text : body s 6 ≡ body t 6
 
 -- a case by its bodies
 abbrev at : List ℕ → ℕ → ℕ
@@ -123,23 +119,28 @@ case-is : (s : List ℕ) → caseOf s ≡ caseFrom (body s 0) (body s 1) (body s
 unfolding caseOf caseFrom text valueAt partAt nodeAt list stringWord valueWord memberWord nodeWord bodyWord
 case-is s = refl
 
-module _ (s t more : List ℕ) (hs : Checked s) (ht : Checked t) (longer : Longer s t more) where
+module _ (s t : List ℕ) (hs : Checked s) (ht : Checked t) (i : ℕ) (up : SameUpTo i s t) where
   case-same : caseOf s ≡ caseOf t
-  case-same = cc (case-is s, case-is t, longer .strings, longer .values, longer .members, longer .nodes, longer .lists, longer .text)
+  case-same = cc (case-is s, case-is t, up .others .strings, up .others .values, up .others .members, up .others .nodes, up .others .lists, up .others .text)
 
   -- equal bodies have equal sizes
   size-same : (k : ℕ) → k < 7 → body s k ≡ body t k → size s k ≡ size t k
   size-same k hk e = sym (body-length s (checked-bodies hs) k hk) ∙ ap length e ∙ body-length t (checked-bodies ht) k hk
 
-  more-points : size s 3 ≤ size t 3
-  more-points =
-      omega (arith, body-length s (checked-bodies hs) 3 (lit< tt), body-length t (checked-bodies ht) 3 (lit< tt), ap length (longer .points), length-append (body s 3) more)
-
-  word-same : (p j : ℕ) → p < points s → j < 12 → pointWord s p j ≡ pointWord t p j
+  -- a word of a point up to i is a word of the points up to i
+  word-first : (u : List ℕ) → Checked u → i < points u → (p j : ℕ) → p ≤ i → j < 12 → pointWord u p j ≡ getD (words (take (bytesUpTo i) (body u 3))) (12 * p + j) 0
   unfolding pointWord bodyWord
+  word-first u hu hi p j hp hj =
+      let all = body-length u (checked-bodies hu) 3 (lit< tt) in
+      let long = length-take-le (bytesUpTo i) (body u 3) (omega (arith, all)) in
+      ap (λ (b : List ℕ). getD (words b) (12 * p + j) 0) (sym (take-append-drop (bytesUpTo i) (body u 3)))
+      ∙ words-first (take (bytesUpTo i) (body u 3)) (drop (bytesUpTo i) (body u 3)) (12 * p + j) (omega (arith, long))
+
+  word-same : (p j : ℕ) → p ≤ i → j < 12 → pointWord s p j ≡ pointWord t p j
   word-same p j hp hj =
-      sym (ap (λ (b : List ℕ). getD (words b) (12 * p + j) 0) (longer .points)
-      ∙ words-first (body s 3) more (12 * p + j) (omega (arith, body-length s (checked-bodies hs) 3 (lit< tt))))
+      word-first s hs (up .here) p j hp hj
+      ∙ ap (λ (b : List ℕ). getD (words b) (12 * p + j) 0) (up .points)
+      ∙ sym (word-first t ht (up .there) p j hp hj)
 
   list-same : list s ≡ list t
   unfolding caseOf
@@ -149,7 +150,7 @@ module _ (s t more : List ℕ) (hs : Checked s) (ht : Checked t) (longer : Longe
   unfolding entityAt
   entity-same = fun-ext (λ i. cc list-same)
 
-  point-same : (p : ℕ) → p < points s → pointAt s p ≡ pointAt t p
+  point-same : (p : ℕ) → p ≤ i → pointAt s p ≡ pointAt t p
   unfolding pointAt
   point-same p hp =
       cc (
@@ -169,24 +170,45 @@ module _ (s t more : List ℕ) (hs : Checked s) (ht : Checked t) (longer : Longe
         entity-same,
       )
 
-  -- so nothing that is asked about a point of the shorter one changes
-  pub longer-alike : (i : ℕ) → i < points s → Alike (decode s) (decode t) i
-  unfolding decode
-  longer-alike i hi = record {
-    vars = longer .vars;
-    strings = ap (λ (n : ℕ). n / 8) (size-same 0 (lit< tt) (longer .strings));
-    values = ap (λ (n : ℕ). n / 16) (size-same 1 (lit< tt) (longer .values));
-    nodes = ap (λ (n : ℕ). n / 32) (size-same 4 (lit< tt) (longer .nodes));
+  alike-up-to : Alike s t i
+  alike-up-to = record {
+    vars = up .others .vars;
+    strings = ap (λ (n : ℕ). n / 8) (size-same 0 (lit< tt) (up .others .strings));
+    values = ap (λ (n : ℕ). n / 16) (size-same 1 (lit< tt) (up .others .values));
+    nodes = ap (λ (n : ℕ). n / 32) (size-same 4 (lit< tt) (up .others .nodes));
     case = case-same;
-    point = λ j hj. point-same j (omega arith);
-    here = hi;
-    there = omega (arith, more-points);
+    point = point-same;
+    here = up .here;
+    there = up .there;
   }
 
-  pub later-points-change-nothing : (c : Call) → c .point < points s
-      → (verdictCall (ofFile c s) ≡ verdictCall (ofFile c t))
-      × (numberCall (ofFile c s) ≡ numberCall (ofFile c t))
-      × ((binders output : List ℕ) → rowsCall binders output (ofFile c s) ≡ rowsCall binders output (ofFile c t))
-  later-points-change-nothing c h =
-      let a = longer-alike (c .point) h in
-      (verdict-same c s t a hs ht, number-same c s t a hs ht, rows-same c s t a hs ht)
+-- so nothing that is asked about point i, or about an earlier one, changes
+pub later-points-change-nothing : (s t : List ℕ) → Checked s → Checked t → (c : Call) → SameUpTo (c .point) s t → SameAnswers c s t
+later-points-change-nothing s t hs ht c up =
+    let a = alike-up-to s t hs ht (c .point) up in
+    (verdict-same c s t a hs ht, number-same c s t a hs ht, rows-same c s t a hs ht)
+
+-- ---- two ways to come by such files
+
+module _ {s t : List ℕ} (hs : Checked s) (ht : Checked t) (others : SameTables s t) where
+  same-up-to : (i : ℕ) (first more more′ : List ℕ) → bytesUpTo i ≤ length first → body s 3 ≡ first ++ more → body t 3 ≡ first ++ more′ → SameUpTo i s t
+  same-up-to i first more more′ long es et = record {
+    others = others;
+    here = omega (arith, ap length es, length-append first more, body-length s (checked-bodies hs) 3 (lit< tt));
+    there = omega (arith, ap length et, length-append first more′, body-length t (checked-bodies ht) 3 (lit< tt));
+    points = part more (body s 3) es ∙ sym (part more′ (body t 3) et);
+  }
+    where
+      part : (rest b : List ℕ) → b ≡ first ++ rest → take (bytesUpTo i) b ≡ take (bytesUpTo i) first
+      part rest b e = ap (take (bytesUpTo i)) e ∙ take-append-le (bytesUpTo i) first rest long
+
+  -- points added at the log's end change nothing that is asked about a point of the shorter log
+  pub added-points-change-nothing : (more : List ℕ) → body t 3 ≡ body s 3 ++ more → (c : Call) → c .point < points s → SameAnswers c s t
+  added-points-change-nothing more e c inside =
+      let long : bytesUpTo (c .point) ≤ length (body s 3) = omega (arith, body-length s (checked-bodies hs) 3 (lit< tt)) in
+      later-points-change-nothing s t hs ht c (same-up-to (c .point) (body s 3) [] more long (sym (append-nil (body s 3))) e)
+
+  -- nor does a point put between two: log [p0, p1] beside [p0, q, p1], asked at 0
+  pub point-between-changes-nothing : (p0 q p1 : List ℕ) → length p0 ≡ 48 → body s 3 ≡ p0 ++ p1 → body t 3 ≡ p0 ++ (q ++ p1) → (c : Call) → c .point ≡ 0 → SameAnswers c s t
+  point-between-changes-nothing p0 q p1 long es et c first =
+      later-points-change-nothing s t hs ht c (same-up-to (c .point) p0 p1 (q ++ p1) (omega (arith, long, first)) es et)

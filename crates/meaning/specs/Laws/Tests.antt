@@ -2,6 +2,7 @@
 use mathlib.Core.Path.{_≡_, refl, sym, _∙_, ap, subst}
 use mathlib.Core.Bool.{Bool, true, false, not}
 use mathlib.Core.List.{List}
+use mathlib.Core.Option.{Option, none, some}
 use Prim.Native.Nat.{ℕ, zero, suc, _+_, _<_, _≤_, max}
 use native.Mathlib.Omega.{arith}
 use native.Mathlib.Numerals.{add-one}
@@ -57,6 +58,18 @@ yes y e = rw e
 pub no : {A : Type 0} {t : Bool} {y r : A} (x : A) → t ≡ false → y ≡ r → choose t x y ≡ r
 unfolding choose
 no x e f = rw e f
+
+-- where no rule of a list is broken, the first holds and nothing is said of the others
+pub unbroken : {A : Type 0} (rule : Bool) (n : A) (others : Option A) → choose rule others (some n) ≡ none → (rule ≡ true) × (others ≡ none)
+unfolding choose
+unbroken true n others h = (refl, h)
+unbroken false n others h = (cc, cc)
+
+-- what is said of a rule's refusal and of all later ones is said of the first broken one's
+pub either : {A : Type 0} (test : A → Bool) (rule : Bool) (n : A) (others : Option A) → test n ≡ true → ((k : A) → others ≡ some k → test k ≡ true) → (k : A) → choose rule others (some n) ≡ some k → test k ≡ true
+unfolding choose
+either test true n others h later k e = later k e
+either test false n others h later k e = let z : n ≡ k = cc in rw z at h
 
 -- ---- every record below a bound
 

@@ -1,11 +1,9 @@
 use borrow.Author.Needs.{needs}
-use mathlib.Core.Path.{refl, sym, _∙_}
-use mir.Facts.{ofZ-toZ}
-use mir.Val.{ofZ, Fits}
-use mir.Syntax.{w64}
+use mathlib.Core.Path.{refl}
+use Prim.Native.Nat.{ℕ}
 use Rattle.calls.specs.Promises.{asNumber}
 use Rattle.capi.specs.Seen.{saidNumber, toldCells}
-use Rattle.capi.proofs.Said.{told-so, first-cell}
+use Rattle.capi.proofs.Said.{told-so}
 use Rattle.capi.proofs.telling.tell_number.Statement.{statement}
 use Rattle.capi.proofs.telling.tell_number.Tie as tie
 
@@ -29,14 +27,14 @@ same-length c = search needs
 
 returns : tie.Need-returns
 unfolding saidNumber toldCells asNumber
-returns c = let h : Fits w64 (c .before .before .before .before .before .said .given .0 .0) = search (c .before .before .before .before .known-told .given, c .before .before .before .before .before .before .before .before .good, needs) in told-so asNumber (ofZ w64) (c .before .before .before .before .before .before .before .before .args .lent .now) (c .before .before .before .before .before .said .given .1) refl (c .before .before .tell .ensures ∙ first-cell _ _ _ (sym (ofZ-toZ h)))
+returns c = told-so asNumber (λ (n : ℕ). n) (c .before .before .before .before .before .before .before .before .args .lent .now) (c .before .before .before .before .before .said .given .1) refl (c .before .before .tell .ensures)
 
 same-length-2 : tie.Need-same-length-2
 same-length-2 c = search needs
 
 returns-2 : tie.Need-returns-2
 unfolding saidNumber toldCells asNumber
-returns-2 c = told-so asNumber (ofZ w64) (c .before .before .before .before .before .before .before .before .before .args .lent .now) (c .before .before .before .before .before .before .said2 .given .1) (c .number .ensures .0) (c .before .before .before .tell2 .ensures)
+returns-2 c = told-so asNumber (λ (n : ℕ). n) (c .before .before .before .before .before .before .before .before .before .args .lent .now) (c .before .before .before .before .before .before .said2 .given .1) (c .number .ensures .0) (c .before .before .before .tell2 .ensures)
 
 pub tell-number-spec : {M : Type 1} → statement M
 tell-number-spec =

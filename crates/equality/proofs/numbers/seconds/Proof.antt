@@ -3,8 +3,8 @@ use Rattle.equality.proofs.Saturates.{seconds-is}
 use Rattle.equality.proofs.numbers.seconds.Statement.{statement}
 use Rattle.equality.proofs.numbers.seconds.Tie as tie
 
-seconds-of-requires : tie.Need-seconds-of-requires
-seconds-of-requires c κs = search needs
+seconds-requires : tie.Need-seconds-requires
+seconds-requires c κs = search needs
 
 saturating-mul-requires : tie.Need-saturating-mul-requires
 saturating-mul-requires c κs = search needs
@@ -13,4 +13,4 @@ returns : tie.Need-returns
 returns c = search (seconds-is, needs)
 
 pub seconds-spec : {M : Type 1} → statement M
-seconds-spec = tie.close (tie.spec seconds-of-requires saturating-mul-requires returns)
+seconds-spec = tie.close (tie.spec seconds-requires saturating-mul-requires returns)

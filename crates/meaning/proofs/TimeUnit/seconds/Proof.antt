@@ -1,7 +1,7 @@
 use borrow.Author.Needs.{needs}
 use Rattle.meaning.specs.Number.{secondsOf}
-use Rattle.equality.proofs.numbers.seconds_of.Statement.{statement}
-use Rattle.equality.proofs.numbers.seconds_of.Tie as tie
+use Rattle.meaning.proofs.TimeUnit.seconds.Statement.{statement}
+use Rattle.meaning.proofs.TimeUnit.seconds.Tie as tie
 
 enum-told : tie.Need-enum-told
 enum-told c = search needs
@@ -31,7 +31,7 @@ returns-4 : tie.Need-returns-4
 unfolding secondsOf
 returns-4 c = rw (c .enum-told4 .given .1)
 
-pub seconds-of-spec : {M : Type 1} → statement M
-seconds-of-spec =
+pub seconds-spec : {M : Type 1} → statement M
+seconds-spec =
     tie.close
     (tie.spec enum-told enum-told-2 enum-told-3 enum-told-4 returns returns-2 returns-3 returns-4)

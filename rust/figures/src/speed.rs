@@ -19,7 +19,7 @@ enum Rule {
 }
 
 /// One question, ready to be put to both.
-struct Asked {
+pub struct Asked {
     case: Case,
     trace: Trace,
     rule: Rule,
@@ -29,7 +29,7 @@ struct Asked {
 }
 
 impl Asked {
-    fn new(packed: &Packed, room: usize) -> Result<Asked, String> {
+    pub fn new(packed: &Packed, room: usize) -> Result<Asked, String> {
         let case = Case::new(packed.tables.encode()).map_err(|refusal| refusal.to_string())?;
         let node = packed.node("asked").ok_or("the rule has another name")?;
         let converter = Converter { tables: &packed.tables };
@@ -43,7 +43,7 @@ impl Asked {
     }
 
     /// The answer's number and the steps it took.
-    fn ours(&self) -> Result<(i64, u64), String> {
+    pub fn ours(&self) -> Result<(i64, u64), String> {
         let unbound = Bindings::new();
         match self.rule {
             Rule::Condition(_) => self
@@ -59,7 +59,7 @@ impl Asked {
     }
 
     /// As a caller of the Rust does it: the request's environment, then the rule.
-    fn theirs(&self) -> i64 {
+    pub fn theirs(&self) -> i64 {
         let env = eval::request_env(&self.trace, self.point);
         match &self.rule {
             Rule::Condition(condition) => i64::from(eval::eval_condition(&self.trace, self.point, &env, condition)),
@@ -121,7 +121,7 @@ pub fn print_tables() -> Result<bool, String> {
 }
 
 /// Nanoseconds in a handy unit.
-fn shown(time: f64) -> String {
+pub fn shown(time: f64) -> String {
     match time {
         t if t < 1e3 => format!("{t:.0} ns"),
         t if t < 1e6 => format!("{:.1} µs", t / 1e3),

@@ -5,6 +5,8 @@ pub mod Steps
 pub mod Alike
 pub mod Joining
 pub mod Cells
+pub mod Rising
+pub mod Members
 pub mod Reach
 pub mod Attributes
 pub mod Hashing

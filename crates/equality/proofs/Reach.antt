@@ -1,7 +1,7 @@
--- What a path reaches: a name among members, names one after another, and the words of two runs
+-- What a path reaches: names one after another, and the words of two runs
 use mathlib.Core.Path.{_≡_, refl, sym, _∙_, ap}
 use mathlib.Core.Bool.{Bool, true, false}
-use mathlib.Core.List.{List, [], _∷_, map}
+use mathlib.Core.List.{List, _∷_, map}
 use mathlib.Core.Option.{Option, none, some}
 use Prim.Native.Nat.{ℕ, zero, suc, _+_, _-_, _<_, _≤_}
 use native.Mathlib.Omega.{arith}
@@ -10,7 +10,7 @@ use borrow.Author.Tests.{eq-eqb, ne-eqb}
 use Rattle.meaning.specs.declared.Run.{Run}
 use Rattle.meaning.specs.declared.ValNo.{ValNo}
 use Rattle.meaning.specs.Tests.{_and_, pick}
-use Rattle.meaning.specs.Case.{Part, valueWord, memberWord, pointWord, valueAt, valueFrom, partAt, pointAt, places, run, runOf, list, caseOf}
+use Rattle.meaning.specs.Case.{pointWord, valueAt, pointAt, places, run, runOf, list, caseOf}
 use Rattle.meaning.specs.Equal.{sameList, boundOf}
 use Rattle.meaning.specs.Look.{named, members, descend, boundAt, fieldAt, contextAt}
 use Rattle.meaning.specs.Rows.{inCells}
@@ -21,69 +21,6 @@ use Rattle.equality.specs.declared.Found.the-variants.{At, Nothing}
 use Rattle.equality.specs.Paths.{foundAt}
 use Rattle.equality.proofs.Scaling.{and-true}
 use Rattle.equality.proofs.Steps.{open-place, shut-place}
-use Rattle.equality.proofs.Cells.{value-as}
-
--- ---- a name among members
-
-named-by : (n : ℕ) (p : Part) (ps : List Part) (t : Bool) → eqb n (p .name) ≡ t → named n (p ∷ ps) ≡ elim t as (λ t. Option ℕ) [ true ↦ some (p .value) | false ↦ named n ps ]
-unfolding named
-named-by n p ps t e = ap (λ (t : Bool). elim t as (λ t. Option ℕ) [ true ↦ some (p .value) | false ↦ named n ps ]) e
-
-no-members : (part : ℕ → Part) (k a b : ℕ) → (k ≡ 7 → ⊥) → members (valueFrom part k a b) ≡ []
-unfolding members valueFrom pick
-no-members part zero a b h = refl
-no-members part (suc zero) a b h = refl
-no-members part (suc (suc zero)) a b h = refl
-no-members part (suc (suc (suc zero))) a b h = refl
-no-members part (suc (suc (suc (suc zero)))) a b h = refl
-no-members part (suc (suc (suc (suc (suc zero))))) a b h = refl
-no-members part (suc (suc (suc (suc (suc (suc zero)))))) a b h = refl
-no-members part (suc (suc (suc (suc (suc (suc (suc zero))))))) a b h = absurd (h refl)
-no-members part (suc (suc (suc (suc (suc (suc (suc (suc k)))))))) a b h = refl
-
-pub no-object : (s : List ℕ) (v n k : ℕ) → k ≡ valueWord s v 0 → (k ≡ 7 → ⊥) → foundAt Nothing ≡ named n (members (valueAt s v))
-unfolding foundAt valueAt named
-no-object s v n k ek ne = sym (ap (named n) (no-members (partAt s) (valueWord s v 0) (valueWord s v 1) (valueWord s v 2) (λ e. ne (ek ∙ e))))
-
--- object v: its kind k, where its run starts and how many members it has, as the code has them
-pub record IsObject (s : List ℕ) (v first count : ℕ) : Type 0 where
-  pub are : members (valueAt s v) ≡ map (partAt s) (places first 1 count)
-
-pub is-object : (s : List ℕ) (v k first count : ℕ) → k ≡ valueWord s v 0 → k ≡ 7 → first ≡ valueWord s v 1 → count ≡ valueWord s v 2 → IsObject s v first count
-unfolding members valueFrom pick
-is-object s v k first count ek e ef ec = record { are = ap members (value-as s v 7 k first count ek ef ec e) }
-
--- what is left is what is to be found
-pub record NamedFrom (s : List ℕ) (n first count at left : ℕ) : Type 0 where
-  pub inside : at + left ≡ first + count
-  pub rest : named n (map (partAt s) (places at 1 left)) ≡ named n (map (partAt s) (places first 1 count))
-
-pub named-start : (s : List ℕ) (n first count : ℕ) → NamedFrom s n first count first count
-named-start s n first count = record { inside = refl; rest = refl }
-
-module _ (s : List ℕ) (n first count at left : ℕ) (from : NamedFrom s n first count at left) where
-  member-open : (t : Bool) → 0 < left → eqb n (memberWord s at 0) ≡ t → named n (map (partAt s) (places first 1 count)) ≡ elim t as (λ t. Option ℕ) [ true ↦ some (memberWord s at 1) | false ↦ named n (map (partAt s) (places (at + 1) 1 (left - 1))) ]
-  unfolding partAt places
-  member-open t h e =
-      let z : left ≡ suc (left - 1) = omega arith in
-      let cut : places at 1 left ≡ at ∷ places (at + 1) 1 (left - 1) = ap (places at 1) z in
-      sym (from .rest) ∙ ap (λ (l : List ℕ). named n (map (partAt s) l)) cut ∙ named-by n (partAt s at) (map (partAt s) (places (at + 1) 1 (left - 1))) t e
-
-  pub member-passed : (x : ℕ) → 0 < left → x ≡ memberWord s at 0 → (n ≡ x → ⊥) → NamedFrom s n first count (at + 1) (left - 1)
-  member-passed x h ex ne =
-      record { inside = omega (arith, from .inside); rest = sym (member-open false h (ne-eqb n (memberWord s at 0) (λ e. ne (e ∙ sym ex)))) }
-
-  module _ (v : ℕ) (object : IsObject s v first count) where
-    pub member-found : (x : ℕ) (y : ValNo) → 0 < left → x ≡ memberWord s at 0 → n ≡ x → y .0 ≡ memberWord s at 1 → foundAt (At y) ≡ named n (members (valueAt s v))
-    unfolding foundAt
-    member-found x y h ex e ey =
-        ap some ey ∙ sym (ap (named n) (object .are) ∙ member-open true h (eq-eqb n (memberWord s at 0) (e ∙ ex)))
-
-    pub member-none : left ≤ 0 → foundAt Nothing ≡ named n (members (valueAt s v))
-    unfolding foundAt named places
-    member-none h =
-        let z : 0 ≡ left = omega arith in
-        ap (λ (k : ℕ). named n (map (partAt s) (places at 1 k))) z ∙ from .rest ∙ sym (ap (named n) (object .are))
 
 -- ---- names one after another
 

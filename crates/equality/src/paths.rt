@@ -9,10 +9,11 @@ use meaning::Run;
 use meaning::StrNo;
 use meaning::ValNo;
 use tables::list_at;
-use tables::member_word;
+use tables::offset_of;
 use tables::point_word;
 use tables::value_word;
 use tables::wide;
+use tables::word_at;
 ghost use mathlib.Core.Path.{_≡_};
 ghost use mathlib.Core.Bool.{Bool, true};
 ghost use mathlib.Core.List.{[], _∷_};
@@ -28,23 +29,33 @@ ghost use Rattle.equality.specs.Paths.{foundAt};
 
 // ---- objects
 
-// the value under name n in value v
+// the value under name n in value v; members rise by name, so half of what is left goes at each turn
 fn member_named(s: &[u8], v: ValNo, n: StrNo) -> Found
-    requires { ⌜ bodies (now s) ≡ true ⌝ }
+    requires { ⌜ Checked (now s) ⌝ }
     ensures { λ r. ⌜ foundAt r ≡ named (n .0) (members (valueAt (now (s .entry)) (v .0))) ⌝ }
 {
     if value_word(s, v, 0) != 7 {
         return Found::Nothing;
     }
     let name = n.0;
+    // a checked object's run lies in its table, so its words are read with no test
+    let table = wide(offset_of(s, 2)) / 4;
     let mut at = wide(value_word(s, v, 1));
     let mut left = wide(value_word(s, v, 2));
     while 0 < left {
-        if name == member_word(s, at, 0) {
-            return Found::At(ValNo(member_word(s, at, 1)));
+        let half = left / 2;
+        let middle = at + half;
+        let word = table + 2 * middle;
+        let here = word_at(s, word);
+        if name == here {
+            return Found::At(ValNo(word_at(s, word + 1)));
         }
-        at += 1;
-        left -= 1;
+        if name < here {
+            left = half;
+        } else {
+            at = middle + 1;
+            left = left - half - 1;
+        }
     }
     Found::Nothing
 }

@@ -3,6 +3,7 @@
 mod archive;
 mod checking;
 mod compare;
+mod lookups;
 mod shapes;
 mod speed;
 mod timing;
@@ -12,7 +13,9 @@ use std::process::ExitCode;
 const USAGE: &str = "usage: figures speed                        time a question, ours and the Rust's, on every shape
        figures check                        the check's throughput beside a plain pass
        figures compare N DAMAGED SEED       N questions and DAMAGED damaged files, put to all
-       figures once SHAPE TIMES ours|rust   ask one shape so often, to be profiled";
+       figures once SHAPE TIMES ours|rust   ask one shape so often, to be profiled
+       figures lookups                      time a name's lookup in records of 4 to 16,384 members
+       figures lookup MEMBERS first|last|miss TIMES ours|rust   one of them so often, to be profiled";
 
 fn main() -> ExitCode {
     let arguments: Vec<String> = std::env::args().skip(1).collect();
@@ -25,6 +28,10 @@ fn main() -> ExitCode {
             number(questions).and_then(|n| compare::run(n, number(copies)?, number(seed)?))
         }
         ["once", shape, times, who] => number(times).and_then(|n| speed::once(shape, n, who == "rust")),
+        ["lookups"] => lookups::print_table(),
+        ["lookup", members, name, times, who] => {
+            number(members).and_then(|m| lookups::once(m as usize, name, number(times)?, who == "rust"))
+        }
         _ => Err(USAGE.to_string()),
     };
     match done {

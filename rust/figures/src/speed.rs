@@ -2,6 +2,7 @@
 
 use std::hint::black_box;
 
+use casefile::text::Packed;
 use dogwood::extension::temporal::ast::{AggExpr, Condition};
 use dogwood::interpreter::eval;
 use dogwood::interpreter::value::Trace;
@@ -27,7 +28,7 @@ struct Theirs {
 }
 
 /// One question, ready to be put to both, or to ours alone.
-struct Asked {
+pub struct Asked {
     case: Case,
     theirs: Option<Theirs>,
     sort: Option<Sort>,
@@ -37,13 +38,12 @@ struct Asked {
 }
 
 impl Asked {
-    fn new(shape: &Shape, points: usize) -> Result<Asked, String> {
-        let packed = shape.case(points)?;
+    pub fn new(packed: &Packed, room: usize, alone: bool) -> Result<Asked, String> {
         let case = Case::new(packed.tables.encode()).map_err(|refusal| refusal.to_string())?;
         let node = packed.node("asked").ok_or("the rule has another name")?;
         let converter = Converter { tables: &packed.tables };
         let sort = case.sort(node);
-        let theirs = (!shape.alone).then(|| Theirs {
+        let theirs = (!alone).then(|| Theirs {
             trace: converter.trace(),
             rule: match sort {
                 Some(Sort::Aggregate) => Rule::Aggregate(converter.aggregate(node)),
@@ -51,12 +51,12 @@ impl Asked {
             },
         });
         let point = case.contents().points - 1;
-        let limits = Limits { steps: Limits::MOST_STEPS, room: shape.room };
+        let limits = Limits { steps: Limits::MOST_STEPS, room };
         Ok(Asked { case, theirs, sort, node, point, limits })
     }
 
     /// The answer's number and the steps it took.
-    fn ours(&self) -> Result<(i64, u64), String> {
+    pub fn ours(&self) -> Result<(i64, u64), String> {
         let unbound = Bindings::new();
         match self.sort {
             Some(Sort::Aggregate) => self
@@ -69,6 +69,11 @@ impl Asked {
                 .map(|answer| (i64::from(answer.value), answer.steps)),
         }
         .map_err(|refused| refused.to_string())
+    }
+
+    /// The Rust's answer, where it is asked.
+    pub fn theirs(&self) -> Option<i64> {
+        self.theirs.as_ref().map(|theirs| theirs.answer(self.point))
     }
 }
 
@@ -92,16 +97,15 @@ struct Timed {
 }
 
 fn timed(shape: &Shape, points: usize) -> Result<Timed, String> {
-    let asked = Asked::new(shape, points)?;
+    let asked = Asked::new(&shape.case(points)?, shape.room, shape.alone)?;
     let (answer, steps) = asked.ours()?;
-    let Some(theirs) = &asked.theirs else {
+    let Some(rust) = asked.theirs() else {
         return Ok(Timed { points, steps, ours: by_itself(|| asked.ours()), theirs: None });
     };
-    let rust = theirs.answer(asked.point);
     if answer != rust {
         return Err(format!("{}: {answer}, the Rust says {rust}", shape.name));
     }
-    let (ours, theirs) = by_turns(|| asked.ours(), || theirs.answer(asked.point));
+    let (ours, theirs) = by_turns(|| asked.ours(), || asked.theirs());
     Ok(Timed { points, steps, ours, theirs: Some(theirs) })
 }
 
@@ -140,7 +144,7 @@ pub fn print_tables() -> Result<bool, String> {
 }
 
 /// Nanoseconds in a handy unit.
-fn shown(time: f64) -> String {
+pub fn shown(time: f64) -> String {
     match time {
         t if t < 1e3 => format!("{t:.0} ns"),
         t if t < 1e6 => format!("{:.1} µs", t / 1e3),
@@ -152,11 +156,13 @@ fn shown(time: f64) -> String {
 /// One shape at 4x, so many times, of one side alone: for a profiler.
 pub fn once(name: &str, times: u64, rust: bool) -> Result<bool, String> {
     let shape = SHAPES.iter().find(|shape| shape.name == name).ok_or(format!("there is no shape `{name}`"))?;
-    let asked = Asked::new(shape, 4 * shape.points)?;
+    if rust && shape.alone {
+        return Err(format!("the Rust is {NOT_ASKED} of `{name}`"));
+    }
+    let asked = Asked::new(&shape.case(4 * shape.points)?, shape.room, shape.alone)?;
     for _ in 0..times {
         if rust {
-            let theirs = asked.theirs.as_ref().ok_or(format!("the Rust is {NOT_ASKED} of `{name}`"))?;
-            black_box(theirs.answer(asked.point));
+            black_box(asked.theirs());
         } else {
             black_box(asked.ours()?);
         }

@@ -1,17 +1,13 @@
 -- From what a call of `calls` says to what a caller in C sees
-use mathlib.Core.Path.{_≡_, sym, ap, _∙_}
+use mathlib.Core.Path.{_≡_, sym, ap}
 use mathlib.Core.List.{List, [], _∷_, _++_}
 use mathlib.Core.Option.{Option, none, some}
 use Prim.Native.Nat.{ℕ, _<_, _≤_}
 use lib.ListN.{length, drop}
-use lib.IntN.{ℤ}
 use borrow.Author.Tests.{lt-ltb, le-ltb}
 use mir.Val.{ofZ}
 use mir.Syntax.{w64}
 use Rattle.meaning.specs.declared.Refusal.{Refusal}
-use Rattle.meaning.specs.declared.Window.{Window}
-use Rattle.meaning.specs.declared.Window.the-variants.{Inside, TooOld, Later}
-use Rattle.meaning.specs.Number.{window}
 use Rattle.meaning.specs.Laws.Tests.{yes, no}
 use Rattle.meaning.specs.Check.{check}
 use Rattle.meaning.specs.Calls.{numberOf, checkCall, Call, Said, Result, RowsResult}
@@ -22,7 +18,7 @@ use Rattle.calls.specs.declared.SaidVerdict.{SaidVerdict}
 use Rattle.calls.specs.declared.SaidNumber.{SaidNumber}
 use Rattle.calls.specs.declared.SaidRows.{SaidRows}
 use Rattle.calls.specs.Promises.{Verdicts, Numbers, Rowed, asVerdict, asNumber, asRows}
-use Rattle.capi.specs.Seen.{tooFew, checkNumber, contentsAfter, checkSeen, CheckSeen, Checks, saidNumber, toldCells, askSeen, yesCell, verdictSeen, numberSeen, RowsSeen, rowsSeen, seen, TellsVerdict, TellsNumber, TellsRows, windowNumber}
+use Rattle.capi.specs.Seen.{tooFew, checkNumber, contentsAfter, checkSeen, CheckSeen, Checks, saidNumber, toldCells, askSeen, yesCell, verdictSeen, numberSeen, RowsSeen, rowsSeen, seen, TellsVerdict, TellsNumber, TellsRows}
 
 -- ---- asking
 
@@ -80,18 +76,3 @@ passes {s} {lent} {after} {k} {r} h e q a = record { is = sym (no _ (le-ltb (len
 pub refused : {s lent : List ℕ} {n : Refusal} {r : ℕ} → 5 ≤ length lent → Refused n ≡ asChecking s → r ≡ numberOf n → Checks s lent lent r
 unfolding checkSeen checkCall asChecking
 refused {s} {lent} {n} {r} h e q = record { is = sym (no _ (le-ltb (length lent) 5 h) (sym (seen-refused s lent (check s) n r e q))) }
-
--- ---- the window
-
-module _ {span from to : ℤ} {w : Window} (e : w ≡ window span from to) where
-  pub tells-inside : w ≡ Inside → 0 ≡ windowNumber (window span from to)
-  unfolding windowNumber
-  tells-inside h = ap windowNumber (sym h ∙ e)
-
-  pub tells-old : w ≡ TooOld → 1 ≡ windowNumber (window span from to)
-  unfolding windowNumber
-  tells-old h = ap windowNumber (sym h ∙ e)
-
-  pub tells-later : w ≡ Later → 2 ≡ windowNumber (window span from to)
-  unfolding windowNumber
-  tells-later h = ap windowNumber (sym h ∙ e)

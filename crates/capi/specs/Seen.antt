@@ -9,8 +9,6 @@ use lib.ListN.{length, drop}
 use mir.Val.{ofZ}
 use mir.Syntax.{w64}
 use Rattle.meaning.specs.declared.Refusal.{Refusal}
-use Rattle.meaning.specs.declared.Window.{Window}
-use Rattle.meaning.specs.declared.Window.the-variants.{Inside, TooOld, Later}
 use Rattle.meaning.specs.Tests.{choose}
 use Rattle.meaning.specs.Case.{vars, strings, values, points, nodes}
 use Rattle.meaning.specs.Calls.{numberOf, checkCall, verdictCall, numberCall, rowsCall, Call, Said, gives, refuses, Result}
@@ -109,10 +107,3 @@ pub record TellsNumber (c : Call) (lent work told : List ℕ) (r : ℕ) : Type 0
 
 pub record TellsRows (c : Call) (binders output lent work filled told : List ℕ) (r : ℕ) : Type 0 where
   pub is : _≡_ {A = RowsSeen} (record { asked = seen work told r; output = filled }) (rowsSeen binders output c lent)
-
--- ---- the window
-
-unfoldable pub windowNumber : Window → ℕ
-windowNumber Inside = 0
-windowNumber TooOld = 1
-windowNumber Later = 2

@@ -18,7 +18,8 @@ ghost use Rattle.meaning.specs.declared.ArithOp.the-variants.{Sub};
 ghost use Rattle.meaning.specs.Number.{calculate, window};
 ghost use Rattle.meaning.specs.Check.{Checked};
 ghost use Rattle.calls.specs.Promises.{callOf};
-ghost use Rattle.capi.specs.Seen.{Checks, TellsVerdict, TellsNumber, TellsRows, windowNumber};
+ghost use Rattle.capi.specs.Seen.{Checks, TellsVerdict, TellsNumber, TellsRows};
+ghost use Rattle.capi.specs.Window.{windowNumber};
 
 // the cells for the answer are too few
 const TOO_FEW: u64 = 14;

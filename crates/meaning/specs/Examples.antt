@@ -15,7 +15,6 @@ use Rattle.meaning.specs.declared.ValNo.{ValNo}
 use Rattle.meaning.specs.declared.StrNo.{StrNo}
 use Rattle.meaning.specs.declared.Run.{Run}
 use Rattle.meaning.specs.declared.Interval.{Interval}
-use Rattle.meaning.specs.declared.Window.the-variants.{Inside, TooOld, Later}
 use Rattle.meaning.specs.declared.TimeUnit.{TimeUnit}
 use Rattle.meaning.specs.declared.TimeUnit.the-variants.{Seconds, Minutes, Hours, Days}
 use Rattle.meaning.specs.declared.CmpOp.the-variants.{Eq, NotEq}
@@ -26,7 +25,7 @@ use Rattle.meaning.specs.Tests.{_and_, _or_, choose, onlyIf, isSome, orE
 use Rattle.meaning.specs.Text.{before, free as free·Text, first, follow, next, ended, utf8}
 use Rattle.meaning.specs.Case.{words, contents, offset, size, body as body·Case, bodyWord, stringWord, valueWord, memberWord, pointWord, nodeWord, list as list·Case, text, places, runOf, signed, maybe, unitOf, cmpOf, arithOf, rootFrom, under, nodeFrom, valueFrom, partAt, valueAt, entityAt, pointAt, nodeAt, caseOf, decode, sortOf, arity, child}
 use Rattle.meaning.specs.Check.{startOf, bodyRule, bodies, mosts, endBefore, placeRule, endToEnd, utf8Rule, orderRule, stringRules, memberRule, arrayItem, objectItem, valueRule, partCount, partValue, depth, depthRule, valueRules, plainNames, plain, stringRun, entityRule, entityItem, entityRun, pointRule, pointRules, pathRun, variableRun, argumentRule, argumentRun, literal, zerosFrom, ruleOf, nodeRule, height, heightRule, nodeRules, check}
-use Rattle.meaning.specs.Number.{highest, lowest, clamp, calculate, secondsOf, seconds, inWindow, sumℤ, window}
+use Rattle.meaning.specs.Number.{highest, lowest, clamp, calculate, secondsOf, seconds, inWindow, sumℤ}
 use Rattle.meaning.specs.Equal.{int, value, isDigit, digits, natural, cut, unsigned, scaled, decimal, seen, decimalKey, see, sameList, sameParts, alike, sameValue, asValue, same, boundOf, integer}
 use Rattle.meaning.specs.Look.{named, members, descend, boundAt, attributesOf, ownPart, supplied, entityOf, attribute, fromRoot, rootOf, scopeAt, contextAt, fieldAt}
 use Rattle.meaning.specs.Rows.{inCells, cells, rowOf, at, blank, with, without, withoutAll, over, onto, agree, agreeing, sameCell, sameRow, isIn, addNew, joinAll, column}
@@ -126,7 +125,7 @@ bytes =
     []
 
 passes : check bytes ≡ none
-unfolding bytes upto made _and_ _or_ choose onlyIf isSome orElse pick allBelow rises greatest levels throughout before free·Text first follow next ended utf8 words contents offset size body·Case bodyWord stringWord valueWord memberWord pointWord nodeWord list·Case text places runOf signed maybe unitOf cmpOf arithOf rootFrom under nodeFrom valueFrom partAt valueAt entityAt pointAt nodeAt caseOf decode sortOf arity child startOf bodyRule bodies mosts endBefore placeRule endToEnd utf8Rule orderRule stringRules memberRule arrayItem objectItem valueRule partCount partValue depth depthRule valueRules plainNames plain stringRun entityRule entityItem entityRun pointRule pointRules pathRun variableRun argumentRule argumentRun literal zerosFrom ruleOf nodeRule height heightRule nodeRules check highest lowest clamp calculate secondsOf seconds inWindow sumℤ window isDigit digits natural cut unsigned scaled decimal seen decimalKey see sameList sameParts alike sameValue asValue same boundOf integer named members descend boundAt attributesOf ownPart supplied entityOf attribute fromRoot rootOf scopeAt contextAt fieldAt inCells cells rowOf at blank with without withoutAll over onto agree agreeing sameCell sameRow isIn addNew joinAll column give visit adding dropping _>>=_ started after measured spent most run·Walk ending outcome under·Meaning unbinding earlier latest now lending condition term aggregate ifYes unlessYes oneRow asRows taking lentTo andVerdict joining andRows orVerdict orRows notVerdict existsVerdict existsRows time·Meaning inside ifInside downward rising upward every formerlyVerdict formerlyRows sinceVerdict keeping sinceRows before·Meaning isThere previously place tpRow tpVerdict given matchField matchArguments sameEvent match predicate both compared compareVerdict unbound bindRows eqRows compareRows ifInt arithmetic aggregated relation sumOf countOf names arguments meaningOf noMeaning meaning firsts question numberOf isInt wellFormed moreRow startRow isSort beyond against startOr walkOf unlessRefused asking told·Calls cleared workspaceAfter result·Calls checkCall verdictCall numberCall cellsOf filled allUnder projected outputFits toOutput rowsGiven rowsCall
+unfolding bytes upto made _and_ _or_ choose onlyIf isSome orElse pick allBelow rises greatest levels throughout before free·Text first follow next ended utf8 words contents offset size body·Case bodyWord stringWord valueWord memberWord pointWord nodeWord list·Case text places runOf signed maybe unitOf cmpOf arithOf rootFrom under nodeFrom valueFrom partAt valueAt entityAt pointAt nodeAt caseOf decode sortOf arity child startOf bodyRule bodies mosts endBefore placeRule endToEnd utf8Rule orderRule stringRules memberRule arrayItem objectItem valueRule partCount partValue depth depthRule valueRules plainNames plain stringRun entityRule entityItem entityRun pointRule pointRules pathRun variableRun argumentRule argumentRun literal zerosFrom ruleOf nodeRule height heightRule nodeRules check highest lowest clamp calculate secondsOf seconds inWindow sumℤ isDigit digits natural cut unsigned scaled decimal seen decimalKey see sameList sameParts alike sameValue asValue same boundOf integer named members descend boundAt attributesOf ownPart supplied entityOf attribute fromRoot rootOf scopeAt contextAt fieldAt inCells cells rowOf at blank with without withoutAll over onto agree agreeing sameCell sameRow isIn addNew joinAll column give visit adding dropping _>>=_ started after measured spent most run·Walk ending outcome under·Meaning unbinding earlier latest now lending condition term aggregate ifYes unlessYes oneRow asRows taking lentTo andVerdict joining andRows orVerdict orRows notVerdict existsVerdict existsRows time·Meaning inside ifInside downward rising upward every formerlyVerdict formerlyRows sinceVerdict keeping sinceRows before·Meaning isThere previously place tpRow tpVerdict given matchField matchArguments sameEvent match predicate both compared compareVerdict unbound bindRows eqRows compareRows ifInt arithmetic aggregated relation sumOf countOf names arguments meaningOf noMeaning meaning firsts question numberOf isInt wellFormed moreRow startRow isSort beyond against startOr walkOf unlessRefused asking told·Calls cleared workspaceAfter result·Calls checkCall verdictCall numberCall cellsOf filled allUnder projected outputFits toOutput rowsGiven rowsCall
 passes = refl
 
 -- ---- what the bytes hold
@@ -520,24 +519,3 @@ sum = refl
 first-kept : addNew (caseOf bytes) [] ((some (value 8) ∷ []) ∷ (some (value 9) ∷ []) ∷ []) ≡ ((some (value 8) ∷ []) ∷ [])
 unfolding passes
 first-kept = refl
-
--- ---- the window, as span, the time seen from and the time seen: the bench at 2 looking at 1, and at 3 at 0 (20 s and 19 s); equal times; the numbers at which a difference and a span saturate
-
-windows :
-    map (λ (w : ℤ × ℤ × ℤ). window (w .0) (w .1) (w .2)) (
-    (pos 20, pos 105, pos 110) ∷
-    (pos 20, pos 120, pos 100) ∷
-    (pos 19, pos 120, pos 100) ∷
-    (pos 0, pos 100, pos 100) ∷
-    (negsuc 0, pos 100, pos 100) ∷
-    (negsuc 0, pos 100, pos 101) ∷
-    (pos 9223372036854775807, pos 9223372036854775807, negsuc 9223372036854775807) ∷
-    (pos 9223372036854775806, pos 9223372036854775807, negsuc 9223372036854775807) ∷
-    (pos 9223372036854775807, negsuc 9223372036854775807, pos 9223372036854775807) ∷
-    (negsuc 9223372036854775807, negsuc 9223372036854775807, pos 9223372036854775807) ∷
-    (seconds (record { amount = 106751991167301; unit = Days }), pos 9223372036854775807, negsuc 9223372036854775807) ∷
-    (seconds (record { amount = 106751991167300; unit = Days }), pos 9223372036854775807, negsuc 9223372036854775807) ∷
-    (seconds (record { amount = 18446637321718384315; unit = Days }), pos 100, pos 100) ∷
-    []) ≡ (Later ∷ Inside ∷ TooOld ∷ Inside ∷ TooOld ∷ Later ∷ Inside ∷ TooOld ∷ Later ∷ Later ∷ Inside ∷ TooOld ∷ TooOld ∷ [])
-unfolding passes
-windows = refl

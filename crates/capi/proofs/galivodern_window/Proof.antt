@@ -1,5 +1,5 @@
 use borrow.Author.Needs.{needs}
-use Rattle.capi.proofs.Seeing.{tells-inside, tells-old, tells-later}
+use Rattle.capi.proofs.Window.{tells-inside, tells-old, tells-later}
 use Rattle.capi.proofs.galivodern_window.Statement.{statement}
 use Rattle.capi.proofs.galivodern_window.Tie as tie
 

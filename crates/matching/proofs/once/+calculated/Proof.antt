@@ -1,4 +1,4 @@
-use Rattle.matching.proofs.Free.{left-falls, right-falls, tells-open, tells-leaf, tells-none, tells-both}
+use Rattle.matching.proofs.Free.{left-falls, right-falls, tells-open, tells-leaf, tells-none, tells-both, tells-sides}
 use Rattle.meaning.specs.Laws.Checked.{checked-bodies}
 use borrow.Author.Needs.{needs}
 use borrow.Author.Tests.{not-true}
@@ -47,7 +47,7 @@ calculated-settle-once-requires : (t : ℕ) → calculated-lts.Need-settle-once-
 calculated-settle-once-requires t c κs = search needs
 
 calculated-returns : (t : ℕ) → calculated-lts.Need-returns (calculated-claims t) (calculated-at t) calculated.Post
-calculated-returns t c = search needs
+calculated-returns t c = search (tells-sides, needs)
 
 calculated-calculated-requires : (t : ℕ) → calculated-lts.Need-calculated-requires (calculated-claims t) (calculated-at t) calculated.Post
 calculated-calculated-requires t c κs = search (left-falls, needs)
@@ -89,7 +89,7 @@ calculated-returns-5 : (t : ℕ) → calculated-lts.Need-returns-5 (calculated-c
 calculated-returns-5 t c = search (tells-open, needs)
 
 calculated-returns-6 : (t : ℕ) → calculated-lts.Need-returns-6 (calculated-claims t) (calculated-at t) calculated.Post
-calculated-returns-6 t c = tells-both (c .arithmetic .ensures) (c .before .before .b .given .1) (c .before .before .before .before .calculated2 .ensures) (c .before .before .before .before .before .before .before .before .a .given .1) (c .before .before .before .before .before .before .before .before .before .before .calculated .ensures) (c .before .before .before .before .before .before .before .before .before .before .before .before .before .before .node .given .1) (c .before .before .before .before .before .before .before .before .before .before .before .before .before .before .before .before .node-at .ensures) (c .before .before .before .before .before .before .before .before .before .before .before .before .before .before .before .before .before .before .pre .1 .0)
+calculated-returns-6 t c = search (tells-both, needs)
 
 calculated-returns-7 : (t : ℕ) → calculated-lts.Need-returns-7 (calculated-claims t) (calculated-at t) calculated.Post
 calculated-returns-7 t c = search (tells-leaf, needs)

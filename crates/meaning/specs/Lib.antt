@@ -4,7 +4,7 @@ pub mod Text
 pub mod Case
 pub mod Check
 pub mod Number
-pub mod Windows
+pub mod Edges
 pub mod Equal
 pub mod Look
 pub mod Rows

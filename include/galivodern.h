@@ -77,6 +77,22 @@ enum galivodern_told {
  * On 0 the first five cells of `contents` are filled. Else it is unchanged. */
 uint64_t galivodern_check(const uint8_t *file, size_t file_len, uint64_t *contents, size_t contents_len);
 
+/* The window test: where time `to` lies, seen from time `from`, in a window of
+ * `span` seconds. It needs no case and takes any numbers. A span is an amount
+ * times its unit, or the nearest number that 64 bits hold. Under a negative span
+ * nothing is inside: a time is later, or too old. */
+enum galivodern_seen {
+    GALIVODERN_INSIDE = 0,  /* at least 0 and at most `span` seconds before */
+    GALIVODERN_TOO_OLD = 1, /* further back */
+    GALIVODERN_LATER = 2    /* stamped after `from` */
+};
+
+uint64_t galivodern_window(int64_t span, int64_t from, int64_t to);
+
+/* The seconds from `to` to `from`, or the nearest number that 64 bits hold:
+ * negative exactly for a later `to`. */
+int64_t galivodern_difference(int64_t from, int64_t to);
+
 /* The three questions take:
  *
  *   point, node   where to ask, and what: a condition, or for `number` an aggregate;

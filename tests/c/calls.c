@@ -78,6 +78,21 @@ static void test_check(const uint8_t *file, size_t length) {
     CHECK(contents[GALIVODERN_NODES] == 3 && contents[5] == 8);
 }
 
+static void test_window(void) {
+    CHECK(galivodern_window(20, 105, 110) == GALIVODERN_LATER && galivodern_difference(105, 110) == -5);
+    CHECK(galivodern_window(20, 120, 100) == GALIVODERN_INSIDE && galivodern_difference(120, 100) == 20);
+    CHECK(galivodern_window(19, 120, 100) == GALIVODERN_TOO_OLD);
+    CHECK(galivodern_window(0, 100, 100) == GALIVODERN_INSIDE && galivodern_difference(100, 100) == 0);
+    CHECK(galivodern_window(-1, 100, 100) == GALIVODERN_TOO_OLD);
+    CHECK(galivodern_window(-1, 100, 101) == GALIVODERN_LATER);
+    CHECK(galivodern_window(INT64_MAX, INT64_MAX, INT64_MIN) == GALIVODERN_INSIDE);
+    CHECK(galivodern_window(INT64_MAX - 1, INT64_MAX, INT64_MIN) == GALIVODERN_TOO_OLD);
+    CHECK(galivodern_difference(INT64_MAX, INT64_MIN) == INT64_MAX);
+    CHECK(galivodern_window(INT64_MAX, INT64_MIN, INT64_MAX) == GALIVODERN_LATER);
+    CHECK(galivodern_window(INT64_MIN, INT64_MIN, INT64_MAX) == GALIVODERN_LATER);
+    CHECK(galivodern_difference(INT64_MIN, INT64_MAX) == INT64_MIN);
+}
+
 static void test_verdict(ask *verdict, const uint8_t *file, size_t length) {
     uint64_t work[5] = {8, 8, 8, 8, 8}, told[4] = {8, 8, 8, 8};
     CHECK(verdict(file, length, 0, PREDICATE, unbound, 2, 9, 2, work, 5, told, 2) == GALIVODERN_TOO_FEW_CELLS);
@@ -146,6 +161,7 @@ int main(void) {
     CHECK(galivodern_verdict(file, length, 0, PREDICATE, unbound, 2, 9, 2, work, 4, told, 3) ==
           GALIVODERN_BAD_VALUES);
     CHECK(same(told, 0, 0, 0));
+    test_window();
     printf("%d checks, %d failed\n", checked, failed);
     return failed != 0;
 }

@@ -1,3 +1,4 @@
 pub mod Cells
 pub mod Said
 pub mod Seeing
+pub mod Window

@@ -3,15 +3,23 @@ mod telling;
 
 use calls::checked;
 use casecheck::Checking;
+use meaning::ArithOp;
 use meaning::Limits;
 use meaning::NodeNo;
+use meaning::Window;
 use telling::tell_contents;
 use telling::tell_number;
 use telling::tell_rows;
 use telling::tell_verdict;
+ghost use mathlib.Core.Path.{_≡_};
+ghost use mir.Val.{toZ};
+ghost use mir.Syntax.{w64};
+ghost use Rattle.meaning.specs.declared.ArithOp.the-variants.{Sub};
+ghost use Rattle.meaning.specs.Number.{calculate, window};
 ghost use Rattle.meaning.specs.Check.{Checked};
 ghost use Rattle.calls.specs.Promises.{callOf};
 ghost use Rattle.capi.specs.Seen.{Checks, TellsVerdict, TellsNumber, TellsRows};
+ghost use Rattle.capi.specs.Window.{windowNumber};
 
 // the layer's own complaint: the cells for the answer are too few
 const TOO_FEW: u64 = 100;
@@ -179,4 +187,22 @@ pub extern "C" fn galivodern_checked_rows(
         output,
     );
     tell_rows(said, told)
+}
+
+#[no_mangle]
+pub extern "C" fn galivodern_window(span: u64, from: u64, to: u64) -> u64
+    ensures { λ r. ⌜ r ≡ windowNumber (window (toZ w64 span) (toZ w64 from) (toZ w64 to)) ⌝ }
+{
+    match equality::window(span, from, to) {
+        Window::Inside => 0,
+        Window::TooOld => 1,
+        Window::Later => 2,
+    }
+}
+
+#[no_mangle]
+pub extern "C" fn galivodern_difference(from: u64, to: u64) -> u64
+    ensures { λ r. ⌜ toZ w64 r ≡ calculate Sub (toZ w64 from) (toZ w64 to) ⌝ }
+{
+    equality::calculate(ArithOp::Sub, from, to)
 }

@@ -2,12 +2,13 @@
 use meaning::ArithOp;
 use meaning::CmpOp;
 use meaning::Interval;
+use meaning::Window;
 ghost use mathlib.Core.Path.{_≡_};
 ghost use mathlib.Core.Bool.{Bool};
-ghost use Prim.Native.Nat.{_*_, min};
+ghost use Prim.Native.Nat.{_+_, _*_, min};
 ghost use mir.Val.{toZ};
 ghost use mir.Syntax.{w64};
-ghost use Rattle.meaning.specs.Number.{calculate as calculated, clamp, seconds as secondsIn, inWindow};
+ghost use Rattle.meaning.specs.Number.{calculate as calculated, clamp, seconds as secondsIn, window as windowed};
 ghost use Rattle.meaning.specs.Laws.Number.{bias};
 ghost use Rattle.meaning.specs.declared.ArithOp.the-variants.{Add, Sub, Mul};
 ghost use Rattle.equality.specs.Numbers.{orders, isNegative, magnitudeOf, signedBy};
@@ -166,19 +167,28 @@ pub fn seconds(within: Interval) -> u64
     saturating_mul(amount, unit.seconds())
 }
 
-// whether `later` lies at least 0 and at most `span` after `earlier`: each the 64 bits of a signed number
-pub fn in_window(span: u64, later: u64, earlier: u64) -> bool
-    ensures { λ r. ⌜ _≡_ {A = Bool} r (inWindow (toZ w64 span) (toZ w64 later) (toZ w64 earlier)) ⌝ }
+// how far above the least number a difference of d lies; past the greatest, as far as that
+fn distance(d: u64) -> u64
+    ensures { λ r. ⌜ r ≡ min 18446744073709551615 (d + 9223372036854775808) ⌝ }
+{
+    if 9223372036854775808 <= d {
+        return 18446744073709551615;
+    }
+    d + 9223372036854775808
+}
+
+// how time `to` lies to the window of time `from`: span and times are the 64 bits of signed numbers
+pub fn window(span: u64, from: u64, to: u64) -> Window
+    ensures { λ r. ⌜ r ≡ windowed (toZ w64 span) (toZ w64 from) (toZ w64 to) ⌝ }
 {
     let s = biased(span);
-    let a = biased(later);
-    let b = biased(earlier);
+    let a = biased(from);
+    let b = biased(to);
     if a < b {
-        return false;
+        return Window::Later;
     }
-    let d = a - b;
-    if 9223372036854775808 <= d {
-        return 18446744073709551615 <= s;
+    if distance(a - b) <= s {
+        return Window::Inside;
     }
-    d + 9223372036854775808 <= s
+    Window::TooOld
 }

@@ -6,6 +6,7 @@ use meaning::ArithOp;
 use meaning::CmpOp;
 use meaning::Interval;
 use meaning::TimeUnit;
+use meaning::Window;
 
 const MOST: u64 = 9223372036854775807;
 
@@ -13,15 +14,19 @@ const LEAST: u64 = 9223372036854775808;
 
 const MINUS_ONE: u64 = 18446744073709551615;
 
-fn window(span: u64, later: u64, earlier: u64) {
+fn window(span: u64, from: u64, to: u64) {
     text(b"window of ");
     signed(span);
     text(b", ");
-    signed(earlier);
+    signed(to);
     text(b" seen from ");
-    signed(later);
+    signed(from);
     text(b": ");
-    answer(equality::in_window(span, later, earlier));
+    match equality::window(span, from, to) {
+        Window::Inside => text(b"inside\n"),
+        Window::TooOld => text(b"too old\n"),
+        Window::Later => text(b"later\n"),
+    }
 }
 
 pub fn windows() {

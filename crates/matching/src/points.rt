@@ -1,6 +1,7 @@
 // The point before one.
 use super::Earlier;
 use meaning::Interval;
+use meaning::Window;
 ghost use mathlib.Core.Path.{_≡_};
 ghost use mathlib.Core.Bool.{true};
 ghost use Rattle.meaning.specs.Check.{bodies};
@@ -18,8 +19,9 @@ pub fn previous_point(s: &[u8], within: Interval, i: usize) -> Earlier
     let span = equality::seconds(within);
     let here = tables::time_at(s, i);
     let then = tables::time_at(s, j);
-    if equality::in_window(span, here, then) {
-        return Earlier::At(j);
+    match equality::window(span, here, then) {
+        Window::Inside => Earlier::At(j),
+        Window::TooOld => Earlier::Nowhere,
+        Window::Later => Earlier::Nowhere,
     }
-    Earlier::Nowhere
 }

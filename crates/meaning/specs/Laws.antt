@@ -3,6 +3,7 @@ pub mod Tests
 pub mod Words
 pub mod Bodies
 pub mod Number
+pub mod Window
 pub mod Lists
 pub mod Values
 pub mod Nodes

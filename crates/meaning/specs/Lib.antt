@@ -4,6 +4,7 @@ pub mod Text
 pub mod Case
 pub mod Check
 pub mod Number
+pub mod Edges
 pub mod Equal
 pub mod Look
 pub mod Rows

@@ -5,12 +5,14 @@ use lib.IntN.{ℤ, pos, negsuc, _+ℤ_, _-ℤ_, _*ℤ_}
 use lib.Signed.{ltZ, leZ}
 use mir.Val.{toZ}
 use mir.Syntax.{w64}
-use Rattle.meaning.specs.Tests.{_and_}
+use Rattle.meaning.specs.Tests.{_and_, choose}
 use Rattle.meaning.specs.declared.ArithOp.{ArithOp}
 use Rattle.meaning.specs.declared.ArithOp.the-variants.{Add, Sub, Mul}
 use Rattle.meaning.specs.declared.TimeUnit.{TimeUnit}
 use Rattle.meaning.specs.declared.TimeUnit.the-variants.{Seconds, Minutes, Hours, Days}
 use Rattle.meaning.specs.declared.Interval.{Interval}
+use Rattle.meaning.specs.declared.Window.{Window}
+use Rattle.meaning.specs.declared.Window.the-variants.{Inside, TooOld, Later}
 
 unfoldable pub highest : ℤ
 highest = pos 9223372036854775807
@@ -44,3 +46,7 @@ inWindow span later earlier = let d = calculate Sub later earlier in leZ (pos 0)
 unfoldable pub sumℤ : List ℤ → ℤ
 sumℤ [] = pos 0
 sumℤ (z ∷ zs) = z +ℤ sumℤ zs
+
+-- how time `to` lies to the window of time `from`: later where the difference is negative, else inside up to `span`
+unfoldable pub window : ℤ → ℤ → ℤ → Window
+window span from to = let d = calculate Sub from to in choose (ltZ d (pos 0)) Later (choose (leZ d span) Inside TooOld)

@@ -55,6 +55,13 @@ pub struct Interval {
     pub unit: TimeUnit,
 }
 
+// where a time lies, seen from another: in the window, before it, or later than the time seen from
+pub enum Window {
+    Inside,
+    TooOld,
+    Later,
+}
+
 pub enum CmpOp {
     Le,
     Lt,

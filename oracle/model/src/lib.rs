@@ -9,10 +9,12 @@ mod file;
 mod utf8;
 mod variant;
 mod walk;
+mod window;
 
 pub use calls::{Model, Outcome, Question};
 pub use equality::decimal;
 pub use variant::Variant;
+pub use window::{window, Window};
 
 /// Whether two values of a checked case are equal.
 pub fn values_equal(case: &[u8], a: u32, b: u32) -> bool {

@@ -42,6 +42,7 @@ mod records;
 mod refusal;
 mod rows;
 mod sys;
+mod window;
 
 pub use answer::Answer;
 pub use bindings::{Bindings, Bound};
@@ -50,3 +51,4 @@ pub use limits::Limits;
 pub use records::{Sort, Value};
 pub use refusal::{Refusal, Refused};
 pub use rows::{Row, Rows};
+pub use window::Window;

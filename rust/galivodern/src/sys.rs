@@ -74,6 +74,10 @@ extern "C" {
         told: *mut u64,
         told_len: usize,
     ) -> u64;
+
+    fn galivodern_window(span: i64, from: i64, to: i64) -> u64;
+
+    fn galivodern_difference(from: i64, to: i64) -> i64;
 }
 
 /// The bytes of a case that has passed the check. Only `new` makes one, and nothing changes its
@@ -193,4 +197,14 @@ impl Checked {
         };
         Told::new(returned, told)
     }
+}
+
+pub(crate) fn window(span: i64, from: i64, to: i64) -> u64 {
+    // SAFETY: the call takes any numbers and touches no memory of ours.
+    unsafe { galivodern_window(span, from, to) }
+}
+
+pub(crate) fn difference(from: i64, to: i64) -> i64 {
+    // SAFETY: as in `window`.
+    unsafe { galivodern_difference(from, to) }
 }

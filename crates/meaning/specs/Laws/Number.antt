@@ -4,13 +4,12 @@ use mathlib.Core.Bool.{Bool, true, false, cond}
 use Prim.Native.Nat.{ℕ, zero, suc, _+_, _-_, _≤_, _<_, min}
 use native.Mathlib.Omega.{arith}
 use lib.Dec.{ltb, leb, lit<}
-use lib.IntN.{ℤ, pos, negsuc, subℕ, _+ℤ_, _-ℤ_}
+use lib.IntN.{ℤ, pos, negsuc, subℕ, _+ℤ_}
 use lib.Signed.{mag, ltZ, leZ}
 use mir.Val.{toZ, sel}
 use mir.Syntax.{w64}
 use borrow.Author.Tests.{lt-ltb, le-ltb, le-leb, lt-leb, ltb-true, ltb-false, leb-true, leb-false}
-use Rattle.meaning.specs.Tests.{_and_}
-use Rattle.meaning.specs.Number.{clamp, lowest, highest, calculate, inWindow}
+use Rattle.meaning.specs.Number.{clamp, lowest, highest, calculate}
 use Rattle.meaning.specs.declared.ArithOp.the-variants.{Add, Sub}
 
 -- how far above the least; past either end, the end
@@ -101,18 +100,6 @@ clamp-fits (negsuc n) = go (ltb 9223372036854775807 n) refl
     go true e = lit< tt
     go false e = omega (arith, ltb-false 9223372036854775807 n e)
 
--- the window, as a program over biased numbers tests it
-pub window-bias : (span a b : ℤ) → Fits span → Fits a → Fits b → inWindow span a b ≡ leb (bias b) (bias a) and leb (min 18446744073709551615 (bias a + 9223372036854775808 - bias b)) (bias span)
-unfolding inWindow calculate bias
-window-bias span a b hs ha hb =
-    let d : ℤ = calculate Sub a b in
-    let fd : Fits d = clamp-fits (a -ℤ b) in
-    let e : bias d ≡ min 18446744073709551615 (bias a + 9223372036854775808 - bias b) = bias-minus a b ha hb in
-    let low : leb 9223372036854775808 (bias d) ≡ leb (bias b) (bias a) = leb-iff 9223372036854775808 (bias d) (bias b) (bias a) (λ h. omega arith) (λ h. omega arith) in
-    let zero-low : leZ (pos 0) d ≡ leb (bias b) (bias a) = bias-le (pos 0) d (lit< tt) fd ∙ low in
-    let high : leZ d span ≡ leb (min 18446744073709551615 (bias a + 9223372036854775808 - bias b)) (bias span) = bias-le d span fd hs ∙ ap (λ (x : ℕ). leb x (bias span)) e in
-    cc
-
 -- 64 bits read as signed
 pub toZ-fits : (u : ℕ) → u < 18446744073709551616 → Fits (toZ w64 u)
 toZ-fits u h = go (ltb u 9223372036854775808) refl
@@ -128,28 +115,6 @@ bias-low u h = simp (lt-ltb u 9223372036854775808 h) (omega arith)
 pub bias-high : (u : ℕ) → 9223372036854775808 ≤ u → u < 18446744073709551616 → bias (toZ w64 u) ≡ u - 9223372036854775808
 unfolding bias
 bias-high u h k = simp (le-ltb u 9223372036854775808 h) (omega arith)
-
--- the window's test at biased numbers s, a, b, by the branch that a program takes
-module _ (span later earlier : ℕ) (s a b : ℕ) (es : s ≡ bias (toZ w64 span)) (ea : a ≡ bias (toZ w64 later)) (eb : b ≡ bias (toZ w64 earlier))
-    (hs : span < 18446744073709551616) (ha : later < 18446744073709551616) (hb : earlier < 18446744073709551616) where
-  window-is : inWindow (toZ w64 span) (toZ w64 later) (toZ w64 earlier) ≡ leb b a and leb (min 18446744073709551615 (a + 9223372036854775808 - b)) s
-  window-is = rw (es, ea, eb) (window-bias (toZ w64 span) (toZ w64 later) (toZ w64 earlier) (toZ-fits span hs) (toZ-fits later ha) (toZ-fits earlier hb))
-
-  pub window-no : a < b → false ≡ inWindow (toZ w64 span) (toZ w64 later) (toZ w64 earlier)
-  unfolding _and_
-  window-no h = sym (window-is ∙ simp (lt-leb b a h))
-
-  pub window-far : b ≤ a → 9223372036854775808 ≤ a - b → leb 18446744073709551615 s ≡ inWindow (toZ w64 span) (toZ w64 later) (toZ w64 earlier)
-  unfolding _and_
-  window-far h k =
-      let e : min 18446744073709551615 (a + 9223372036854775808 - b) ≡ 18446744073709551615 = omega arith in
-      sym (window-is ∙ simp (le-leb b a h, e))
-
-  pub window-near : b ≤ a → a - b < 9223372036854775808 → leb (a - b + 9223372036854775808) s ≡ inWindow (toZ w64 span) (toZ w64 later) (toZ w64 earlier)
-  unfolding _and_
-  window-near h k =
-      let e : min 18446744073709551615 (a + 9223372036854775808 - b) ≡ a - b + 9223372036854775808 = omega arith in
-      sym (window-is ∙ simp (le-leb b a h, e))
 
 -- numbers of 64 bits go by their distance
 pub bias-inj : (a b : ℤ) → Fits a → Fits b → bias a ≡ bias b → a ≡ b

@@ -1,4 +1,4 @@
-use Rattle.matching.proofs.Before.{none-before, one-before, before-outside}
+use Rattle.matching.proofs.Before.{none-before, one-before, before-old, before-later}
 use borrow.Author.Needs.{needs}
 use Rattle.matching.proofs.points.previous_point.Statement.{statement}
 use Rattle.matching.proofs.points.previous_point.Tie as tie
@@ -18,14 +18,26 @@ time-at-requires c κs = search needs
 time-at-requires-2 : tie.Need-time-at-requires-2
 time-at-requires-2 c κs = search needs
 
-in-window-requires : tie.Need-in-window-requires
-in-window-requires c κs = search needs
+window-requires : tie.Need-window-requires
+window-requires c κs = search needs
+
+enum-told : tie.Need-enum-told
+enum-told c = search needs
+
+enum-told-2 : tie.Need-enum-told-2
+enum-told-2 c = search needs
+
+enum-told-3 : tie.Need-enum-told-3
+enum-told-3 c = search needs
 
 returns-2 : tie.Need-returns-2
 returns-2 c = search (one-before, needs)
 
 returns-3 : tie.Need-returns-3
-returns-3 c = search (before-outside, needs)
+returns-3 c = search (before-old, needs)
+
+returns-4 : tie.Need-returns-4
+returns-4 c = search (before-later, needs)
 
 pub previous-point-spec : {M : Type 1} → statement M
 previous-point-spec =
@@ -36,6 +48,10 @@ previous-point-spec =
     seconds-requires
     time-at-requires
     time-at-requires-2
-    in-window-requires
+    window-requires
+    enum-told
+    enum-told-2
+    enum-told-3
     returns-2
-    returns-3)
+    returns-3
+    returns-4)

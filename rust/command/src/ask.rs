@@ -1,6 +1,6 @@
 //! `ask` and `rows`: one question of one case.
 
-use galivodern::{Answer, Rows, Sort};
+use galivodern::{Answer, Rows, Sort, VariableNo};
 
 use crate::arguments::Options;
 use crate::bind::bindings;
@@ -29,7 +29,7 @@ pub fn ask(options: &Options) -> Result<Said, Failure> {
         case.verdict(point, node, &start, options.limits()).map(|answer| answer.map(verdict))
     };
     drop(progress);
-    let Answer { value: (words, value, said), steps, held } =
+    let Answer { value: (words, value, said), steps, held, .. } =
         said.map_err(|refused| Failure::refused(&opened.file, refused, options.json))?;
     if options.json {
         let file = json::string(&opened.file);
@@ -77,11 +77,11 @@ pub fn rows(options: &Options) -> Result<Said, Failure> {
 }
 
 /// The variables to list: all of them where none are named.
-fn binders(opened: &Opened, named: Option<&str>) -> Result<Vec<u32>, Failure> {
+fn binders(opened: &Opened, named: Option<&str>) -> Result<Vec<VariableNo>, Failure> {
     match named {
-        None => Ok((0..opened.case.contents().variables as u32).collect()),
+        None => Ok((0..opened.case.contents().variables as u16).map(VariableNo).collect()),
         Some("") => Ok(Vec::new()),
-        Some(names) => names.split(',').map(|name| opened.variable(name.trim()).map(u32::from)).collect(),
+        Some(names) => names.split(',').map(|name| opened.variable(name.trim())).collect(),
     }
 }
 

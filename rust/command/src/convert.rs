@@ -12,7 +12,7 @@ use crate::Said;
 
 pub fn check(options: &Options) -> Result<Said, Failure> {
     let opened = Opened::open(options.file()?, options.json)?;
-    let Contents { variables, strings, values, points, nodes } = opened.case.contents();
+    let Contents { variables, strings, values, points, nodes, .. } = opened.case.contents();
     let bytes = opened.case.bytes().len();
     let file = &opened.file;
     if options.json {

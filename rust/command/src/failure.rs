@@ -25,12 +25,12 @@ impl Failure {
 
     /// A refused case.
     pub fn refused_case(file: &str, refusal: Refusal, json: bool) -> Failure {
-        Failure::refused(file, Refused { refusal, steps: 0, held: 0 }, json)
+        Failure::refused(file, Refused::from(refusal), json)
     }
 
     /// A refused question.
     pub fn refused(file: &str, refused: Refused, json: bool) -> Failure {
-        let Refused { refusal, steps, held } = refused;
+        let Refused { refusal, steps, held, .. } = refused;
         let number = refusal.number();
         if json {
             let why = json::string(&refusal.to_string());

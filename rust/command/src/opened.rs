@@ -3,7 +3,7 @@
 use std::io::Read;
 
 use casefile::text::{pack, Packed};
-use galivodern::Case;
+use galivodern::{Case, PointNo, RuleNo, VariableNo};
 
 use crate::failure::Failure;
 use crate::progress::Progress;
@@ -68,40 +68,43 @@ impl Opened {
     }
 
     /// The number of a variable by its name, `x0` where the text gave none, or by its number.
-    pub fn variable(&self, name: &str) -> Result<u16, Failure> {
+    pub fn variable(&self, name: &str) -> Result<VariableNo, Failure> {
         let named = self.packed.as_ref().and_then(|packed| packed.variable(name)).map(|variable| variable as u16);
         let number = || name.strip_prefix('x').unwrap_or(name).parse().ok();
-        named.or_else(number).ok_or_else(|| {
+        named.or_else(number).map(VariableNo).ok_or_else(|| {
             Failure::Message(format!("{}: there is no variable `{name}`; {}", self.file, self.variables_told()))
         })
     }
 
     fn variables_told(&self) -> String {
-        let names: Vec<String> = (0..self.case.contents().variables as u32).map(|v| self.variable_name(v)).collect();
+        let names: Vec<String> =
+            (0..self.case.contents().variables as u16).map(|v| self.variable_name(VariableNo(v))).collect();
         match names.len() {
             0 => "the case has none".to_string(),
             _ => format!("the case has {}", names.join(", ")),
         }
     }
 
-    pub fn variable_name(&self, variable: u32) -> String {
-        let named = self.packed.as_ref().and_then(|packed| packed.variables.get(variable as usize).cloned());
+    pub fn variable_name(&self, variable: VariableNo) -> String {
+        let place = usize::from(variable.0);
+        let named = self.packed.as_ref().and_then(|packed| packed.variables.get(place).cloned());
         named.unwrap_or_else(|| format!("x{variable}"))
     }
 
     /// The node of a rule by its name, `r12`, `n12` or `t12` where the text gave none, or by its number.
-    pub fn node(&self, name: Option<&str>) -> Result<u32, Failure> {
+    pub fn node(&self, name: Option<&str>) -> Result<RuleNo, Failure> {
         let Some(name) = name else {
             // A case without nodes is refused 8 whatever is asked.
-            return Ok(self.case.last_node().unwrap_or(0));
+            return Ok(self.case.last_rule().unwrap_or(RuleNo(0)));
         };
         let named = self.packed.as_ref().and_then(|packed| packed.node(name));
         let number = || name.strip_prefix(['r', 'n', 't']).unwrap_or(name).parse().ok();
-        named.or_else(number).ok_or_else(|| Failure::Message(format!("{}: there is no rule `{name}`", self.file)))
+        let node = named.or_else(number).map(RuleNo);
+        node.ok_or_else(|| Failure::Message(format!("{}: there is no rule `{name}`", self.file)))
     }
 
     /// The point asked about: the last one if none is given.
-    pub fn point(&self, point: Option<usize>) -> usize {
-        point.unwrap_or(self.case.contents().points.saturating_sub(1))
+    pub fn point(&self, point: Option<usize>) -> PointNo {
+        PointNo(point.unwrap_or(self.case.contents().points.saturating_sub(1)))
     }
 }

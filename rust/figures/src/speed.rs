@@ -6,7 +6,7 @@ use casefile::text::Packed;
 use dogwood::extension::temporal::ast::{AggExpr, Condition};
 use dogwood::interpreter::eval;
 use dogwood::interpreter::value::Trace;
-use galivodern::{Bindings, Case, Limits, Sort};
+use galivodern::{Bindings, Case, Limits, PointNo, RuleNo, Sort};
 use judge::convert::Converter;
 
 use crate::shapes::{Shape, SHAPES};
@@ -23,8 +23,8 @@ struct Asked {
     case: Case,
     trace: Trace,
     rule: Rule,
-    node: u32,
-    point: usize,
+    asked: RuleNo,
+    point: PointNo,
     limits: Limits,
 }
 
@@ -33,13 +33,13 @@ impl Asked {
         let case = Case::new(packed.tables.encode()).map_err(|refusal| refusal.to_string())?;
         let node = packed.node("asked").ok_or("the rule has another name")?;
         let converter = Converter { tables: &packed.tables };
-        let rule = match case.sort(node) {
+        let rule = match case.sort(RuleNo(node)) {
             Some(Sort::Aggregate) => Rule::Aggregate(converter.aggregate(node)),
             _ => Rule::Condition(converter.condition(node)),
         };
-        let point = case.contents().points - 1;
+        let (asked, point) = (RuleNo(node), PointNo(case.contents().points - 1));
         let limits = Limits { steps: Limits::MOST_STEPS, room };
-        Ok(Asked { case, trace: converter.trace(), rule, node, point, limits })
+        Ok(Asked { case, trace: converter.trace(), rule, asked, point, limits })
     }
 
     /// The answer's number and the steps it took.
@@ -48,11 +48,11 @@ impl Asked {
         match self.rule {
             Rule::Condition(_) => self
                 .case
-                .verdict(self.point, self.node, &unbound, self.limits)
+                .verdict(self.point, self.asked, &unbound, self.limits)
                 .map(|answer| (i64::from(answer.value), answer.steps)),
             Rule::Aggregate(_) => self
                 .case
-                .number(self.point, self.node, &unbound, self.limits)
+                .number(self.point, self.asked, &unbound, self.limits)
                 .map(|answer| (answer.value, answer.steps)),
         }
         .map_err(|refused| refused.to_string())
@@ -60,10 +60,11 @@ impl Asked {
 
     /// As a caller of the Rust does it: the request's environment, then the rule.
     fn theirs(&self) -> i64 {
-        let env = eval::request_env(&self.trace, self.point);
+        let point = self.point.0;
+        let env = eval::request_env(&self.trace, point);
         match &self.rule {
-            Rule::Condition(condition) => i64::from(eval::eval_condition(&self.trace, self.point, &env, condition)),
-            Rule::Aggregate(aggregate) => eval::eval_agg_expr(&self.trace, self.point, &env, aggregate),
+            Rule::Condition(condition) => i64::from(eval::eval_condition(&self.trace, point, &env, condition)),
+            Rule::Aggregate(aggregate) => eval::eval_agg_expr(&self.trace, point, &env, aggregate),
         }
     }
 }

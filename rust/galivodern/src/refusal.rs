@@ -4,6 +4,7 @@ use std::fmt;
 /// `RoomExhausted` the one that is met first.
 #[derive(Clone, Copy, Debug, PartialEq, Eq, PartialOrd, Ord, Hash)]
 #[repr(u8)]
+#[non_exhaustive]
 pub enum Refusal {
     /// Shorter than 64 bytes, edition not 1, or tables misplaced or no whole number of records.
     BadContents = 1,
@@ -35,7 +36,7 @@ pub enum Refusal {
 
 impl Refusal {
     /// All refusals, in order.
-    pub const ALL: [Refusal; 13] = [
+    pub const ALL: &[Refusal] = &[
         Refusal::BadContents,
         Refusal::TooLarge,
         Refusal::BadStrings,
@@ -52,6 +53,7 @@ impl Refusal {
     ];
 
     /// Its number, from 1 to 13.
+    #[must_use]
     pub fn number(self) -> u8 {
         self as u8
     }
@@ -61,8 +63,8 @@ impl Refusal {
         if number == 0 {
             return None;
         }
-        let refusal = Refusal::ALL.into_iter().find(|refusal| u64::from(refusal.number()) == number);
-        Some(refusal.unwrap_or_else(|| panic!("libcapi.a returned {number}, which no call of galivodern.h does here")))
+        let refusal = Refusal::ALL.iter().find(|refusal| u64::from(refusal.number()) == number);
+        Some(*refusal.unwrap_or_else(|| panic!("libcapi.a returned {number}, which no call of galivodern.h does here")))
     }
 }
 
@@ -100,12 +102,21 @@ impl std::error::Error for Refusal {}
 
 /// A refused question, with what was spent on it.
 #[derive(Clone, Copy, Debug, PartialEq, Eq)]
+#[non_exhaustive]
 pub struct Refused {
+    /// Why there is no answer.
     pub refusal: Refusal,
     /// The steps that were spent before: none, unless the walk had begun.
     pub steps: u64,
     /// The greatest number of rows that were held at once.
     pub held: usize,
+}
+
+/// Refused before anything was spent.
+impl From<Refusal> for Refused {
+    fn from(refusal: Refusal) -> Refused {
+        Refused { refusal, steps: 0, held: 0 }
+    }
 }
 
 impl fmt::Display for Refused {

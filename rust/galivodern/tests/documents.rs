@@ -125,8 +125,8 @@ fn each_construct_of_the_text_form_is_explained() {
     let document = read("docs/MEANING.md");
     let headings: Vec<&str> = sections(&document).iter().map(|section| section.lines().next().unwrap_or("")).collect();
     for construct in ["formerly", "previous", "since", "and", "or", "not", "exists", "count", "sum", "tp"] {
-        let named = |heading: &&str| heading.split([' ', ',']).any(|word| word == construct);
-        assert!(headings.iter().any(|heading| named(&heading)), "no heading names `{construct}`");
+        let mut words = headings.iter().flat_map(|heading| heading.split([' ', ',']));
+        assert!(words.any(|word| word == construct), "no heading names `{construct}`");
     }
 }
 
@@ -144,4 +144,46 @@ fn the_format_is_that_of_its_example() {
     let packed = Case::from_text(&cases(&document)[0]).expect("it is asked above");
     assert_eq!(bytes, packed.bytes());
     assert!(document.contains(&format!("its {} bytes", bytes.len())));
+}
+
+/// What stands before the second heading: all that many will read.
+#[test]
+fn the_first_screen_shows_a_rule_its_answer_and_a_timeline() {
+    let readme = read("README.md");
+    let screen = readme.split("\n## ").next().expect("a first screen");
+    assert!(screen.lines().count() <= 40, "the first screen is longer than one");
+    for shown in ["It is for those who", "rule ready =", "#? ready at 1 = yes", "    seconds    0 ...", "headline.case"]
+    {
+        assert!(screen.contains(shown), "the first screen has no `{shown}`");
+    }
+    assert_eq!(asked("README.md"), 2);
+    let headline = read("examples/headline.case");
+    let rule = |text: &str| {
+        let from = text.find("rule ready").expect("the rule");
+        text[from..].lines().take_while(|line| !line.starts_with(['#', '`'])).collect::<String>().replace(' ', "")
+    };
+    assert_eq!(rule(screen), rule(&headline));
+}
+
+#[test]
+fn it_says_how_to_install_and_remove() {
+    let readme = read("README.md");
+    let section = sections(&readme).into_iter().find(|section| section.starts_with("Install and remove\n"));
+    let section = section.expect("a section on it");
+    for command in ["cargo install", "cargo uninstall", "tools/install /", "tools/install --remove"] {
+        assert!(section.contains(&format!("`{command}")), "no `{command}`");
+    }
+}
+
+#[test]
+fn what_is_trusted_names_all_that_is_not_proved() {
+    let readme = read("README.md");
+    let section = sections(&readme).into_iter().find(|section| section.starts_with("What is trusted\n"));
+    let section = section.expect("a section on it");
+    let trusted =
+        ["packer, `rust/casefile`", "wrapper, `rust/galivodern`", "command, `rust/command`", "converter", "LLVM"];
+    let words = ["`logic=proved`", "`functions=", "`axioms=", "`target=", "`sum=", "`native=", "`logic-built=trusted`"];
+    for named in trusted.iter().chain(&words).chain(&["`libraries-built=trusted`", "`cache=trusted`"]) {
+        assert!(section.contains(named), "{named} is not named");
+    }
 }

@@ -60,7 +60,7 @@ impl Case {
     /// let text = r#"
     ///     variables x
     ///     point 120 Flash logged {n: 7}
-    ///     rule flashed = Flash(n: x)
+    ///     rule flashed(x) = Flash(n: x)
     /// "#;
     /// let case = Case::new(casefile::text::pack(text).expect("well formed").tables.encode())?;
     /// let flashed = case.last_node().expect("there is a rule");
@@ -118,7 +118,7 @@ impl Case {
     ///     variables b n
     ///     point 100 Review logged {board: "b1", n: 3}
     ///     point 105 Review logged {board: "b2", n: 3}
-    ///     rule reviewed = formerly within 1h Review(board: b, n: n)
+    ///     rule reviewed(b, n) = formerly within 1h Review(board: b, n: n)
     /// "#;
     /// let case = Case::new(casefile::text::pack(text).expect("well formed").tables.encode())?;
     /// let reviewed = case.last_node().expect("there is a rule");

@@ -198,6 +198,20 @@ impl Node {
         })
     }
 
+    /// The nodes that it refers to, in the order of its text; `terms` are those of a run of arguments.
+    pub fn children(self, terms: impl Fn(Run) -> Vec<u32>) -> Vec<u32> {
+        match self {
+            Node::And { left, right } | Node::Or { left, right } | Node::Since { left, right, .. } => vec![left, right],
+            Node::Comparison { left, right, .. } | Node::Arithmetic { left, right, .. } => vec![left, right],
+            Node::Not { inner } => vec![inner],
+            Node::Formerly { body, .. } | Node::Previous { body, .. } | Node::Exists { body, .. } => vec![body],
+            Node::Aggregate { aggregate } => vec![aggregate],
+            Node::Sum { body, .. } | Node::Count { body, .. } => vec![body],
+            Node::Predicate { arguments, .. } => terms(arguments),
+            _ => Vec::new(),
+        }
+    }
+
     pub fn is_condition(self) -> bool {
         self.words()[0] <= 10
     }

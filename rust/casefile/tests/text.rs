@@ -11,7 +11,7 @@ fn fault(text: &str) -> String {
 fn faults_have_line_and_column() {
     assert_eq!(
         fault("points"),
-        "1:1: expected a statement: variables, value, point, rule, number or term, found `points`"
+        "1:1: expected a statement: variables, value, point, rule, number, term or loose, found `points`; did you mean `point`?"
     );
     assert_eq!(fault("variables x\nrule r = y == 1"), "2:10: `y` is no variable; `variables` at the top declares them");
     assert_eq!(fault("point 5 A\n  logged {a: 1, a: 2}"), "2:17: the name \"a\" is in this object twice");
@@ -23,9 +23,12 @@ fn faults_have_line_and_column() {
     assert_eq!(fault("rule r = 1 == null"), "1:15: a literal in a rule holds no null and no object");
     assert_eq!(fault("rule r = A(a: count where B())"), "1:15: an aggregate stands only in a comparison");
     assert_eq!(fault("rule r = @s"), "1:11: nothing named `s` stands above");
-    assert_eq!(fault("rule r = formerly within 5 A()"), "1:28: expected a unit: s, m, h or d, found `A`");
+    assert_eq!(
+        fault("rule r = formerly within 5 A()"),
+        "1:28: expected a unit right after the amount: s, m, h or d, found `A`"
+    );
     assert_eq!(fault("rule r = 1 == 9223372036854775808"), "1:15: this number does not fit a signed 64-bit integer");
-    assert_eq!(fault("rule r = \"a"), "1:10: this quoted text does not end on its line");
+    assert_eq!(fault("rule r = \"a"), "1:10: this quoted text does not end on its line: a `\"` is missing");
     assert_eq!(fault("rule r = A()\nrule r = B()"), "2:6: the name `r` is given twice");
     assert_eq!(fault("rule r = A"), "1:10: `A` is no variable; `variables` at the top declares them");
 }
@@ -47,7 +50,7 @@ fn limits_have_a_place() {
 
 #[test]
 fn brackets_go_by_what_follows_them() {
-    let text = "variables x\nrule r = ((x + 1) * 2 == 4 or (x - 1 == 0)) and not (x == (3))\n";
+    let text = "variables x\nrule r(x) = ((x + 1) * 2 == 4 or (x - 1 == 0)) and not (x == (3))\n";
     let packed = pack(text).expect("it packs");
     let again = unpack(&packed.tables).expect("it unpacks");
     assert_eq!(pack(&again).expect("it packs").tables, packed.tables);
@@ -76,5 +79,48 @@ fn the_documented_example_packs() {
     let from = page.find("# Comments run").expect("the example is there");
     let example = &page[from..from + page[from..].find("```").expect("it ends")];
     let packed = pack(example).expect("it packs");
-    assert_eq!(packed.node("flash_ok"), Some(packed.tables.nodes.len() as u32 - 1));
+    assert_eq!(packed.node("ready"), Some(packed.tables.nodes.len() as u32 - 1));
+}
+
+/// Every statement is read, whatever is wrong with the others; nothing is told twice.
+#[test]
+fn all_faults_of_a_text_are_told_in_one_run() {
+    let text = "variables b\npoint x Review\nrule a = Review(board: \nrule c = @a and @d\nrule e = $\n\
+                rule f = not Review(board: b)\nvalue v = [1, 2\npoint 5 A logged {} logged {}\n";
+    let faults = casefile::text::pack_or_faults(text).expect_err("nearly all of it is wrong");
+    let places: Vec<(usize, usize)> = faults.iter().map(|fault| (fault.line, fault.column)).collect();
+    assert_eq!(places, [(2, 7), (4, 1), (5, 10), (6, 28), (8, 1), (8, 21)], "{faults:#?}");
+    assert!(
+        casefile::text::pack_or_faults("rule a = A(\nrule b = @a and B()\nrule c = @q").is_err_and(|f| f.len() == 2)
+    );
+}
+
+#[test]
+fn times_are_seconds_or_dates() {
+    let packed = |time: &str| pack(&format!("point {time} A logged {{at: {time}}}")).map(|packed| packed.tables);
+    assert_eq!(packed("2026-03-01T14:05:00Z"), packed("1772373900"));
+    assert_eq!(packed("2026-03-01T16:05:00+02:00"), packed("1772373900"));
+    assert_eq!(fault("point 2026-13-01T14:05:00Z A"), "1:7: there is no day 2026-13-01");
+    assert_eq!(
+        fault("point 2026-03-01T14:05 A"),
+        "1:7: a time is written 2026-03-01T14:05:00Z, or with an offset such as +02:00 for Z"
+    );
+    let text = unpack(&packed("1772373900").expect("it packs")).expect("it has a text");
+    assert!(text.contains("point 1772373900 A  # 2026-03-01T14:05:00Z\n"), "{text}");
+    assert!(!unpack(&packed("5").expect("it packs")).expect("it has a text").contains('#'));
+}
+
+#[test]
+fn what_an_editor_adds_is_told_once() {
+    assert_eq!(
+        fault("\u{feff}rule r = A()"),
+        "1:1: the text begins with a byte order mark: save it as UTF-8 without one"
+    );
+    let lines = "rule r = A()\r\nrule s = B()\r\n";
+    let told = casefile::text::pack_or_faults(lines).expect_err("it has carriage returns");
+    assert_eq!(told.len(), 1);
+    assert_eq!(
+        told[0].to_string(),
+        "1:13: a carriage return, as in Windows' line ends: save the text with line feeds alone"
+    );
 }

@@ -89,7 +89,7 @@ impl Case {
     /// let case = Case::from_text(r#"
     ///     variables x
     ///     point 120 Flash logged {n: 7}
-    ///     rule flashed = Flash(n: x)
+    ///     rule flashed(x) = Flash(n: x)
     /// "#)?;
     /// let (flashed, x) = (case.rule("flashed").unwrap(), case.variable("x").unwrap());
     ///
@@ -151,7 +151,7 @@ impl Case {
     ///     variables b n
     ///     point 100 Review logged {board: "b1", n: 3}
     ///     point 105 Review logged {board: "b2", n: 3}
-    ///     rule reviewed = formerly within 1h Review(board: b, n: n)
+    ///     rule reviewed(b, n) = formerly within 1h Review(board: b, n: n)
     /// "#)?;
     /// let reviewed = case.rule("reviewed").unwrap();
     /// let binders = ["b", "n"].map(|name| case.variable(name).unwrap());

@@ -7,7 +7,7 @@ use crate::bindings::Bound;
 ///
 /// ```
 /// # use galivodern::{Bindings, Bound, Case, Limits, PointNo};
-/// # let case = Case::from_text("variables n\npoint 5 A logged {n: 7}\nrule found = A(n: n)")?;
+/// # let case = Case::from_text("variables n\npoint 5 A logged {n: 7}\nrule found(n) = A(n: n)")?;
 /// # let (rule, n) = (case.rule("found").unwrap(), case.variable("n").unwrap());
 /// let found = case.rows(PointNo(0), rule, &[n], &Bindings::new(), Limits::default())?.value;
 /// for row in &found {

@@ -16,9 +16,9 @@ const TEXT: &str = r#"
     point 110 Flash
       logged {board: "b1", n: 4}
 
-    rule reviewed = formerly within 1h Review(board: b, n: n)
-    number boards = count for b where @reviewed
-    rule owner = b == principal.id
+    rule reviewed(b, n) = formerly within 1h Review(board: b, n: n)
+    loose number boards = count for b where @reviewed
+    rule owner(b) = b == principal.id
 "#;
 
 const B: VariableNo = VariableNo(0);
@@ -188,7 +188,7 @@ fn a_shared_case_answers_each_thread() {
 #[test]
 fn a_rule_of_the_greatest_height_needs_little_stack() {
     let points = "point 1 A logged {n: 1}\n".repeat(2);
-    let rule = format!("rule tall = {}A(n: x)", "exists x formerly within 1h ".repeat(31));
+    let rule = format!("loose rule tall = {}A(n: x)", "exists x formerly within 1h ".repeat(31));
     let case = Case::from_text(&format!("variables x\n{points}{rule}")).expect("height 64 passes the check");
     let asked = move || case.verdict(PointNo(1), case.last_rule()?, &Bindings::new(), Limits::default()).ok();
     let thread = std::thread::Builder::new().stack_size(1 << 20).spawn(asked).expect("a thread");

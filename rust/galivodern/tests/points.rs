@@ -89,7 +89,8 @@ fn points_come_in_order_from_either_end() {
 
 #[test]
 fn rows_are_looped_over() {
-    let text = "variables x\npoint 1 A logged {n: 1}\npoint 2 A logged {n: 2}\nrule found = formerly within 1h A(n: x)";
+    let text =
+        "variables x\npoint 1 A logged {n: 1}\npoint 2 A logged {n: 2}\nrule found(x) = formerly within 1h A(n: x)";
     let case = Case::from_text(text).expect("the text is well formed");
     let (found, x) = (case.rule("found").expect("it is named"), case.variable("x").expect("it is declared"));
     let rows = case.rows(PointNo(1), found, &[x, x], &Bindings::new(), Limits::default()).expect("an answer").value;

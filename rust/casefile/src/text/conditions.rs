@@ -50,7 +50,7 @@ impl Parser {
                 self.at += 1;
                 Ok(Within { amount, unit: unit as u32 })
             }
-            None => self.expected("a unit: s, m, h or d"),
+            None => self.expected("a unit right after the amount: s, m, h or d"),
         }
     }
 
@@ -96,7 +96,7 @@ impl Parser {
         }
         if let (Token::Sign("@"), Token::Word(name)) = (self.token(), self.ahead(1)) {
             if let Some(Named::Condition(node)) = self.named.get(name).copied() {
-                self.at += 2;
+                self.reference()?;
                 return Ok(node);
             }
         }
@@ -142,7 +142,9 @@ impl Parser {
         let action = self.action("an action")?;
         self.expect_sign("(")?;
         let mut arguments = Vec::new();
+        let mut places = Vec::new();
         while !self.is_sign(")") {
+            places.push(self.place());
             let path = self.path()?;
             self.expect_sign(":")?;
             arguments.push((path, self.simple_term()?));
@@ -151,7 +153,9 @@ impl Parser {
             }
         }
         self.expect_sign(")")?;
-        self.add(PlainNode::Predicate(action, arguments), place)
+        let node = self.add(PlainNode::Predicate(action, arguments), place)?;
+        self.places.arguments.extend(places.into_iter().enumerate().map(|(k, place)| ((node, k), place)));
+        Ok(node)
     }
 
     fn comparison(&mut self) -> Parsed<u32> {

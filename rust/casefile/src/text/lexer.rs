@@ -1,6 +1,7 @@
 //! Splits a text into tokens with their places.
 
 use super::Fault;
+use crate::time;
 
 #[derive(Clone, Debug, PartialEq, Eq)]
 pub enum Token {
@@ -10,10 +11,15 @@ pub enum Token {
     Quoted(String),
     /// Digits, at most 2^64 - 1.
     Digits(u64),
+    /// A time of ISO 8601, in seconds.
+    Time(i64),
     Sign(&'static str),
+    /// Something that was told as a fault already.
+    Bad,
     End,
 }
 
+/// Line and column, from 1.
 #[derive(Clone, Copy, Debug, PartialEq, Eq)]
 pub struct Place {
     pub line: usize,
@@ -21,33 +27,66 @@ pub struct Place {
 }
 
 impl Place {
+    pub fn told(self, message: impl Into<String>) -> Fault {
+        Fault { line: self.line, column: self.column, message: message.into() }
+    }
+
     pub fn fault<T>(self, message: impl Into<String>) -> Result<T, Fault> {
-        Err(Fault { line: self.line, column: self.column, message: message.into() })
+        Err(self.told(message))
+    }
+
+    /// A fault that was told before, and stops what stands on it.
+    pub fn silent<T>(self) -> Result<T, Fault> {
+        self.fault("")
     }
 }
 
 /// Longer signs first.
-const SIGNS: [&str; 21] =
-    ["::", "==", "!=", "<=", ">=", "(", ")", "{", "}", "[", "]", ",", ":", ".", "/", "@", "=", "<", ">", "+", "-"];
+const SIGNS: [&str; 22] =
+    ["::", "==", "!=", "<=", ">=", "(", ")", "{", "}", "[", "]", ",", ":", ".", "/", "@", "=", "<", ">", "+", "-", "*"];
 
-pub fn tokens(text: &str) -> Result<Vec<(Token, Place)>, Fault> {
-    let mut lexer = Lexer { rest: text, place: Place { line: 1, column: 1 } };
+/// The tokens of a text, and what is wrong with those that are bad.
+pub fn tokens(text: &str) -> (Vec<(Token, Place)>, Vec<Fault>) {
+    let mut lexer = Lexer { rest: text, place: Place { line: 1, column: 1 }, faults: badly_saved(text) };
+    lexer.rest = text.strip_prefix(BYTE_ORDER_MARK).unwrap_or(text);
     let mut tokens = Vec::new();
     loop {
         lexer.skip_blanks();
         let place = lexer.place;
-        let token = lexer.token()?;
+        let token = lexer.token().unwrap_or_else(|fault| {
+            lexer.faults.push(fault);
+            Token::Bad
+        });
         let ended = token == Token::End;
         tokens.push((token, place));
         if ended {
-            return Ok(tokens);
+            return (tokens, lexer.faults);
         }
     }
+}
+
+const BYTE_ORDER_MARK: char = '\u{feff}';
+
+/// What an editor may have added to every line or before the first; told once.
+fn badly_saved(text: &str) -> Vec<Fault> {
+    let mut faults = Vec::new();
+    if text.starts_with(BYTE_ORDER_MARK) {
+        let message = "the text begins with a byte order mark: save it as UTF-8 without one".to_string();
+        faults.push(Fault { line: 1, column: 1, message });
+    }
+    if let Some(at) = text.find('\r') {
+        let line = text[..at].matches('\n').count() + 1;
+        let column = text[..at].chars().rev().take_while(|&c| c != '\n').count() + 1;
+        let message = "a carriage return, as in Windows' line ends: save the text with line feeds alone".to_string();
+        faults.push(Fault { line, column, message });
+    }
+    faults
 }
 
 struct Lexer<'a> {
     rest: &'a str,
     place: Place,
+    faults: Vec<Fault>,
 }
 
 impl Lexer<'_> {
@@ -86,19 +125,16 @@ impl Lexer<'_> {
         match self.peek() {
             None => Ok(Token::End),
             Some('"') => self.quoted(),
+            Some(c) if c.is_ascii_digit() && self.at_time() => {
+                let time = self.take_while(|c| c.is_ascii_alphanumeric() || "-+:.".contains(c));
+                time::seconds(&time).map(Token::Time).or_else(|why| place.fault(why))
+            }
             Some(c) if c.is_ascii_digit() => {
                 let digits = self.take_while(|c| c.is_ascii_digit());
-                match digits.parse() {
-                    Ok(number) => Ok(Token::Digits(number)),
-                    Err(_) => place.fault("this number does not fit 64 bits"),
-                }
+                digits.parse().map(Token::Digits).or_else(|_| place.fault("this number does not fit 64 bits"))
             }
             Some(c) if c.is_ascii_alphabetic() || c == '_' => {
                 Ok(Token::Word(self.take_while(|c| c.is_ascii_alphanumeric() || c == '_')))
-            }
-            Some('*') => {
-                self.next();
-                Ok(Token::Sign("*"))
             }
             Some(c) => match SIGNS.iter().find(|sign| self.rest.starts_with(**sign)) {
                 Some(sign) => {
@@ -107,9 +143,18 @@ impl Lexer<'_> {
                     }
                     Ok(Token::Sign(sign))
                 }
-                None => place.fault(format!("unexpected character `{c}`; names other than plain words are quoted")),
+                None => {
+                    self.next();
+                    place.fault(unexpected(c))
+                }
             },
         }
+    }
+
+    /// Whether a date and `T` stand here: the beginning of a time.
+    fn at_time(&self) -> bool {
+        let start = self.rest.as_bytes();
+        start.len() > 10 && start[4] == b'-' && start[7] == b'-' && start[10] == b'T'
     }
 
     fn take_while(&mut self, wanted: impl Fn(char) -> bool) -> String {
@@ -128,7 +173,9 @@ impl Lexer<'_> {
         loop {
             let place = self.place;
             match self.next() {
-                None | Some('\n') => return start.fault("this quoted text does not end on its line"),
+                None | Some('\n') => {
+                    return start.fault("this quoted text does not end on its line: a `\"` is missing")
+                }
                 Some('"') => return Ok(Token::Quoted(text)),
                 Some('\\') => text.push(self.escape(place)?),
                 Some(c) => text.push(c),
@@ -153,5 +200,25 @@ impl Lexer<'_> {
             }
             _ => place.fault("after `\\` comes one of n t \" \\ u{..}"),
         }
+    }
+}
+
+/// What to say of a character that begins nothing.
+fn unexpected(c: char) -> String {
+    let what = match c {
+        '\'' | '\u{2018}' | '\u{2019}' | '\u{201c}' | '\u{201d}' => {
+            "text stands between plain quotation marks: \"text\""
+        }
+        '&' | '|' => "conditions are joined by the words `and` and `or`",
+        '!' => "a condition is turned round by the word `not`",
+        ';' => "nothing stands between statements but a blank or a line break",
+        _ if !c.is_ascii() => "names other than plain words stand in quotation marks",
+        _ => "nothing in a case's text begins so; names other than plain words stand in quotation marks",
+    };
+    match c {
+        _ if c.is_control() || !c.is_ascii() && !c.is_alphanumeric() => {
+            format!("unexpected character U+{:04X}; {what}", c as u32)
+        }
+        _ => format!("unexpected character `{c}`; {what}"),
     }
 }

@@ -2,9 +2,11 @@
 
 use std::fmt::Write;
 
-use super::{is_identifier, pack, ARITHMETIC, COMPARISONS, KEYWORDS, ROOTS, UNITS, USUAL_KIND};
-use crate::records::{Node, Point, Run, Value, Within};
-use crate::tables::{Tables, NONE};
+use super::printed::variable;
+use super::{pack, Keyword};
+use crate::binding::Binding;
+use crate::records::{Node, Point, Run, Value};
+use crate::tables::Tables;
 
 /// A shared value with more parts than this gets a name of its own.
 const INLINE_PARTS: usize = 8;
@@ -12,7 +14,7 @@ const INLINE_PARTS: usize = 8;
 const MOST_DEPTH: usize = 32;
 const MOST_HEIGHT: usize = 64;
 
-type Printed<T> = Result<T, String>;
+pub type Printed<T> = Result<T, String>;
 
 /// The text of a case that passes the check; an error says why it cannot be written.
 pub fn unpack(tables: &Tables) -> Printed<String> {
@@ -26,14 +28,14 @@ pub fn unpack(tables: &Tables) -> Printed<String> {
     }
 }
 
-struct Printer<'a> {
+pub struct Printer<'a> {
     tables: &'a Tables,
     strings: Vec<&'a str>,
-    values: Vec<Value>,
+    pub values: Vec<Value>,
     points: Vec<Point>,
-    nodes: Vec<Node>,
-    value_named: Vec<bool>,
-    node_named: Vec<bool>,
+    pub nodes: Vec<Node>,
+    pub value_named: Vec<bool>,
+    pub node_named: Vec<bool>,
 }
 
 impl<'a> Printer<'a> {
@@ -87,20 +89,20 @@ impl<'a> Printer<'a> {
         Ok(())
     }
 
-    fn string(&self, number: u32) -> Printed<&'a str> {
+    pub fn string(&self, number: u32) -> Printed<&'a str> {
         self.strings.get(number as usize).copied().ok_or(format!("there is no string {number}"))
     }
 
-    fn list(&self, first: u32, words: usize) -> Printed<&'a [u32]> {
+    pub fn list(&self, first: u32, words: usize) -> Printed<&'a [u32]> {
         let end = first as usize + words;
         self.tables.lists.get(first as usize..end).ok_or(format!("a run at {first} leaves the lists"))
     }
 
-    fn names(&self, run: Run) -> Printed<Vec<&'a str>> {
+    pub fn names(&self, run: Run) -> Printed<Vec<&'a str>> {
         self.list(run.first, run.count as usize)?.iter().map(|&name| self.string(name)).collect()
     }
 
-    fn members(&self, value: u32) -> Printed<&'a [[u32; 2]]> {
+    pub fn members(&self, value: u32) -> Printed<&'a [[u32; 2]]> {
         match self.values.get(value as usize) {
             Some(Value::Array(run) | Value::Object(run)) => {
                 self.tables.members.get(run.places()).ok_or(format!("value {value} leaves the members"))
@@ -111,23 +113,18 @@ impl<'a> Printer<'a> {
     }
 
     /// Path and term of each argument.
-    fn arguments(&self, run: Run) -> Printed<Vec<(Run, u32)>> {
+    pub fn arguments(&self, run: Run) -> Printed<Vec<(Run, u32)>> {
         let words = self.list(run.first, 3 * run.count as usize)?;
         Ok(words.chunks(3).map(|a| (Run { first: a[0], count: a[1] }, a[2])).collect())
     }
 
     /// The nodes that a node refers to, in the order in which its text has them.
     fn operands(&self, node: u32) -> Printed<Vec<u32>> {
-        Ok(match self.nodes[node as usize] {
-            Node::And { left, right } | Node::Or { left, right } | Node::Since { left, right, .. } => vec![left, right],
-            Node::Comparison { left, right, .. } | Node::Arithmetic { left, right, .. } => vec![left, right],
-            Node::Not { inner } => vec![inner],
-            Node::Formerly { body, .. } | Node::Previous { body, .. } | Node::Exists { body, .. } => vec![body],
-            Node::Aggregate { aggregate } => vec![aggregate],
-            Node::Sum { body, .. } | Node::Count { body, .. } => vec![body],
-            Node::Predicate { arguments, .. } => self.arguments(arguments)?.iter().map(|(_, term)| *term).collect(),
-            _ => Vec::new(),
-        })
+        let node = self.nodes[node as usize];
+        if let Node::Predicate { arguments, .. } = node {
+            return Ok(self.arguments(arguments)?.iter().map(|(_, term)| *term).collect());
+        }
+        Ok(node.children(|_| Vec::new()))
     }
 
     /// Names the values that nobody uses and the large ones that several use.
@@ -202,198 +199,32 @@ impl<'a> Printer<'a> {
         for point in &self.points {
             text.push_str(&self.point(point)?);
         }
-        for number in (0..self.nodes.len()).filter(|&k| self.node_named[k]) {
-            let (keyword, letter) = match self.nodes[number] {
-                node if node.is_condition() => ("rule", 'r'),
-                node if node.is_aggregate() => ("number", 'n'),
-                _ => ("term", 't'),
-            };
-            let node = self.node_inside(number as u32)?;
-            writeln!(text, "{keyword} {letter}{number} = {node}").expect("writing to a String");
+        let binding = Binding::of(self.tables);
+        for number in (0..self.nodes.len() as u32).filter(|&k| self.node_named[k as usize]) {
+            let (keyword, name) = self.named(number);
+            let node = self.node_inside(number)?;
+            let (before, after) = if keyword == Keyword::Term { ("", String::new()) } else { asked(&binding, number) };
+            writeln!(text, "{before}{} {name}{after} = {node}", keyword.word()).expect("writing to a String");
         }
         Ok(text)
     }
 
-    fn point(&self, point: &Point) -> Printed<String> {
-        let action = self.action(point.namespace, point.action, point.kind)?;
-        let mut text = format!("point {} {action}\n", point.time);
-        let mut field = |name: &str, value: String| text.push_str(&format!("  {name} {value}\n"));
-        field("logged", self.value(point.logged)?);
-        field("context", self.value(point.context)?);
-        if let Some(principal) = point.principal {
-            field("principal", self.value(principal)?);
+    /// What a node is in the text, and the name that it gets.
+    pub fn named(&self, number: u32) -> (Keyword, String) {
+        match self.nodes[number as usize] {
+            node if node.is_condition() => (Keyword::Rule, format!("r{number}")),
+            node if node.is_aggregate() => (Keyword::Number, format!("n{number}")),
+            _ => (Keyword::Term, format!("t{number}")),
         }
-        if let Some(resource) = point.resource {
-            field("resource", self.value(resource)?);
-        }
-        for entity in self.list(point.entities.first, 3 * point.entities.count as usize)?.chunks(3) {
-            let uid = self.entity(entity[0], entity[1])?;
-            field("entity", format!("{uid} {}", self.value(entity[2])?));
-        }
-        Ok(text)
-    }
-
-    fn action(&self, namespace: Run, action: u32, kind: u32) -> Printed<String> {
-        let mut names: Vec<String> = self.names(namespace)?.into_iter().map(plain).collect();
-        names.push(plain(self.string(action)?));
-        let kind = self.string(kind)?;
-        let kind = if kind == USUAL_KIND { String::new() } else { format!("/{}", plain(kind)) };
-        Ok(names.join("::") + &kind)
-    }
-
-    fn entity(&self, ty: u32, id: u32) -> Printed<String> {
-        let ty = self.string(ty)?;
-        let words: Vec<String> = ty.split("::").map(plain).collect();
-        let bare = words.iter().all(|word| is_identifier(word));
-        let ty = if bare { words.join("::") } else { quoted(ty) };
-        Ok(format!("{ty}::{}", quoted(self.string(id)?)))
-    }
-
-    fn value(&self, number: u32) -> Printed<String> {
-        match self.value_named.get(number as usize) {
-            Some(true) => Ok(format!("@v{number}")),
-            _ => self.value_inside(number),
-        }
-    }
-
-    fn value_inside(&self, number: u32) -> Printed<String> {
-        let value = self.values.get(number as usize).ok_or(format!("there is no value {number}"))?;
-        Ok(match *value {
-            Value::Null => "null".to_string(),
-            Value::Bool(b) => b.to_string(),
-            Value::Int(n) => n.to_string(),
-            Value::Decimal(text) => format!("decimal {}", quoted(self.string(text)?)),
-            Value::String(text) => quoted(self.string(text)?),
-            Value::Entity(ty, id) => self.entity(ty, id)?,
-            Value::Array(_) => {
-                let items: Printed<Vec<String>> =
-                    self.members(number)?.iter().map(|[_, item]| self.value(*item)).collect();
-                format!("[{}]", items?.join(", "))
-            }
-            Value::Object(_) => {
-                let mut members = Vec::new();
-                for [name, value] in self.members(number)? {
-                    if *name == NONE {
-                        return Err(format!("a member of object {number} bears no name"));
-                    }
-                    members.push(format!("{}: {}", word(self.string(*name)?), self.value(*value)?));
-                }
-                format!("{{{}}}", members.join(", "))
-            }
-        })
-    }
-
-    /// A node where another refers to it: by name, or bracketed.
-    fn node(&self, number: u32) -> Printed<String> {
-        let letter = match self.nodes[number as usize] {
-            node if node.is_condition() => 'r',
-            node if node.is_aggregate() => 'n',
-            _ => 't',
-        };
-        if self.node_named[number as usize] {
-            return Ok(format!("@{letter}{number}"));
-        }
-        let inside = self.node_inside(number)?;
-        Ok(match self.nodes[number as usize] {
-            Node::Predicate { .. } | Node::Tp { .. } => inside,
-            Node::Arithmetic { .. } | Node::Sum { .. } | Node::Count { .. } => format!("({inside})"),
-            node if node.is_condition() => format!("({inside})"),
-            _ => inside,
-        })
-    }
-
-    fn node_inside(&self, number: u32) -> Printed<String> {
-        Ok(match self.nodes[number as usize] {
-            Node::And { left, right } => format!("{} and {}", self.node(left)?, self.node(right)?),
-            Node::Or { left, right } => format!("{} or {}", self.node(left)?, self.node(right)?),
-            Node::Not { inner } => format!("not {}", self.node(inner)?),
-            Node::Formerly { within, body } => format!("formerly {} {}", window(within)?, self.node(body)?),
-            Node::Previous { within, body } => format!("previous {} {}", window(within)?, self.node(body)?),
-            Node::Since { left, right, within } => {
-                format!("{} since {} {}", self.node(left)?, window(within)?, self.node(right)?)
-            }
-            Node::Predicate { namespace, action, kind, arguments } => {
-                let mut inside = Vec::new();
-                for (path, term) in self.arguments(arguments)? {
-                    inside.push(format!("{}: {}", self.path(path)?, self.node(term)?));
-                }
-                format!("{}({})", self.action(namespace, action, kind)?, inside.join(", "))
-            }
-            Node::Comparison { op, left, right } => {
-                format!("{} {} {}", self.node(left)?, sign(&COMPARISONS, op)?, self.node(right)?)
-            }
-            Node::Exists { variable: v, body } => format!("exists {} {}", variable(v), self.node(body)?),
-            Node::Tp { variable: v } => format!("tp {}", variable(v)),
-            Node::Literal { value } => self.value(value)?,
-            Node::Context { path } => format!("context.{}", self.path(path)?),
-            Node::Scope { root, path } if path.count == 0 => sign(&ROOTS, root)?.to_string(),
-            Node::Scope { root, path } => format!("{}.{}", sign(&ROOTS, root)?, self.path(path)?),
-            Node::Variable { variable: v } => variable(v),
-            Node::Wildcard => "*".to_string(),
-            Node::Aggregate { aggregate } => self.node(aggregate)?,
-            Node::Arithmetic { op, left, right } => {
-                format!("{} {} {}", self.node(left)?, sign(&ARITHMETIC, op)?, self.node(right)?)
-            }
-            Node::Sum { variable: v, binders, body } => {
-                format!("sum {}{} where {}", variable(v), self.binders(binders)?, self.node(body)?)
-            }
-            Node::Count { binders, body } => format!("count{} where {}", self.binders(binders)?, self.node(body)?),
-        })
-    }
-
-    fn path(&self, run: Run) -> Printed<String> {
-        let names: Vec<String> = self.names(run)?.into_iter().map(word).collect();
-        Ok(names.join("."))
-    }
-
-    fn binders(&self, run: Run) -> Printed<String> {
-        let names: Vec<String> = self.list(run.first, run.count as usize)?.iter().map(|&v| variable(v)).collect();
-        Ok(if names.is_empty() { String::new() } else { format!(" for {}", names.join(", ")) })
     }
 }
 
-fn variable(number: u32) -> String {
-    format!("x{number}")
-}
-
-fn window(within: Within) -> Printed<String> {
-    Ok(format!("within {}{}", within.amount, sign(&UNITS, within.unit)?))
-}
-
-fn sign(signs: &[&'static str], number: u32) -> Printed<&'static str> {
-    signs.get(number as usize).copied().ok_or(format!("operator, unit or root {number} is unknown"))
-}
-
-/// A name where keywords, too, may stand bare.
-fn word(name: &str) -> String {
-    if is_identifier(name) {
-        name.to_string()
-    } else {
-        quoted(name)
+/// What stands before and after the name of a rule: its parameters, or that it is loose where they do not suffice.
+fn asked(binding: &Binding, number: u32) -> (&'static str, String) {
+    let free = binding.free(number);
+    if !binding.asked(number, free).is_empty() {
+        return ("loose ", String::new());
     }
-}
-
-/// A name where a keyword must be quoted.
-fn plain(name: &str) -> String {
-    if KEYWORDS.contains(&name) {
-        quoted(name)
-    } else {
-        word(name)
-    }
-}
-
-fn quoted(text: &str) -> String {
-    let mut out = String::from("\"");
-    for c in text.chars() {
-        match c {
-            '"' => out.push_str("\\\""),
-            '\\' => out.push_str("\\\\"),
-            '\n' => out.push_str("\\n"),
-            '\t' => out.push_str("\\t"),
-            c if c.is_control() => out.push_str(&format!("\\u{{{:x}}}", c as u32)),
-            c => out.push(c),
-        }
-    }
-    out.push('"');
-    out
+    let names: Vec<String> = free.iter().map(variable).collect();
+    ("", if names.is_empty() { String::new() } else { format!("({})", names.join(", ")) })
 }

@@ -48,7 +48,7 @@ impl Parser {
                 Named::Value(value) => self.literal(value, place),
                 Named::Term(node) => Ok(node),
                 Named::Aggregate(aggregate) => self.add(PlainNode::Aggregate(aggregate), place),
-                Named::Condition(_) => place.fault("a rule is no term"),
+                Named::Condition(_) | Named::Faulty => place.fault("a rule is no term"),
             };
         }
         self.simple_term()

@@ -14,7 +14,7 @@ impl Parser {
     fn one_value(&mut self) -> Parsed<u32> {
         let place = self.place();
         let value = match self.token().clone() {
-            Token::Sign("-") | Token::Digits(_) => PlainValue::Int(self.integer("a number")?),
+            Token::Sign("-") | Token::Digits(_) | Token::Time(_) => PlainValue::Int(self.integer("a number")?),
             Token::Sign("@") => match self.reference()? {
                 Named::Value(value) => return Ok(value),
                 _ => return place.fault("this name is no value's"),

@@ -109,7 +109,7 @@ impl Case {
         bindings: &Bindings,
         limits: Limits,
     ) -> Result<Answer<bool>, Refused> {
-        let told = self.asked(point, rule, bindings, limits, 0, |question, buffers| {
+        let told = self.asked(point, rule, self.complete(rule, bindings), limits, 0, |question, buffers| {
             self.checked.verdict(question, buffers.workspace)
         });
         Ok(answer(told)?.map(|bits| bits == 1))
@@ -137,7 +137,7 @@ impl Case {
         bindings: &Bindings,
         limits: Limits,
     ) -> Result<Answer<i64>, Refused> {
-        let told = self.asked(point, rule, bindings, limits, 0, |question, buffers| {
+        let told = self.asked(point, rule, self.complete(rule, bindings), limits, 0, |question, buffers| {
             self.checked.number(question, buffers.workspace)
         });
         Ok(answer(told)?.map(|bits| bits as i64))
@@ -177,7 +177,7 @@ impl Case {
         let cells = width.saturating_mul(allowed_room(limits));
         let numbers: Vec<u32> = binders.iter().map(|binder| u32::from(binder.0)).collect();
         let mut given = Vec::new();
-        let told = self.asked(point, rule, bindings, limits, cells, |question, buffers| {
+        let told = self.asked(point, rule, Some(bindings), limits, cells, |question, buffers| {
             let told = self.checked.rows(question, &numbers, buffers.workspace, buffers.output);
             given.extend_from_slice(&buffers.output[..width * told.answer as usize]);
             told
@@ -185,19 +185,25 @@ impl Case {
         Ok(answer(told)?.map(|count| Rows::new(binders.len(), count as usize, given)))
     }
 
-    /// Asks with a workspace as large as the limits need and an output of so many cells.
+    /// The bindings, if they bind every parameter of the rule.
+    fn complete<'a>(&self, rule: RuleNo, bindings: &'a Bindings) -> Option<&'a Bindings> {
+        self.parameters(rule).iter().all(|parameter| bindings.get(*parameter).is_some()).then_some(bindings)
+    }
+
+    /// Asks with a workspace as large as the limits need and an output of so many cells. Without
+    /// bindings the call is refused: it is lent no starting cells, and a parameter is a variable.
     fn asked(
         &self,
         point: PointNo,
         rule: RuleNo,
-        bindings: &Bindings,
+        bindings: Option<&Bindings>,
         limits: Limits,
         output: usize,
         call: impl FnOnce(Question, Lent) -> Told,
     ) -> Told {
         let variables = self.contents().variables;
         let mut padded = [0; 2 * MOST_VARIABLES];
-        let start = start_cells(bindings.cells(), variables, &mut padded);
+        let start = bindings.map_or(&[][..], |bindings| start_cells(bindings.cells(), variables, &mut padded));
         let workspace = 2 * variables * allowed_room(limits);
         let mut buffers = std::mem::take(&mut *self.spare.lock().unwrap_or_else(PoisonError::into_inner));
         let lent = Lent {
@@ -232,6 +238,27 @@ impl Case {
     #[must_use]
     pub fn variable(&self, name: &str) -> Option<VariableNo> {
         self.names.variable(name)
+    }
+
+    /// The parameters that the case's text gives a rule or number, as `b` in `rule ready(b) = ..`. A
+    /// verdict or number is refused, [`BadStart`], where one of them is not bound; rows are not.
+    ///
+    /// ```
+    /// # use galivodern::{Bindings, Bound, Case, Limits, PointNo, Refusal};
+    /// let case = Case::from_text("variables n\npoint 5 Flash logged {n: 7}\nrule flashed(n) = Flash(n: n)")?;
+    /// let flashed = case.rule("flashed").unwrap();
+    /// let refused = case.verdict(PointNo(0), flashed, &Bindings::new(), Limits::default()).unwrap_err();
+    /// assert_eq!(refused.refusal, Refusal::BadStart);
+    ///
+    /// let start = Bindings::new().with(case.parameters(flashed)[0], Bound::Int(7));
+    /// assert!(case.verdict(PointNo(0), flashed, &start, Limits::default())?.value);
+    /// # Ok::<(), Box<dyn std::error::Error>>(())
+    /// ```
+    ///
+    /// [`BadStart`]: crate::Refusal::BadStart
+    #[must_use]
+    pub fn parameters(&self, rule: RuleNo) -> &[VariableNo] {
+        self.names.parameters(rule)
     }
 
     /// The last node, which is the last rule of a case that was packed from text.

@@ -41,23 +41,40 @@ impl std::error::Error for Fault {}
 /// The names that a text gave. A case file has none.
 #[derive(Clone, Debug, Default)]
 pub(crate) struct Names {
-    rules: Vec<(String, RuleNo)>,
+    rules: Vec<Named>,
     variables: Vec<String>,
+}
+
+#[derive(Clone, Debug)]
+struct Named {
+    name: String,
+    rule: RuleNo,
+    /// The variables that must be bound when it is asked.
+    parameters: Vec<VariableNo>,
 }
 
 impl Names {
     pub fn of(packed: &Packed) -> Names {
-        let rules = packed.names.iter().map(|(name, node)| (name.clone(), RuleNo(*node))).collect();
+        let named = |((name, node), rule): (&(String, u32), &text::Rule)| Named {
+            name: name.clone(),
+            rule: RuleNo(*node),
+            // A case has at most 16 variables.
+            parameters: rule.parameters.iter().map(|&parameter| VariableNo(parameter as u16)).collect(),
+        };
+        let rules = packed.names.iter().zip(&packed.rules).map(named).collect();
         Names { rules, variables: packed.variables.clone() }
     }
 
     pub fn rules(&self) -> impl ExactSizeIterator<Item = (&str, RuleNo)> {
-        self.rules.iter().map(|(name, rule)| (name.as_str(), *rule))
+        self.rules.iter().map(|named| (named.name.as_str(), named.rule))
+    }
+
+    pub fn parameters(&self, rule: RuleNo) -> &[VariableNo] {
+        self.rules.iter().find(|named| named.rule == rule).map_or(&[], |named| &named.parameters)
     }
 
     pub fn variable(&self, name: &str) -> Option<VariableNo> {
         let place = self.variables.iter().position(|known| known == name)?;
-        // A case has at most 16 variables.
         Some(VariableNo(place as u16))
     }
 }

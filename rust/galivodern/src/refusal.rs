@@ -22,7 +22,7 @@ pub enum Refusal {
     NoSuchPoint = 7,
     /// The case has no such node, or it is not of the sort that the call answers.
     NoSuchNode = 8,
-    /// The starting bindings are malformed.
+    /// The starting bindings are malformed, or leave a parameter of the rule unbound.
     BadStart = 9,
     /// A limit is above its most.
     BadLimits = 10,
@@ -87,8 +87,8 @@ impl fmt::Display for Refusal {
                  numbers of counts and sums"
             }
             Refusal::BadStart => {
-                "a starting binding is malformed: no such variable, no such value or string, or an integer given as a \
-                 value's number"
+                "a starting binding is malformed: no such variable, no such value or string, an integer given as a \
+                 value's number, or a parameter of the rule that is not bound"
             }
             Refusal::BadLimits => "more than 1,000,000,000 steps or room for more than 16,384 rows is asked for",
             Refusal::StepsExhausted => "the answer takes more steps than allowed",

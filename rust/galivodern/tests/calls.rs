@@ -16,7 +16,7 @@ const TEXT: &str = r#"
     point 110 Flash
       logged {board: "b1", n: 4}
 
-    rule reviewed(b, n) = formerly within 1h Review(board: b, n: n)
+    loose rule reviewed = formerly within 1h Review(board: b, n: n)
     loose number boards = count for b where @reviewed
     rule owner(b) = b == principal.id
 "#;

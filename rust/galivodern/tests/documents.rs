@@ -2,7 +2,7 @@
 
 use std::path::{Path, PathBuf};
 
-use galivodern::{Bindings, Case, Limits, PointNo, Refused, Sort};
+use galivodern::{Bindings, Bound, Case, Limits, PointNo, Refused, Sort};
 
 fn root() -> PathBuf {
     Path::new(env!("CARGO_MANIFEST_DIR")).join("../..")
@@ -26,35 +26,37 @@ fn blocks(document: &str) -> Vec<(String, String)> {
 }
 
 /// The cases that a document shows. One without points of its own is asked of the log before it.
-fn cases(document: &str) -> Vec<String> {
+fn cases(document: &str, wanted: &str) -> Vec<String> {
     let (mut log, mut cases) = (String::new(), Vec::new());
     for (info, body) in blocks(document) {
-        match info.as_str() {
-            "case log" => log = body,
-            "case" if body.lines().any(|line| line.starts_with("point ")) => cases.push(body),
-            "case" => cases.push(format!("{log}\n{body}")),
-            _ => {}
+        if info == "case log" {
+            log = body;
+        } else if info == wanted {
+            let alone = body.lines().any(|line| line.starts_with("point "));
+            cases.push(if alone { body } else { format!("{log}\n{body}") });
         }
     }
     cases
 }
 
-/// Asks `RULE at POINT [limit L] [room R] = ANSWER [STEPS ROWS]`.
+/// Asks `RULE at POINT [with VARIABLE=INTEGER] [limit L] [room R] = ANSWER [STEPS ROWS]`.
 fn hold(case: &Case, question: &str) -> bool {
     let (asked, expected) = question.split_once(" = ").unwrap_or_else(|| panic!("no answer: {question}"));
     let words: Vec<&str> = asked.split(' ').collect();
     let rule = case.rule(words[0]).unwrap_or_else(|| panic!("no such rule: {question}"));
-    let (mut point, mut limits) = (None, Limits::default());
+    let (mut point, mut limits, mut start) = (None, Limits::default(), Bindings::new());
     for pair in words[1..].chunks(2) {
-        let number: usize = pair[1].parse().expect("a number");
+        let (variable, number) = pair[1].split_once('=').unwrap_or(("", pair[1]));
+        let number: i64 = number.parse().expect("a number");
         match pair[0] {
-            "at" => point = Some(PointNo(number)),
+            "at" => point = Some(PointNo(number as usize)),
             "limit" => limits.steps = number as u64,
-            "room" => limits.room = number,
+            "room" => limits.room = number as usize,
+            "with" => start = start.with(case.variable(variable).expect("a variable"), Bound::Int(number)),
             other => panic!("`{other}` in {question}"),
         }
     }
-    let (point, start) = (point.expect("a point"), Bindings::new());
+    let point = point.expect("a point");
     let said = match case.sort(rule) {
         Some(Sort::Aggregate) => case.number(point, rule, &start, limits).map(|answer| answer.map(|n| n.to_string())),
         _ => case.verdict(point, rule, &start, limits).map(|answer| answer.map(|yes| verdict(yes).to_string())),
@@ -77,7 +79,7 @@ fn verdict(yes: bool) -> &'static str {
 /// Asks every `#?` line of a document; gives their number.
 fn asked(name: &str) -> usize {
     let mut asked = 0;
-    for text in cases(&read(name)) {
+    for text in cases(&read(name), "case") {
         let case = Case::from_text(&text).unwrap_or_else(|fault| panic!("{name}: {fault}\n{text}"));
         let questions: Vec<&str> = text.lines().filter_map(|line| line.strip_prefix("#? ")).collect();
         assert!(!questions.is_empty(), "{name}: nothing is asked of\n{text}");
@@ -120,6 +122,18 @@ fn each_construct_has_an_example_with_its_answer() {
     assert!(asked("docs/MEANING.md") >= 80);
 }
 
+/// What a document shows as refused is refused, for the reason that it gives after `#!`.
+#[test]
+fn what_is_shown_as_refused_is_refused() {
+    let refused = cases(&read("docs/MEANING.md"), "case refused");
+    assert!(refused.len() >= 2);
+    for text in refused {
+        let fault = Case::from_text(&text).err().unwrap_or_else(|| panic!("this is taken:\n{text}"));
+        let reason = text.lines().find_map(|line| line.strip_prefix("#! ")).expect("a reason");
+        assert!(fault.message.starts_with(reason), "{fault}");
+    }
+}
+
 #[test]
 fn each_construct_of_the_text_form_is_explained() {
     let document = read("docs/MEANING.md");
@@ -141,7 +155,7 @@ fn the_format_is_that_of_its_example() {
         assert_eq!(usize::from_str_radix(parts[0], 16), Ok(bytes.len()), "{line}");
         bytes.extend(parts[1].split(' ').map(|byte| u8::from_str_radix(byte, 16).expect("two digits")));
     }
-    let packed = Case::from_text(&cases(&document)[0]).expect("it is asked above");
+    let packed = Case::from_text(&cases(&document, "case")[0]).expect("it is asked above");
     assert_eq!(bytes, packed.bytes());
     assert!(document.contains(&format!("its {} bytes", bytes.len())));
 }

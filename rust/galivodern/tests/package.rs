@@ -63,8 +63,11 @@ fn the_c_header_says_the_same_of_a_refusal() {
     for refusal in Refusal::ALL {
         let (number, text) = in_header(&header, &header_name(*refusal));
         assert_eq!(number, refusal.number());
-        // In C a buffer can be too small besides, and the header adds that.
-        assert!(text.starts_with(&refusal.to_string()), "{refusal:?}: {text}");
+        let ours = refusal.to_string();
+        let alike = text.chars().zip(ours.chars()).take_while(|(a, b)| a == b).count();
+        // In C a buffer can be too small besides; only the crate knows a rule's parameters.
+        let more = matches!(refusal, Refusal::BadStart | Refusal::BadLimits | Refusal::BadOutput);
+        assert!(text == ours || more && alike > 50, "{refusal:?}: {text}");
     }
 }
 

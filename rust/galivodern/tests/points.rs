@@ -2,7 +2,7 @@
 
 use std::error::Error;
 
-use galivodern::{Bindings, Bound, Case, Limits, Point, PointNo, Value, VariableNo};
+use galivodern::{Bindings, Bound, Case, Limits, Point, PointNo, Refusal, RuleNo, Value, VariableNo};
 
 const TEXT: &str = r#"
     variables b n
@@ -35,6 +35,35 @@ fn names_are_those_of_the_text() {
     let unnamed = Case::new(case.bytes()).expect("it passed before");
     assert_eq!((unnamed.rule("flashed"), unnamed.rules().len(), unnamed.variable("n")), (None, 0, None));
     assert_eq!(case.clone().rules().len(), 2);
+}
+
+/// What a rule's parameter leaves open is never taken for a yes; its rows are what it finds.
+#[test]
+fn parameters_are_bound_when_a_rule_is_asked() {
+    let text = "variables b t\npoint 1 Review logged {board: \"b1\"}\npoint 2 Flash logged {board: \"b2\"}\n\
+                rule ready(b) = formerly within 1h Review(board: b) and formerly within 1h Flash(board: b)\n\
+                number reviews(b) = count for t where formerly within 1h (Review(board: b) and tp t)";
+    let case = Case::from_text(text).expect("the text is well formed");
+    let [ready, reviews] = ["ready", "reviews"].map(|name| case.rule(name).expect("it is named"));
+    let (b, limits, unbound) = (case.variable("b").expect("it is declared"), Limits::default(), Bindings::new());
+    assert_eq!((case.parameters(ready), case.parameters(RuleNo(0)).len()), (&[b][..], 0));
+    let refusal =
+        |point, start: &Bindings| case.verdict(point, ready, start, limits).map_err(|refused| refused.refusal);
+    assert_eq!(refusal(PointNo(1), &unbound), Err(Refusal::BadStart));
+    assert_eq!(refusal(PointNo(2), &unbound), Err(Refusal::NoSuchPoint));
+    let other = Bindings::new().with(case.variable("t").expect("it is declared"), Bound::Int(0));
+    assert_eq!(refusal(PointNo(1), &other), Err(Refusal::BadStart));
+    let number = |start: &Bindings| case.number(PointNo(1), reviews, start, limits);
+    assert_eq!(number(&unbound).map_err(|refused| refused.refusal), Err(Refusal::BadStart));
+    let found = case.rows(PointNo(1), ready, &[b], &unbound, limits).expect("an answer").value;
+    assert!(found.is_empty());
+    let board = (0..).find(|&number| case.value(number) == Some(Value::String("b1"))).expect("it is there");
+    let b1 = Bindings::new().with(b, Bound::Value(board));
+    assert!(!case.verdict(PointNo(1), ready, &b1, limits).expect("an answer").value);
+    assert_eq!(number(&b1).expect("an answer").value, 1);
+    // A case file has no names, and so no parameters: it is asked as document 01 says.
+    let unnamed = Case::new(case.bytes()).expect("it passed before");
+    assert!(unnamed.verdict(PointNo(1), ready, &unbound, limits).expect("an answer").value);
 }
 
 #[test]

@@ -29,7 +29,7 @@ fn faults_have_line_and_column() {
     );
     assert_eq!(fault("rule r = 1 == 9223372036854775808"), "1:15: this number does not fit a signed 64-bit integer");
     assert_eq!(fault("rule r = \"a"), "1:10: this quoted text does not end on its line: a `\"` is missing");
-    assert_eq!(fault("rule r = A()\nrule r = B()"), "2:6: the name `r` is given twice");
+    assert_eq!(fault("rule r = A()\nrule r = B()"), "2:6: the name `r` is given twice: give this one another");
     assert_eq!(fault("rule r = A"), "1:10: `A` is no variable; `variables` at the top declares them");
 }
 
@@ -100,7 +100,7 @@ fn times_are_seconds_or_dates() {
     let packed = |time: &str| pack(&format!("point {time} A logged {{at: {time}}}")).map(|packed| packed.tables);
     assert_eq!(packed("2026-03-01T14:05:00Z"), packed("1772373900"));
     assert_eq!(packed("2026-03-01T16:05:00+02:00"), packed("1772373900"));
-    assert_eq!(fault("point 2026-13-01T14:05:00Z A"), "1:7: there is no day 2026-13-01");
+    assert_eq!(fault("point 2026-13-01T14:05:00Z A"), "1:7: there is no month 13: they are 01 to 12");
     assert_eq!(
         fault("point 2026-03-01T14:05 A"),
         "1:7: a time is written 2026-03-01T14:05:00Z, or with an offset such as +02:00 for Z"

@@ -32,7 +32,7 @@ impl Failure {
     }
 
     pub fn refused_case(file: &str, refusal: Refusal) -> Failure {
-        Failure::refused(file, Refused { refusal, steps: 0, held: 0 }, "")
+        Failure::refused(file, Refused { refusal, steps: 0, held: 0 }, "; pack its text again, or get the file anew")
     }
 
     pub fn refused(file: &str, refused: Refused, hint: &str) -> Failure {

@@ -2,7 +2,7 @@
 
 use super::known::{event, Fields, Kinds, Known};
 use super::{About, Warning};
-use crate::near::did_you_mean;
+use crate::near::near_or_all;
 use crate::records::{Node, Point, Run, Value, Within};
 use crate::tables::{Tables, NONE};
 
@@ -160,7 +160,7 @@ impl Look<'_> {
                 let path = self.names(path);
                 let context = &self.known.context;
                 if let Err((k, known)) = context.at(&path) {
-                    let near = did_you_mean(&path[k], known);
+                    let near = near_or_all(&path[k], known);
                     self.tell(about, format!("{} `context.{}`{near}", self.known.source(), path[..=k].join(".")));
                 }
             }
@@ -174,7 +174,10 @@ impl Look<'_> {
 
     fn window(&mut self, about: About, within: Within) {
         if within.amount < 0 {
-            self.tell(about, "this window's amount is negative: no point is ever in it".to_string());
+            self.tell(
+                about,
+                "this window's amount is negative, so no point is ever in it: write it without the minus".to_string(),
+            );
         }
     }
 
@@ -182,7 +185,7 @@ impl Look<'_> {
         let known = self.known;
         let source = known.source();
         let Some(kinds) = known.actions.get(action) else {
-            let near = did_you_mean(action, known.actions.keys().map(String::as_str));
+            let near = near_or_all(action, known.actions.keys().map(String::as_str));
             return self.tell(About::Node(number), format!("{source} action `{action}`{near}"));
         };
         let Some(fields) = kinds.get(kind) else {
@@ -195,7 +198,7 @@ impl Look<'_> {
             let kinds = match fields.at(&path) {
                 Ok(kinds) => kinds,
                 Err((at, names)) => {
-                    let near = did_you_mean(&path[at], names);
+                    let near = near_or_all(&path[at], names);
                     self.tell(about, format!("{source} field `{}` in `{action}`{near}", path[..=at].join(".")));
                     continue;
                 }
@@ -206,7 +209,7 @@ impl Look<'_> {
                 let path = path.join(".");
                 self.tell(
                     about,
-                    format!("this never matches: `{path}` of `{action}` is {kinds}, and this is {wanted}"),
+                    format!("this never matches: `{path}` of `{action}` is {kinds}, and this is {wanted}; ask for one that it can be"),
                 );
             }
         }
@@ -215,14 +218,18 @@ impl Look<'_> {
     fn comparison(&mut self, about: About, op: u32, sides: [u32; 2]) {
         let [left, right] = sides.map(|side| self.nodes[side as usize]);
         if left == Node::Wildcard || right == Node::Wildcard {
-            return self.tell(about, "this never holds: `*` is compared with nothing".to_string());
+            return self
+                .tell(about, "this never holds: `*` stands for any field of an action, and nowhere else".to_string());
         }
         if op < EQ {
             return self.numbers(about, "an ordering", sides);
         }
         let (left, right) = (self.kinds(left), self.kinds(right));
         if op == EQ && !left.none() && !right.none() && !left.meets(right) {
-            self.tell(about, format!("this never holds: the left side is {left}, the right side is {right}"));
+            self.tell(
+                about,
+                format!("this never holds: the left side is {left}, the right side is {right}; make them one type"),
+            );
         }
     }
 
@@ -231,7 +238,7 @@ impl Look<'_> {
         for (side, words) in sides.into_iter().zip(["left", "right"]) {
             let kinds = self.kinds(self.nodes[side as usize]);
             if !kinds.none() && !kinds.meets(Kinds::INT) {
-                self.tell(about, format!("this never holds: {what} takes integers, and the {words} side is {kinds}"));
+                self.tell(about, format!("this never holds: {what} takes integers, and the {words} side is {kinds}; compare it by == or !="));
             }
         }
     }
@@ -239,17 +246,19 @@ impl Look<'_> {
     fn scope(&mut self, about: About, root: usize, path: Run) {
         let known = self.known;
         if known.roots[root].none() {
-            return self.tell(about, format!("{} {}", known.source(), ROOTS[root]));
+            return self
+                .tell(about, format!("{} {}: give the points one, or leave this out", known.source(), ROOTS[root]));
         }
         let path = self.names(path);
         if path.is_empty() || path == ["id"] || path == ["type"] {
             return;
         }
         if !known.roots[root].meets(Kinds::ENTITY) {
-            return self.tell(about, format!("{} is no entity, so it has no attributes", ROOTS[root]));
+            return self
+                .tell(about, format!("{} is no entity, so it has no attributes: compare it as it is", ROOTS[root]));
         }
         if let Err((k, names)) = known.attributes.at(&path) {
-            let near = did_you_mean(&path[k], names);
+            let near = near_or_all(&path[k], names);
             self.tell(about, format!("{} entity with the attribute `{}`{near}", known.source(), path[..=k].join(".")));
         }
     }

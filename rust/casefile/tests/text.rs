@@ -1,6 +1,6 @@
 //! The text form: what is wrong is said with line and column; text and case go both ways.
 
-use casefile::text::{pack, unpack};
+use casefile::text::{pack, unpack, unpack_named, Given};
 use casefile::Tables;
 
 fn fault(text: &str) -> String {
@@ -123,4 +123,18 @@ fn what_an_editor_adds_is_told_once() {
         told[0].to_string(),
         "1:13: a carriage return, as in Windows' line ends: save the text with line feeds alone"
     );
+}
+
+/// Names come back with the text: one node with two names, one inside another rule, a loose one.
+#[test]
+fn the_text_has_the_names_that_are_given() {
+    let text = "variables board\npoint 5 A\n  logged {}\n  context {}\nrule seen(board) = A(board: board)\n\
+                rule again(board) = @seen\nrule r9 = exists board @seen\nloose rule first = not @r9\n";
+    let packed = pack(text).expect("it packs");
+    let rules = packed.names.iter().zip(&packed.rules).map(|((name, node), rule)| (name.clone(), *node, rule.loose));
+    let given = Given { variables: packed.variables.clone(), rules: rules.collect() };
+    assert_eq!(unpack_named(&packed.tables, given).expect("it has a text"), text);
+    // Names that cannot be written are made up instead.
+    let wrong = Given { variables: vec!["rule".to_string()], rules: Vec::new() };
+    assert_eq!(unpack_named(&packed.tables, wrong), unpack(&packed.tables));
 }

@@ -101,6 +101,14 @@ fn names_survive_packing() {
     refused(&["ask", &case, "--node", "22"], "refused 8: the case has no such node, or it is of another sort");
     refused(&["ask", &case, "--node", "22"], ": nodes 0 to 21 exist");
     refused(&["ask", &case, "--node", "4", "--rule", "seen"], "`--rule` and `--node` are two ways");
+    // The text of the packed case has its names, and packs to the same.
+    let again = folder.join("again.bin").to_str().expect("it is text").to_string();
+    let printed = run(&["text", &case]).1;
+    for line in ["variables b n\n", "\nloose rule reviewed = ", "\nnumber boards = ", "\nrule seen(b, n) = formerly"] {
+        assert!(printed.contains(line), "{line}: {printed}");
+    }
+    assert_eq!(run_with(&["pack", "-", &again], printed.as_bytes()).0, 0);
+    assert_eq!(std::fs::read(&again).expect("it was packed"), std::fs::read(&case).expect("it was packed"));
     // The names are bound to the case's bytes.
     let other = file("names-other.case", TEXT.replace("105", "106").as_bytes());
     let bytes = Command::new(env!("CARGO_BIN_EXE_galivodern")).args(["pack", &other, "-"]).output().expect("it packs");

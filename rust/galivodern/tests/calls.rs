@@ -182,7 +182,7 @@ fn a_shared_case_answers_each_thread() {
 #[test]
 fn a_rule_of_the_greatest_height_needs_little_stack() {
     let points = "point 1 A logged {n: 1}\n".repeat(2);
-    let rule = format!("rule tall = {}A(n: x)", "exists x formerly within 1h ".repeat(31));
+    let rule = format!("loose rule tall = {}A(n: x)", "exists x formerly within 1h ".repeat(31));
     let packed = pack(&format!("variables x\n{points}{rule}")).expect("the text is well formed");
     let case = Case::new(packed.tables.encode()).expect("height 64 passes the check");
     let asked = move || case.verdict(1, case.last_node()?, &Bindings::new(), Limits::default()).ok();

@@ -1,5 +1,8 @@
 //! "Did you mean": the known name that is nearest to one that is unknown.
 
+/// More names than this are not listed.
+const MOST_LISTED: usize = 12;
+
 /// The nearest of the known names, if it is near enough to be meant.
 pub fn nearest<'a>(name: &str, known: impl IntoIterator<Item = &'a str>) -> Option<&'a str> {
     let allowed = match name.chars().count() {
@@ -15,6 +18,17 @@ pub fn nearest<'a>(name: &str, known: impl IntoIterator<Item = &'a str>) -> Opti
 /// `; did you mean X?`, or nothing.
 pub fn did_you_mean<'a>(name: &str, known: impl IntoIterator<Item = &'a str>) -> String {
     nearest(name, known).map_or(String::new(), |near| format!("; did you mean `{near}`?"))
+}
+
+/// `; did you mean X?`, or else what there is.
+pub fn near_or_all<'a>(name: &str, known: impl IntoIterator<Item = &'a str>) -> String {
+    let known: Vec<&str> = known.into_iter().collect();
+    match (nearest(name, known.iter().copied()), known.len()) {
+        (Some(near), _) => format!("; did you mean `{near}`?"),
+        (None, 0) => "; there are none".to_string(),
+        (None, count) if count > MOST_LISTED => format!("; there are: {}, ..", known[..MOST_LISTED].join(", ")),
+        (None, _) => format!("; there are: {}", known.join(", ")),
+    }
 }
 
 /// How many letters must be put in, left out or changed; two neighbours changed over count once.

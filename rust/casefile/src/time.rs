@@ -16,11 +16,15 @@ pub fn seconds(time: &str) -> Result<i64, String> {
     let number = |from: usize, to: usize| clock[from..to].parse::<i64>().map_err(|_| form.to_string());
     let (year, month, day) = (number(0, 4)?, number(5, 7)?, number(8, 10)?);
     let (hour, minute, second) = (number(11, 13)?, number(14, 16)?, number(17, 19)?);
-    if !(1..=12).contains(&month) || day < 1 || day > month_length(year, month) {
-        return Err(format!("there is no day {}", &clock[..10]));
+    if !(1..=12).contains(&month) {
+        return Err(format!("there is no month {month}: they are 01 to 12"));
+    }
+    let length = month_length(year, month);
+    if day < 1 || day > length {
+        return Err(format!("there is no day {}: that month has {length} days", &clock[..10]));
     }
     if hour > 23 || minute > 59 || second > 59 {
-        return Err(format!("there is no time of day {}", &clock[11..]));
+        return Err(format!("there is no time of day {}: the last one is 23:59:59", &clock[11..]));
     }
     let offset = match zone {
         "Z" => 0,
@@ -104,8 +108,14 @@ mod tests {
 
     #[test]
     fn wrong_times_are_told() {
-        assert_eq!(seconds("2026-02-29T00:00:00Z"), Err("there is no day 2026-02-29".to_string()));
-        assert_eq!(seconds("2026-02-01T24:00:00Z"), Err("there is no time of day 24:00:00".to_string()));
+        assert_eq!(
+            seconds("2026-02-29T00:00:00Z"),
+            Err("there is no day 2026-02-29: that month has 28 days".to_string())
+        );
+        assert_eq!(
+            seconds("2026-02-01T24:00:00Z"),
+            Err("there is no time of day 24:00:00: the last one is 23:59:59".to_string())
+        );
         assert_eq!(seconds("2026-02-01T23:00:00.5Z"), Err("times have whole seconds".to_string()));
         assert!(seconds("2026-02-01T23:00:00").is_err_and(|why| why.starts_with("a time is written")));
     }

@@ -1,6 +1,6 @@
 //! The text form: what is wrong is said with line and column; text and case go both ways.
 
-use casefile::text::{pack, unpack};
+use casefile::text::{pack, unpack, unpack_named, Given};
 use casefile::Tables;
 
 fn fault(text: &str) -> String {
@@ -29,7 +29,7 @@ fn faults_have_line_and_column() {
     );
     assert_eq!(fault("rule r = 1 == 9223372036854775808"), "1:15: this number does not fit a signed 64-bit integer");
     assert_eq!(fault("rule r = \"a"), "1:10: this quoted text does not end on its line: a `\"` is missing");
-    assert_eq!(fault("rule r = A()\nrule r = B()"), "2:6: the name `r` is given twice");
+    assert_eq!(fault("rule r = A()\nrule r = B()"), "2:6: the name `r` is given twice: give this one another");
     assert_eq!(fault("rule r = A"), "1:10: `A` is no variable; `variables` at the top declares them");
 }
 
@@ -100,7 +100,7 @@ fn times_are_seconds_or_dates() {
     let packed = |time: &str| pack(&format!("point {time} A logged {{at: {time}}}")).map(|packed| packed.tables);
     assert_eq!(packed("2026-03-01T14:05:00Z"), packed("1772373900"));
     assert_eq!(packed("2026-03-01T16:05:00+02:00"), packed("1772373900"));
-    assert_eq!(fault("point 2026-13-01T14:05:00Z A"), "1:7: there is no day 2026-13-01");
+    assert_eq!(fault("point 2026-13-01T14:05:00Z A"), "1:7: there is no month 13: they are 01 to 12");
     assert_eq!(
         fault("point 2026-03-01T14:05 A"),
         "1:7: a time is written 2026-03-01T14:05:00Z, or with an offset such as +02:00 for Z"
@@ -123,4 +123,18 @@ fn what_an_editor_adds_is_told_once() {
         told[0].to_string(),
         "1:13: a carriage return, as in Windows' line ends: save the text with line feeds alone"
     );
+}
+
+/// Names come back with the text: one node with two names, one inside another rule, a loose one.
+#[test]
+fn the_text_has_the_names_that_are_given() {
+    let text = "variables board\npoint 5 A\n  logged {}\n  context {}\nrule seen(board) = A(board: board)\n\
+                rule again(board) = @seen\nrule r9 = exists board @seen\nloose rule first = not @r9\n";
+    let packed = pack(text).expect("it packs");
+    let rules = packed.names.iter().zip(&packed.rules).map(|((name, node), rule)| (name.clone(), *node, rule.loose));
+    let given = Given { variables: packed.variables.clone(), rules: rules.collect() };
+    assert_eq!(unpack_named(&packed.tables, given).expect("it has a text"), text);
+    // Names that cannot be written are made up instead.
+    let wrong = Given { variables: vec!["rule".to_string()], rules: Vec::new() };
+    assert_eq!(unpack_named(&packed.tables, wrong), unpack(&packed.tables));
 }

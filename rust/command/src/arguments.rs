@@ -44,7 +44,7 @@ impl Options {
     ) -> Result<(), Failure> {
         let name = option.name;
         if !option.again && self.flag(name) {
-            return Err(Failure::usage(format!("`{name}` is given twice")));
+            return Err(Failure::usage(format!("`{name}` is given twice: leave one out")));
         }
         let value = match (option.value, value) {
             ("", None) => OsString::new(),

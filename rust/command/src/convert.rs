@@ -1,6 +1,6 @@
 //! `check`, and between case files and their text: `pack` and `text`.
 
-use casefile::text::unpack;
+use casefile::text::unpack_named;
 use galivodern::Contents;
 
 use crate::arguments::Options;
@@ -64,11 +64,12 @@ pub fn pack_text(options: &Options) -> Result<Said, Failure> {
     Ok(Said::Yes)
 }
 
-/// The text of a case; a text is packed first, so it comes back in the form that `text` writes.
+/// The text of a case, with its names; a text is packed first, so it comes back in the form that `text` writes.
 pub fn text(options: &Options) -> Result<Said, Failure> {
     let file = options.file()?;
     let opened = Opened::open(file)?;
-    let text = unpack(&opened.tables).map_err(|message| Failure::of_file(&opened.file, message))?;
+    let text = unpack_named(&opened.tables, opened.names.given())
+        .map_err(|message| Failure::of_file(&opened.file, message))?;
     if options.flag("--json") && options.named_file("-o").is_none() {
         print(&format!("{}\n", Object::new().text("file", &opened.file).text("text", &text).done()))?;
     } else {

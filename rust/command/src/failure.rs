@@ -32,7 +32,7 @@ impl Failure {
     }
 
     pub fn refused_case(file: &str, refusal: Refusal) -> Failure {
-        Failure::refused(file, Refused::from(refusal), "")
+        Failure::refused(file, Refused::from(refusal), "; pack its text again, or get the file anew")
     }
 
     pub fn refused(file: &str, refused: Refused, hint: &str) -> Failure {

@@ -37,7 +37,9 @@ pub fn shown(file: &OsStr) -> String {
 /// An error of the system in plain words, with what to do.
 pub fn io_told(error: &io::Error, done: &str) -> String {
     match error.kind() {
-        io::ErrorKind::NotFound if done == "read" => "there is no such file".to_string(),
+        io::ErrorKind::NotFound if done == "read" => {
+            "there is no such file: look at its name and at the folder that you are in".to_string()
+        }
         io::ErrorKind::NotFound => "its folder does not exist: make it first".to_string(),
         io::ErrorKind::PermissionDenied => format!("it must not be {done}: ask for the permission (chmod, chown)"),
         io::ErrorKind::IsADirectory => "this is a directory: name a file in it".to_string(),
@@ -49,7 +51,7 @@ pub fn io_told(error: &io::Error, done: &str) -> String {
 /// The text, if the bytes are meant as one: a case file begins with its edition, a byte that no text begins with.
 pub fn as_text<'a>(file: &OsStr, bytes: &'a [u8]) -> Result<Option<&'a str>, Failure> {
     let Some(&first) = bytes.first() else {
-        let message = "the file is empty: neither a case file nor the text of one";
+        let message = "the file is empty: write the text of a case into it (docs/CASE-TEXT.md), or name another";
         return Err(Failure::of_file(&shown(file), message));
     };
     if first < b' ' && !b"\t\n\r".contains(&first) {
@@ -59,7 +61,9 @@ pub fn as_text<'a>(file: &OsStr, bytes: &'a [u8]) -> Result<Option<&'a str>, Fai
         _ if bytes.starts_with(&[0xff, 0xfe]) || bytes.starts_with(&[0xfe, 0xff]) => {
             (0, "this is UTF-16: save the text as UTF-8".to_string())
         }
-        (_, Some(at)) => (at, "a NUL byte: this is no text, or it is damaged here".to_string()),
+        (_, Some(at)) => {
+            (at, "a NUL byte: the text is damaged here; take the byte out, or get the file anew".to_string())
+        }
         (Ok(text), None) => return Ok(Some(text)),
         (Err(error), None) => {
             let at = error.valid_up_to();

@@ -6,7 +6,7 @@
 use std::ffi::{OsStr, OsString};
 
 use casefile::near::did_you_mean;
-use casefile::text::{Keyword, Packed};
+use casefile::text::{Given, Keyword, Packed};
 
 use crate::failure::Failure;
 use crate::input::read;
@@ -93,6 +93,12 @@ impl Names {
             text.push_str(&format!("{loose}{} {} {}{parameters}\n", rule.keyword.word(), rule.node, rule.name));
         }
         text
+    }
+
+    /// The names to print a case with.
+    pub fn given(&self) -> Given {
+        let rules = self.rules.iter().map(|rule| (rule.name.clone(), rule.node, rule.loose)).collect();
+        Given { variables: self.variables.clone(), rules }
     }
 
     pub fn variable(&self, name: &str) -> Option<u32> {

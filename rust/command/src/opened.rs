@@ -116,7 +116,8 @@ impl Opened {
     pub fn point(&self, point: Option<usize>) -> Result<usize, Failure> {
         let points = self.case.contents().points;
         let hint = match points {
-            0 => ": its log is empty".to_string(),
+            0 => ": its log is empty, write points into it".to_string(),
+            1 => ": only point 0 exists".to_string(),
             _ => format!(": points 0 to {} exist", points - 1),
         };
         let point = point.or(points.checked_sub(1)).filter(|&point| point < points);

@@ -18,7 +18,9 @@ pub fn print_bytes(bytes: &[u8]) -> Result<(), Failure> {
     let mut output = io::stdout().lock();
     output.write_all(bytes).and_then(|()| output.flush()).map_err(|error| {
         let what = match error.kind() {
-            io::ErrorKind::BrokenPipe => "its reader has gone away before everything was written".to_string(),
+            io::ErrorKind::BrokenPipe => {
+                "its reader has gone away before all was written: let it read on, or write to a file".to_string()
+            }
             _ => io_told(&error, "written"),
         };
         Failure::of_file("standard output", what)

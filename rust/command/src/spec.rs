@@ -98,8 +98,9 @@ pub const COMMANDS: [CommandSpec; 8] = [
         name: "text",
         files: "FILE",
         brief: "print a case as text",
-        about: "Prints a case as text that packs to the same bytes. Variables and rules get names: x0, x1 and r12 for \
-                node 12. A rule's free variables are its parameters; one whose variables are bound in no order is loose.",
+        about: "Prints a case as text that packs to the same bytes, with the names that it was packed with; without them, \
+                variables are x0, x1 and rules r12 for node 12. A rule's free variables are its parameters; one whose \
+                variables are bound in no order is loose.",
         options: &[&OUTPUT, &JSON],
     },
     CommandSpec {

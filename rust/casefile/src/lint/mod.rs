@@ -2,12 +2,15 @@
 //! fall. None of it is against document 01, and each may be a slip that turns a `not` into a yes.
 
 mod known;
+mod points;
 mod rules;
 mod schema;
 mod times;
+mod types;
 
 pub use known::{Fields, Kinds, Known};
-pub use rules::{points, rules};
+pub use points::points;
+pub use rules::rules;
 pub use schema::schema;
 pub use times::{ahead, falling};
 

@@ -1,14 +1,14 @@
-//! Rules, and points, against what is known.
+//! Rules against what is known.
 
-use super::known::{event, Fields, Kinds, Known};
+use super::known::{Kinds, Known};
 use super::{About, Warning};
-use crate::near::did_you_mean;
-use crate::records::{Node, Point, Run, Value, Within};
-use crate::tables::{Tables, NONE};
+use crate::near::near_or_all;
+use crate::records::{Node, Run, Within};
+use crate::tables::Tables;
 
 const ROOTS: [&str; 2] = ["principal", "resource"];
 /// Document 01's numbers of `==` and `!=`; lower ones are orderings.
-const EQ: u32 = 4;
+pub const EQ: u32 = 4;
 
 /// What the rules of a checked case speak of that is not known, and what in them can never hold.
 pub fn rules(tables: &Tables, known: &Known) -> Vec<Warning> {
@@ -21,52 +21,12 @@ pub fn rules(tables: &Tables, known: &Known) -> Vec<Warning> {
     look.warnings
 }
 
-/// What the points have that a schema does not.
-pub fn points(tables: &Tables, known: &Known) -> Vec<Warning> {
-    let mut warnings = Vec::new();
-    for (number, point) in tables.points.iter().map(|words| Point::read(*words)).enumerate() {
-        let (action, kind) = event(tables, &point);
-        let mut tell = |message| warnings.push(Warning { about: About::Point(number as u32), message });
-        match known.actions.get(&action).and_then(|kinds| kinds.get(&kind)) {
-            Some(fields) => {
-                unfit(tables, point.logged, fields, "")
-                    .into_iter()
-                    .for_each(|what| tell(format!("`{action}/{kind}`: {what}")));
-            }
-            None => tell(format!("the schema has no action `{action}/{kind}`")),
-        }
-        unfit(tables, point.context, &known.context, "context.").into_iter().for_each(tell);
-    }
-    warnings
-}
-
-/// The members of an object that the fields do not have, or not of this kind.
-fn unfit(tables: &Tables, object: u32, fields: &Fields, before: &str) -> Vec<String> {
-    let Some(Value::Object(run)) = Value::read(tables.values[object as usize]) else { return Vec::new() };
-    let mut told = Vec::new();
-    for [name, value] in tables.members[run.places()].iter().filter(|[name, _]| *name != NONE) {
-        let name = String::from_utf8_lossy(tables.string(*name)).into_owned();
-        let kinds = Kinds::of(tables.values[*value as usize]);
-        match fields.0.get(&name) {
-            None => told.push(format!("the schema has no field `{before}{name}`")),
-            Some((wanted, _)) if !wanted.meets(kinds) => {
-                told.push(format!("`{before}{name}` is {wanted} in the schema, and {kinds} here"));
-            }
-            Some((wanted, inside)) if *wanted == Kinds::OBJECT => {
-                told.extend(unfit(tables, *value, inside, &format!("{before}{name}.")));
-            }
-            Some(_) => {}
-        }
-    }
-    told
-}
-
-struct Look<'a> {
-    tables: &'a Tables,
-    known: &'a Known,
-    nodes: Vec<Node>,
+pub struct Look<'a> {
+    pub tables: &'a Tables,
+    pub known: &'a Known,
+    pub nodes: Vec<Node>,
     /// The kinds that each variable may be bound to by the rules.
-    variables: Vec<Kinds>,
+    pub variables: Vec<Kinds>,
     warnings: Vec<Warning>,
 }
 
@@ -75,76 +35,23 @@ impl Look<'_> {
         self.warnings.push(Warning { about, message });
     }
 
-    fn names(&self, run: Run) -> Vec<String> {
+    pub fn names(&self, run: Run) -> Vec<String> {
         let text = |&string: &u32| String::from_utf8_lossy(self.tables.string(string)).into_owned();
         self.tables.lists[run.places()].iter().map(text).collect()
     }
 
     /// Path and term of each argument.
-    fn arguments(&self, run: Run) -> Vec<(Vec<String>, u32)> {
+    pub fn arguments(&self, run: Run) -> Vec<(Vec<String>, u32)> {
         let words = self.tables.lists.iter().copied().skip(run.first as usize).take(3 * run.count as usize);
         let words: Vec<u32> = words.collect();
         words.chunks(3).map(|a| (self.names(Run { first: a[0], count: a[1] }), a[2])).collect()
     }
 
-    fn event(&self, namespace: Run, action: u32, kind: u32) -> (String, String) {
+    pub fn event(&self, namespace: Run, action: u32, kind: u32) -> (String, String) {
         let text = |string: u32| String::from_utf8_lossy(self.tables.string(string)).into_owned();
         let mut names = self.names(namespace);
         names.push(text(action));
         (names.join("::"), text(kind))
-    }
-
-    /// A variable takes the kinds of the fields that it stands for, and of what it is compared with by `==`.
-    fn kinds_of_variables(&self) -> Vec<Kinds> {
-        let mut kinds = vec![Kinds::default(); 16];
-        let mut add = |variable: u32, more: Kinds| kinds[variable as usize] = kinds[variable as usize].or(more);
-        for node in &self.nodes {
-            match *node {
-                Node::Tp { variable } => add(variable, Kinds::INT),
-                Node::Predicate { namespace, action, kind, arguments } => {
-                    let (action, kind) = self.event(namespace, action, kind);
-                    let fields = self.known.actions.get(&action).and_then(|kinds| kinds.get(&kind));
-                    for (path, term) in self.arguments(arguments) {
-                        if let Node::Variable { variable } = self.nodes[term as usize] {
-                            add(variable, fields.map_or(Kinds::ALL, |fields| fields.at(&path).unwrap_or(Kinds::ALL)));
-                        }
-                    }
-                }
-                Node::Comparison { op: EQ, left, right } => {
-                    for (one, other) in [(left, right), (right, left)] {
-                        if let Node::Variable { variable } = self.nodes[one as usize] {
-                            let other = self.nodes[other as usize];
-                            add(
-                                variable,
-                                if matches!(other, Node::Variable { .. }) { Kinds::ALL } else { self.kinds(other) },
-                            );
-                        }
-                    }
-                }
-                _ => {}
-            }
-        }
-        kinds
-    }
-
-    /// The kinds that a term may have.
-    fn kinds(&self, term: Node) -> Kinds {
-        match term {
-            Node::Literal { value } => Kinds::of(self.tables.values[value as usize]),
-            Node::Context { path } => self.known.context.at(&self.names(path)).unwrap_or(Kinds::ALL),
-            Node::Scope { root, path } if path.count == 0 => self.known.roots[root as usize],
-            Node::Scope { path, .. } => {
-                let path = self.names(path);
-                let own = if path == ["id"] || path == ["type"] { Kinds::STRING } else { Kinds::default() };
-                own.or(self.known.attributes.at(&path).unwrap_or(if own.none() { Kinds::ALL } else { own }))
-            }
-            Node::Variable { variable } => match self.variables[variable as usize] {
-                kinds if kinds.none() => Kinds::ALL,
-                kinds => kinds,
-            },
-            Node::Aggregate { .. } | Node::Arithmetic { .. } => Kinds::INT,
-            _ => Kinds::default(),
-        }
     }
 
     fn node(&mut self, number: u32) {
@@ -160,7 +67,7 @@ impl Look<'_> {
                 let path = self.names(path);
                 let context = &self.known.context;
                 if let Err((k, known)) = context.at(&path) {
-                    let near = did_you_mean(&path[k], known);
+                    let near = near_or_all(&path[k], known);
                     self.tell(about, format!("{} `context.{}`{near}", self.known.source(), path[..=k].join(".")));
                 }
             }
@@ -174,7 +81,10 @@ impl Look<'_> {
 
     fn window(&mut self, about: About, within: Within) {
         if within.amount < 0 {
-            self.tell(about, "this window's amount is negative: no point is ever in it".to_string());
+            self.tell(
+                about,
+                "this window's amount is negative, so no point is ever in it: write it without the minus".to_string(),
+            );
         }
     }
 
@@ -182,7 +92,7 @@ impl Look<'_> {
         let known = self.known;
         let source = known.source();
         let Some(kinds) = known.actions.get(action) else {
-            let near = did_you_mean(action, known.actions.keys().map(String::as_str));
+            let near = near_or_all(action, known.actions.keys().map(String::as_str));
             return self.tell(About::Node(number), format!("{source} action `{action}`{near}"));
         };
         let Some(fields) = kinds.get(kind) else {
@@ -195,7 +105,7 @@ impl Look<'_> {
             let kinds = match fields.at(&path) {
                 Ok(kinds) => kinds,
                 Err((at, names)) => {
-                    let near = did_you_mean(&path[at], names);
+                    let near = near_or_all(&path[at], names);
                     self.tell(about, format!("{source} field `{}` in `{action}`{near}", path[..=at].join(".")));
                     continue;
                 }
@@ -206,7 +116,7 @@ impl Look<'_> {
                 let path = path.join(".");
                 self.tell(
                     about,
-                    format!("this never matches: `{path}` of `{action}` is {kinds}, and this is {wanted}"),
+                    format!("this never matches: `{path}` of `{action}` is {kinds}, and this is {wanted}; ask for one that it can be"),
                 );
             }
         }
@@ -215,14 +125,18 @@ impl Look<'_> {
     fn comparison(&mut self, about: About, op: u32, sides: [u32; 2]) {
         let [left, right] = sides.map(|side| self.nodes[side as usize]);
         if left == Node::Wildcard || right == Node::Wildcard {
-            return self.tell(about, "this never holds: `*` is compared with nothing".to_string());
+            return self
+                .tell(about, "this never holds: `*` stands for any field of an action, and nowhere else".to_string());
         }
         if op < EQ {
             return self.numbers(about, "an ordering", sides);
         }
         let (left, right) = (self.kinds(left), self.kinds(right));
         if op == EQ && !left.none() && !right.none() && !left.meets(right) {
-            self.tell(about, format!("this never holds: the left side is {left}, the right side is {right}"));
+            self.tell(
+                about,
+                format!("this never holds: the left side is {left}, the right side is {right}; make them one type"),
+            );
         }
     }
 
@@ -231,7 +145,7 @@ impl Look<'_> {
         for (side, words) in sides.into_iter().zip(["left", "right"]) {
             let kinds = self.kinds(self.nodes[side as usize]);
             if !kinds.none() && !kinds.meets(Kinds::INT) {
-                self.tell(about, format!("this never holds: {what} takes integers, and the {words} side is {kinds}"));
+                self.tell(about, format!("this never holds: {what} takes integers, and the {words} side is {kinds}; compare it by == or !="));
             }
         }
     }
@@ -239,17 +153,19 @@ impl Look<'_> {
     fn scope(&mut self, about: About, root: usize, path: Run) {
         let known = self.known;
         if known.roots[root].none() {
-            return self.tell(about, format!("{} {}", known.source(), ROOTS[root]));
+            return self
+                .tell(about, format!("{} {}: give the points one, or leave this out", known.source(), ROOTS[root]));
         }
         let path = self.names(path);
         if path.is_empty() || path == ["id"] || path == ["type"] {
             return;
         }
         if !known.roots[root].meets(Kinds::ENTITY) {
-            return self.tell(about, format!("{} is no entity, so it has no attributes", ROOTS[root]));
+            return self
+                .tell(about, format!("{} is no entity, so it has no attributes: compare it as it is", ROOTS[root]));
         }
         if let Err((k, names)) = known.attributes.at(&path) {
-            let near = did_you_mean(&path[k], names);
+            let near = near_or_all(&path[k], names);
             self.tell(about, format!("{} entity with the attribute `{}`{near}", known.source(), path[..=k].join(".")));
         }
     }

@@ -15,7 +15,7 @@ pub fn falling(tables: &Tables) -> Option<Warning> {
     let &first = falls.first()?;
     let more = if falls.len() > 1 { format!("; {} more fall", falls.len() - 1) } else { String::new() };
     let message = format!(
-        "the time falls here, from {} to {}: a window reaches by time, not by order{more}",
+        "the time falls here, from {} to {}: a window reaches by time, not by order; sort the points{more}",
         times[first - 1],
         times[first]
     );
@@ -30,7 +30,7 @@ pub fn ahead(tables: &Tables, asked: usize) -> Option<Warning> {
     let &first = ahead.first()?;
     let more = if ahead.len() > 1 { format!(" ({} points are)", ahead.len()) } else { String::new() };
     let message = format!(
-        "point {first}, at {}, is ahead of point {asked}, which is asked about, at {now}: no window reaches it{more}",
+        "point {first}, at {}, is ahead of point {asked}, which is asked about, at {now}: no window reaches it, so look at its time{more}",
         times[first]
     );
     Some(Warning { about: About::Point(first as u32), message })

@@ -34,7 +34,7 @@ impl Parser {
     fn part(&mut self, point: &mut PlainPoint) -> Parsed<bool> {
         let place = self.place();
         let once = |already: bool, what: &str| match already {
-            true => place.fault(format!("this point has its `{what}` twice")),
+            true => place.fault(format!("this point has its `{what}` twice: leave one out, or join them")),
             false => Ok(()),
         };
         if self.word("logged") {

@@ -115,20 +115,20 @@ impl Printer<'_> {
             Node::Comparison { op, left, right } => {
                 format!("{} {} {}", self.node(left)?, sign(&COMPARISONS, op)?, self.node(right)?)
             }
-            Node::Exists { variable: v, body } => format!("exists {} {}", variable(v), self.node(body)?),
-            Node::Tp { variable: v } => format!("tp {}", variable(v)),
+            Node::Exists { variable: v, body } => format!("exists {} {}", self.variable(v), self.node(body)?),
+            Node::Tp { variable: v } => format!("tp {}", self.variable(v)),
             Node::Literal { value } => self.value(value)?,
             Node::Context { path } => format!("context.{}", self.path(path)?),
             Node::Scope { root, path } if path.count == 0 => sign(&ROOTS, root)?.to_string(),
             Node::Scope { root, path } => format!("{}.{}", sign(&ROOTS, root)?, self.path(path)?),
-            Node::Variable { variable: v } => variable(v),
+            Node::Variable { variable: v } => self.variable(v),
             Node::Wildcard => "*".to_string(),
             Node::Aggregate { aggregate } => self.node(aggregate)?,
             Node::Arithmetic { op, left, right } => {
                 format!("{} {} {}", self.node(left)?, sign(&ARITHMETIC, op)?, self.node(right)?)
             }
             Node::Sum { variable: v, binders, body } => {
-                format!("sum {}{} where {}", variable(v), self.binders(binders)?, self.node(body)?)
+                format!("sum {}{} where {}", self.variable(v), self.binders(binders)?, self.node(body)?)
             }
             Node::Count { binders, body } => format!("count{} where {}", self.binders(binders)?, self.node(body)?),
         })
@@ -140,13 +140,9 @@ impl Printer<'_> {
     }
 
     fn binders(&self, run: Run) -> Printed<String> {
-        let names: Vec<String> = self.list(run.first, run.count as usize)?.iter().map(|&v| variable(v)).collect();
+        let names: Vec<String> = self.list(run.first, run.count as usize)?.iter().map(|&v| self.variable(v)).collect();
         Ok(if names.is_empty() { String::new() } else { format!(" for {}", names.join(", ")) })
     }
-}
-
-pub fn variable(number: u32) -> String {
-    format!("x{number}")
 }
 
 fn window(within: Within) -> Printed<String> {

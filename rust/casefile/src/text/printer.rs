@@ -2,37 +2,61 @@
 
 use std::fmt::Write;
 
-use super::printed::variable;
 use super::{pack, Keyword};
 use crate::binding::Binding;
 use crate::records::{Node, Point, Run, Value};
 use crate::tables::Tables;
-
-/// A shared value with more parts than this gets a name of its own.
-const INLINE_PARTS: usize = 8;
 
 const MOST_DEPTH: usize = 32;
 const MOST_HEIGHT: usize = 64;
 
 pub type Printed<T> = Result<T, String>;
 
+/// Names that a case had when it was packed.
+#[derive(Clone, Debug, Default)]
+pub struct Given {
+    pub variables: Vec<String>,
+    /// Name, node, and whether it is loose; a node may have several.
+    pub rules: Vec<(String, u32, bool)>,
+}
+
+impl Given {
+    /// Whether a node has a name.
+    pub fn has(&self, node: u32) -> bool {
+        self.rules.iter().any(|(_, named, _)| *named == node)
+    }
+}
+
 /// The text of a case that passes the check; an error says why it cannot be written.
 pub fn unpack(tables: &Tables) -> Printed<String> {
-    let mut printer = Printer::new(tables)?;
-    printer.plan_values()?;
-    printer.plan_nodes();
-    let text = printer.text()?;
+    let text = printed(tables, Given::default())?;
     match pack(&text) {
         Ok(_) => Ok(text),
         Err(fault) => Err(format!("the case breaks a rule of the check: {}", fault.message)),
     }
 }
 
+/// The same with the names that it had; with made-up ones where those cannot be written.
+pub fn unpack_named(tables: &Tables, given: Given) -> Printed<String> {
+    match printed(tables, given) {
+        Ok(text) if pack(&text).is_ok_and(|packed| packed.tables == *tables) => Ok(text),
+        _ => unpack(tables),
+    }
+}
+
+fn printed(tables: &Tables, given: Given) -> Printed<String> {
+    let mut printer = Printer::new(tables, given)?;
+    printer.plan_values()?;
+    printer.plan_nodes();
+    printer.text()
+}
+
 pub struct Printer<'a> {
     tables: &'a Tables,
+    pub given: Given,
     strings: Vec<&'a str>,
     pub values: Vec<Value>,
-    points: Vec<Point>,
+    pub points: Vec<Point>,
     pub nodes: Vec<Node>,
     pub value_named: Vec<bool>,
     pub node_named: Vec<bool>,
@@ -40,7 +64,7 @@ pub struct Printer<'a> {
 
 impl<'a> Printer<'a> {
     /// Reads all records; numbers that lead nowhere, or to a later record, are faults.
-    fn new(tables: &'a Tables) -> Printed<Printer<'a>> {
+    fn new(tables: &'a Tables, given: Given) -> Printed<Printer<'a>> {
         let mut strings = Vec::new();
         for [start, length] in &tables.strings {
             let bytes = tables.text.get(*start as usize..*start as usize + *length as usize);
@@ -51,6 +75,7 @@ impl<'a> Printer<'a> {
         let nodes: Option<Vec<Node>> = tables.nodes.iter().map(|words| Node::read(*words)).collect();
         let printer = Printer {
             tables,
+            given,
             strings,
             values: values.ok_or("a value has an unknown kind")?,
             points: tables.points.iter().map(|words| Point::read(*words)).collect(),
@@ -119,7 +144,7 @@ impl<'a> Printer<'a> {
     }
 
     /// The nodes that a node refers to, in the order in which its text has them.
-    fn operands(&self, node: u32) -> Printed<Vec<u32>> {
+    pub fn operands(&self, node: u32) -> Printed<Vec<u32>> {
         let node = self.nodes[node as usize];
         if let Node::Predicate { arguments, .. } = node {
             return Ok(self.arguments(arguments)?.iter().map(|(_, term)| *term).collect());
@@ -127,69 +152,10 @@ impl<'a> Printer<'a> {
         Ok(node.children(|_| Vec::new()))
     }
 
-    /// Names the values that nobody uses and the large ones that several use.
-    fn plan_values(&mut self) -> Printed<()> {
-        let mut uses = vec![0; self.values.len()];
-        let mut used = |value: u32| match uses.get_mut(value as usize) {
-            Some(count) => {
-                *count += 1;
-                Ok(())
-            }
-            None => Err(format!("there is no value {value}")),
-        };
-        for number in 0..self.values.len() as u32 {
-            self.members(number)?.iter().try_for_each(|[_, value]| used(*value))?;
-        }
-        for point in &self.points {
-            used(point.logged)?;
-            used(point.context)?;
-            point.principal.into_iter().chain(point.resource).try_for_each(&mut used)?;
-            let entities = self.list(point.entities.first, 3 * point.entities.count as usize)?;
-            entities.chunks(3).try_for_each(|entity| used(entity[2]))?;
-        }
-        for node in &self.nodes {
-            if let Node::Literal { value } = node {
-                used(*value)?;
-            }
-        }
-        let mut parts: Vec<usize> = Vec::new();
-        for (number, uses) in uses.into_iter().enumerate() {
-            let below = self.members(number as u32)?.iter().map(|[_, value]| parts[*value as usize]).sum::<usize>();
-            let named = uses == 0 || (uses > 1 && 1 + below > INLINE_PARTS);
-            self.value_named[number] = named;
-            parts.push(if named { 1 } else { 1 + below });
-        }
-        Ok(())
-    }
-
-    /// Names the nodes that cannot stand inside another's text: those used not exactly once, and
-    /// those that would not get their number back there, because packing numbers in text order.
-    fn plan_nodes(&mut self) {
-        let count = self.nodes.len();
-        let operands: Vec<Vec<u32>> = (0..count as u32).map(|k| self.operands(k).unwrap_or_default()).collect();
-        let mut uses = vec![0; count];
-        operands.iter().flatten().for_each(|&child| uses[child as usize] += 1);
-        let mut inline = vec![false; count];
-        // The first number of the text that ends in this node, everything inline counted.
-        let mut first = vec![0; count];
-        for node in 0..count {
-            let mut before = node;
-            for &child in operands[node].iter().rev() {
-                let child = child as usize;
-                if uses[child] == 1 && child + 1 == before {
-                    inline[child] = true;
-                    before = first[child];
-                }
-            }
-            first[node] = before;
-        }
-        self.node_named = inline.iter().map(|inline| !inline).collect();
-    }
-
     fn text(&self) -> Printed<String> {
         let mut text = String::new();
         if self.tables.variables > 0 {
-            let names: Vec<String> = (0..self.tables.variables.min(17)).map(variable).collect();
+            let names: Vec<String> = (0..self.tables.variables.min(17)).map(|number| self.variable(number)).collect();
             writeln!(text, "variables {}", names.join(" ")).expect("writing to a String");
         }
         for number in (0..self.values.len()).filter(|&k| self.value_named[k]) {
@@ -201,30 +167,46 @@ impl<'a> Printer<'a> {
         }
         let binding = Binding::of(self.tables);
         for number in (0..self.nodes.len() as u32).filter(|&k| self.node_named[k as usize]) {
-            let (keyword, name) = self.named(number);
-            let node = self.node_inside(number)?;
-            let (before, after) = if keyword == Keyword::Term { ("", String::new()) } else { asked(&binding, number) };
-            writeln!(text, "{before}{} {name}{after} = {node}", keyword.word()).expect("writing to a String");
+            text.push_str(&self.statement(number, &binding)?);
         }
         Ok(text)
     }
 
-    /// What a node is in the text, and the name that it gets.
-    pub fn named(&self, number: u32) -> (Keyword, String) {
-        match self.nodes[number as usize] {
-            node if node.is_condition() => (Keyword::Rule, format!("r{number}")),
-            node if node.is_aggregate() => (Keyword::Number, format!("n{number}")),
-            _ => (Keyword::Term, format!("t{number}")),
+    /// A node's own statement, and one more for each other name that it has.
+    fn statement(&self, number: u32, binding: &Binding) -> Printed<String> {
+        let (keyword, name) = self.named(number);
+        let (before, after) = if keyword == Keyword::Term { ("", String::new()) } else { self.asked(binding, number) };
+        let (word, node) = (keyword.word(), self.node_inside(number)?);
+        let mut text = format!("{before}{word} {name}{after} = {node}\n");
+        for (other, _, _) in self.given.rules.iter().filter(|(other, node, _)| *node == number && *other != name) {
+            text.push_str(&format!("{before}{word} {other}{after} = @{name}\n"));
         }
+        Ok(text)
     }
-}
 
-/// What stands before and after the name of a rule: its parameters, or that it is loose where they do not suffice.
-fn asked(binding: &Binding, number: u32) -> (&'static str, String) {
-    let free = binding.free(number);
-    if !binding.asked(number, free).is_empty() {
-        return ("loose ", String::new());
+    /// What a node is in the text, and the name that it gets: the first that was given, or a made-up one.
+    pub fn named(&self, number: u32) -> (Keyword, String) {
+        let (keyword, letter) = match self.nodes[number as usize] {
+            node if node.is_condition() => (Keyword::Rule, 'r'),
+            node if node.is_aggregate() => (Keyword::Number, 'n'),
+            _ => (Keyword::Term, 't'),
+        };
+        let given = self.given.rules.iter().find(|(_, node, _)| *node == number);
+        (keyword, given.map_or_else(|| format!("{letter}{number}"), |(name, _, _)| name.clone()))
     }
-    let names: Vec<String> = free.iter().map(variable).collect();
-    ("", if names.is_empty() { String::new() } else { format!("({})", names.join(", ")) })
+
+    pub fn variable(&self, number: u32) -> String {
+        self.given.variables.get(number as usize).cloned().unwrap_or_else(|| format!("x{number}"))
+    }
+
+    /// What stands before and after the name of a rule: its parameters, or that it is loose where they do not suffice.
+    fn asked(&self, binding: &Binding, number: u32) -> (&'static str, String) {
+        let free = binding.free(number);
+        let loose = self.given.rules.iter().any(|(_, node, loose)| *node == number && *loose);
+        if loose || !binding.asked(number, free).is_empty() {
+            return ("loose ", String::new());
+        }
+        let names: Vec<String> = free.iter().map(|variable| self.variable(variable)).collect();
+        ("", if names.is_empty() { String::new() } else { format!("({})", names.join(", ")) })
+    }
 }

@@ -66,7 +66,7 @@ impl Parser {
         };
         self.at += 1;
         if self.named.insert(name.clone(), Named::Faulty).is_some() {
-            return place.fault(format!("the name `{name}` is given twice"));
+            return place.fault(format!("the name `{name}` is given twice: give this one another"));
         }
         Ok((name, place))
     }

@@ -55,7 +55,7 @@ pub fn answered(arguments: &[&str], status: i32, output: &str) {
 }
 
 /// Status 2, nothing on standard output, these words on standard error.
-pub fn refused(arguments: &[&str], words: &str) {
+pub fn refused<A: AsRef<OsStr> + std::fmt::Debug>(arguments: &[A], words: &str) {
     let (status, output, error) = run(arguments);
     assert_eq!((status, output.as_str()), (2, ""), "{arguments:?}: {error}");
     assert!(error.contains(words), "{arguments:?}: {error}");

@@ -17,7 +17,8 @@
  *     returned 0, unchanged since. The other calls take any bytes;
  *   - 1 MiB of stack is left; a call uses well below that.
  *
- * Link libcapi.a, which `rt staticlib capi` makes, for x86-64 Linux.
+ * Link libgalivodern.a: tools/install puts it in place, with a file for
+ * pkg-config (`cc main.c $(pkg-config --cflags --libs galivodern)`).
  */
 #ifndef GALIVODERN_H
 #define GALIVODERN_H
@@ -145,6 +146,48 @@ uint64_t galivodern_checked_rows(const uint8_t *file, size_t file_len, size_t po
                                  const uint64_t *start, size_t start_len, uint64_t steps, size_t room,
                                  uint64_t *work, size_t work_len, const uint32_t *binders, size_t binders_len,
                                  uint64_t *output, size_t output_len, uint64_t *told, size_t told_len);
+
+/* What a call's return means, in a sentence without a full stop; never NULL.
+ * A number that no call returns is told as such. */
+static inline const char *galivodern_refusal_text(uint64_t returned) {
+    switch (returned) {
+    case GALIVODERN_ANSWERED:
+        return "answered";
+    case GALIVODERN_BAD_CONTENTS:
+        return "no case file: shorter than 64 bytes, not of edition 1, or its tables are misplaced or cut short";
+    case GALIVODERN_TOO_LARGE:
+        return "the file, one of its tables or its number of variables is larger than allowed";
+    case GALIVODERN_BAD_STRINGS:
+        return "a string is not UTF-8, or the strings are not in rising order or do not fill the text";
+    case GALIVODERN_BAD_VALUES:
+        return "a value or a member breaks a rule of the case file, or a value is more than 32 deep";
+    case GALIVODERN_BAD_POINTS:
+        return "a point or one of its entities breaks a rule of the case file";
+    case GALIVODERN_BAD_NODES:
+        return "a node breaks a rule of the case file, or a node is more than 64 high";
+    case GALIVODERN_NO_SUCH_POINT:
+        return "the case has no such point";
+    case GALIVODERN_NO_SUCH_NODE:
+        return "the case has no such node, or it is of another sort: verdicts and rows are asked of conditions, "
+               "numbers of counts and sums";
+    case GALIVODERN_BAD_START:
+        return "a starting binding is malformed: no such variable, no such value or string, or an integer given as a "
+               "value's number";
+    case GALIVODERN_BAD_LIMITS:
+        return "more than 1,000,000,000 steps or room for more than 16,384 rows is asked for, or the workspace is too "
+               "small";
+    case GALIVODERN_STEPS_EXHAUSTED:
+        return "the answer takes more steps than allowed";
+    case GALIVODERN_ROOM_EXHAUSTED:
+        return "the answer takes more rows than allowed";
+    case GALIVODERN_BAD_OUTPUT:
+        return "rows are asked for a variable that the case does not have, or the output is too short";
+    case GALIVODERN_TOO_FEW_CELLS:
+        return "`contents` or `told` has too few cells: nothing was done";
+    default:
+        return "a number that no call returns";
+    }
+}
 
 #ifdef __cplusplus
 }

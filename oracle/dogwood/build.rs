@@ -58,7 +58,7 @@ fn read(folder: &Path, path: &str) -> String {
     eprintln!("         {path}");
     eprintln!("       nor {flat}");
     eprintln!("       Set DOGWOOD_SRC to the folder that holds Dogwood's source (relative to the");
-    eprintln!("       repository's root, or absolute). The crates casefile, model and generate need none.");
+    eprintln!("       repository's root, or absolute). The crates model and generate need none.");
     std::process::exit(1);
 }
 

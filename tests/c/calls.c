@@ -145,10 +145,31 @@ static void test_rows(list *rows, const uint8_t *file, size_t length) {
     CHECK(same(told, 0, 1, 0) && same(output, 1, 7, 8));
 }
 
+/* Every number that a call returns has a text of its own, and no other number has one of these. */
+static void test_refusal_text(void) {
+    const char *known[] = {0, 0, 0, 0, 0, 0, 0, 0, 0, 0, 0, 0, 0, 0, 0};
+    const char *unknown = galivodern_refusal_text(UINT64_MAX);
+    for (uint64_t returned = 0; returned <= GALIVODERN_BAD_OUTPUT; returned++) {
+        known[returned] = galivodern_refusal_text(returned);
+    }
+    known[14] = galivodern_refusal_text(GALIVODERN_TOO_FEW_CELLS);
+    for (size_t k = 0; k < 15; k++) {
+        CHECK(strcmp(known[k], unknown) != 0);
+        for (size_t other = 0; other < k; other++) {
+            CHECK(strcmp(known[k], known[other]) != 0);
+        }
+    }
+    CHECK(strcmp(galivodern_refusal_text(GALIVODERN_NO_SUCH_POINT), "the case has no such point") == 0);
+    CHECK(strstr(galivodern_refusal_text(GALIVODERN_BAD_LIMITS), "the workspace is too small") != NULL);
+    CHECK(strstr(galivodern_refusal_text(GALIVODERN_BAD_OUTPUT), "the output is too short") != NULL);
+    CHECK(strcmp(galivodern_refusal_text(GALIVODERN_TOO_FEW_CELLS + 1), unknown) == 0);
+}
+
 int main(void) {
     static uint8_t file[512];
     size_t length = write_case(file);
     uint64_t told[3], work[4];
+    test_refusal_text();
     test_check(file, length);
     test_verdict(galivodern_verdict, file, length);
     test_verdict(galivodern_checked_verdict, file, length);

@@ -82,7 +82,7 @@ fn below(tables: &Tables, rule: u32) -> Below {
             }
             _ => {}
         }
-        open.extend(node(number).children());
+        open.extend(node(number).children(|_| Vec::new()));
     }
     below
 }

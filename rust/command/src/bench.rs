@@ -1,11 +1,17 @@
 //! `bench`: the last node at every point, as document 01's program writes it.
 
-use galivodern::{Bindings, Case, Limits, Refusal, Refused, Sort};
+use std::ffi::OsStr;
+
+use casefile::Variables;
+use galivodern::{Bindings, Limits, PointNo, Refusal, Refused, RuleNo, Sort};
 
 use crate::arguments::Options;
-use crate::failure::{print, Failure};
-use crate::json;
-use crate::opened::{as_text, packed, read, shown};
+use crate::failure::Failure;
+use crate::input::{as_text, read, shown};
+use crate::json::Object;
+use crate::names::Names;
+use crate::opened::{packed, Opened};
+use crate::output::print;
 use crate::progress::Progress;
 use crate::Said;
 
@@ -13,67 +19,85 @@ const MOST_BYTES: usize = 65_536;
 
 pub fn bench(options: &Options) -> Result<Said, Failure> {
     let file = options.file()?;
-    let bytes = read(file)?;
-    let bytes = match as_text(&bytes) {
-        Some(text) => packed(file, text)?.tables.encode(),
-        None => bytes,
-    };
-    let file = shown(file);
-    match asked(bytes) {
-        Ok((case, node)) => every_point(file, &case, node, options.json),
-        Err(refusal) => {
-            if !options.json {
-                print(&format!("refused {}\n", refusal.number()))?;
-            }
-            Err(Failure::refused_case(file, refusal, options.json))
+    let opened = case(file).inspect_err(|failure| {
+        // Document 01's program says so; what else is to be said goes to standard error.
+        if let (Failure::Refused { refused, .. }, false) = (failure, options.flag("--json")) {
+            let _ = print(&format!("refused {}\n", refused.refusal.number()));
         }
-    }
+    })?;
+    let mut asked = opened.asked(None, None)?;
+    asked.loose |= options.flag("--loose");
+    opened.all_bound(&asked, Variables::default())?;
+    every_point(&opened, asked.node, options)
 }
 
-/// The case and its last node, a condition.
-fn asked(bytes: Vec<u8>) -> Result<(Case, u32), Refusal> {
+/// The case with a condition for its last node.
+fn case(file: &OsStr) -> Result<Opened, Failure> {
+    let bytes = read(file)?;
+    // An empty file is refused as document 01's program does it.
+    let text = if bytes.is_empty() { None } else { as_text(file, &bytes)? };
+    let (names, source, bytes) = match text {
+        Some(text) => {
+            let packed = packed(file, text)?;
+            (Names::of_text(&packed), Some((text.to_string(), packed.clone())), packed.tables.encode())
+        }
+        None => (Names::beside(file, &bytes)?, None, bytes),
+    };
+    let refused = |refusal, hint: &str| Failure::refused(&shown(file), Refused::from(refusal), hint);
     if bytes.len() > MOST_BYTES {
-        return Err(Refusal::TooLarge);
+        let hint = format!(": {} bytes, and `bench` takes 65536; `ask` takes cases up to 4194304", bytes.len());
+        return Err(refused(Refusal::TooLarge, &hint));
     }
-    let case = Case::new(bytes)?;
-    match case.last_node() {
-        Some(node) if case.sort(node) == Some(Sort::Condition) => Ok((case, node)),
-        _ => Err(Refusal::NoSuchNode),
+    let opened = Opened::of(file, bytes, names, source)?;
+    match opened.case.last_rule().and_then(|node| opened.case.sort(node)) {
+        Some(Sort::Condition) => Ok(opened),
+        _ => Err(refused(Refusal::NoSuchNode, "; `bench` asks the last node, which must be a condition")),
     }
 }
 
-fn every_point(file: &str, case: &Case, node: u32, json: bool) -> Result<Said, Failure> {
-    let points = case.contents().points;
-    let progress = Progress::start(format!("asking {file}"), Some(points));
+fn every_point(opened: &Opened, node: u32, options: &Options) -> Result<Said, Failure> {
+    let points = opened.case.contents().points;
+    let progress = Progress::start(format!("asking {}", opened.file), Some(points));
     let mut lines = Vec::new();
     for point in 0..points {
-        lines.push(if json { json_line(case, node, point) } else { line(case, node, point) });
+        let said = opened.case.verdict(PointNo(point), RuleNo(node), &Bindings::new(), Limits::default());
+        let (told, steps, held) = match said {
+            Ok(answer) => (Ok(answer.value), answer.steps, answer.held),
+            Err(Refused { refusal, steps, held, .. }) => (Err(refusal.number()), steps, held),
+        };
+        lines.push(if options.flag("--json") {
+            json_line(opened, point, told, steps, held)
+        } else {
+            let words = told.map_or_else(|number| format!("refused {number}"), |yes| yes_or_no(yes).to_string());
+            format!("{point} {words} {steps} {held}\n")
+        });
         progress.advance();
     }
     drop(progress);
-    if json {
-        let file = json::string(file);
-        print(&format!("{{\"file\":{file},\"node\":{node},\"points\":[{}]}}\n", lines.join(",")))?;
-    } else {
+    if options.flag("--json") {
+        let rule = opened.names.of_node(node).map(|rule| rule.name.as_str());
+        let object = Object::new().text("file", &opened.file).plain("node", node).some("rule", rule);
+        print(&format!("{}\n", object.list("points", lines.into_iter()).done()))?;
+    } else if !options.flag("--quiet") {
         print(&format!("point verdict steps held\n{}", lines.concat()))?;
     }
     Ok(Said::Yes)
 }
 
-fn line(case: &Case, node: u32, point: usize) -> String {
-    match case.verdict(point, node, &Bindings::new(), Limits::default()) {
-        Ok(answer) => {
-            let verdict = if answer.value { "yes" } else { "no" };
-            format!("{point} {verdict} {} {}\n", answer.steps, answer.held)
-        }
-        Err(Refused { refusal, steps, held }) => format!("{point} refused {} {steps} {held}\n", refusal.number()),
+fn yes_or_no(yes: bool) -> &'static str {
+    if yes {
+        "yes"
+    } else {
+        "no"
     }
 }
 
-fn json_line(case: &Case, node: u32, point: usize) -> String {
-    let (said, steps, held) = match case.verdict(point, node, &Bindings::new(), Limits::default()) {
-        Ok(answer) => (format!(r#""answer":{}"#, answer.value), answer.steps, answer.held),
-        Err(Refused { refusal, steps, held }) => (format!(r#""refused":{}"#, refusal.number()), steps, held),
+fn json_line(opened: &Opened, point: usize, told: Result<bool, u8>, steps: u64, held: usize) -> String {
+    let (time, date) = opened.time(point);
+    let object = Object::new().plain("point", point).plain("time", time).some("date", date.as_deref());
+    let object = match told {
+        Ok(yes) => object.plain("answer", yes),
+        Err(number) => object.plain("refused", number),
     };
-    format!(r#"{{"point":{point},{said},"steps":{steps},"held":{held}}}"#)
+    object.plain("steps", steps).plain("held", held).done()
 }

@@ -1,24 +1,42 @@
 //! `--bind VARIABLE=VALUE`: a value as in a case's text, looked up in the case.
 
+use casefile::binding::Binding;
 use casefile::text::pack;
-use casefile::{Tables, Value};
-use galivodern::{Bindings, Bound};
+use casefile::{Tables, Value, Variables};
+use galivodern::{Bindings, Bound, VariableNo};
 
 use crate::failure::Failure;
-use crate::opened::Opened;
+use crate::opened::{Asked, Opened};
 
-pub fn bindings(opened: &Opened, binds: &[String]) -> Result<Bindings, Failure> {
-    let mut bindings = Bindings::new();
+/// The starting bindings, and the variables that they bind.
+pub fn bindings(opened: &Opened, binds: &[&str]) -> Result<(Bindings, Variables), Failure> {
+    let (mut bindings, mut variables) = (Bindings::new(), Variables::default());
     for bind in binds {
-        let (variable, value) =
-            bind.split_once('=').ok_or_else(|| Failure::usage(&format!("`--bind {bind}` has no `=`")))?;
+        let (name, value) = bind
+            .split_once('=')
+            .ok_or_else(|| Failure::usage(format!("`--bind {bind}` has no `=`: it is written --bind v=X")))?;
+        let variable = opened.variable(name)?;
+        if variables.contains(variable.into()) {
+            return Err(Failure::usage(format!("`{name}` is bound twice")));
+        }
         let bound = bound(opened, value).ok_or_else(|| {
             let how = "a binding names an integer, or a value or string that the case holds";
-            Failure::Message(format!("{}: there is no value {value} in the case: {how}", opened.file))
+            Failure::of_file(&opened.file, format!("there is no value {value} in the case: {how}"))
         })?;
-        bindings = bindings.with(opened.variable(variable)?, bound);
+        variables = variables.with(variable.into());
+        bindings = bindings.with(VariableNo(variable), bound);
     }
-    Ok(bindings)
+    Ok((bindings, variables))
+}
+
+/// What is to be warned of: variables that are bound and do not stand free in what is asked.
+pub fn bound_names(opened: &Opened, asked: &Asked, bound: Variables) -> Vec<String> {
+    let idle = bound.but(Binding::of(&opened.tables).free(asked.node));
+    let told = |variable| {
+        let name = opened.variable_name(variable);
+        format!("{} does not depend on `{name}`, which is bound", asked.shown())
+    };
+    idle.iter().map(told).collect()
 }
 
 fn bound(opened: &Opened, value: &str) -> Option<Bound> {
@@ -33,8 +51,8 @@ fn bound(opened: &Opened, value: &str) -> Option<Bound> {
     if let Some(Value::Int(number)) = read(&given, last) {
         return Some(Bound::Int(number));
     }
-    let tables = Tables::decode(opened.case.bytes()).expect("a checked case can be read");
-    let known = (0..tables.values.len() as u32).find(|&number| same(&given, last, &tables, number));
+    let tables = &opened.tables;
+    let known = (0..tables.values.len() as u32).find(|&number| same(&given, last, tables, number));
     known.map(Bound::Value).or_else(|| {
         // A string that is no value may still be an entity's id or type.
         let Some(Value::String(text)) = read(&given, last) else { return None };

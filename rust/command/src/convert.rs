@@ -1,27 +1,32 @@
 //! `check`, and between case files and their text: `pack` and `text`.
 
-use casefile::text::unpack;
-use casefile::Tables;
-use galivodern::{Case, Contents};
+use casefile::text::unpack_named;
+use galivodern::Contents;
 
 use crate::arguments::Options;
-use crate::failure::{print, Failure};
-use crate::json;
-use crate::opened::{as_text, packed, read, shown, Opened};
+use crate::failure::Failure;
+use crate::input::{as_text, read, shown};
+use crate::json::Object;
+use crate::names::{beside, Names};
+use crate::opened::{packed, Opened};
+use crate::output::{print, print_bytes, print_or_write, write_file};
+use crate::warn::warnings;
 use crate::Said;
 
 pub fn check(options: &Options) -> Result<Said, Failure> {
-    let opened = Opened::open(options.file()?, options.json)?;
-    let Contents { variables, strings, values, points, nodes } = opened.case.contents();
+    let opened = Opened::open(options.file()?)?;
+    let warned = warnings(options, &opened, None, Vec::new())?;
+    let Contents { variables, strings, values, points, nodes, .. } = opened.case.contents();
     let bytes = opened.case.bytes().len();
     let file = &opened.file;
-    if options.json {
-        let file = json::string(file);
-        print(&format!(
-            "{{\"file\":{file},\"passes\":true,\"bytes\":{bytes},\"variables\":{variables},\"strings\":{strings},\
-             \"values\":{values},\"points\":{points},\"nodes\":{nodes}}}\n"
-        ))?;
-    } else {
+    if options.flag("--json") {
+        let object = Object::new().text("file", file).plain("passes", true).plain("bytes", bytes);
+        let object = object.plain("variables", variables).plain("strings", strings).plain("values", values);
+        let object = object.plain("points", points).plain("nodes", nodes);
+        let rules = opened.names.rules.iter().fold(Object::new(), |rules, rule| rules.plain(&rule.name, rule.node));
+        let object = object.plain("rules", rules.done());
+        print(&format!("{}\n", object.warnings(&warned).done()))?;
+    } else if !options.flag("--quiet") {
         print(&format!(
             "{file}: a sound case of {bytes} bytes: {points} points, {nodes} nodes, {variables} variables, \
              {values} values, {strings} strings\n"
@@ -35,34 +40,40 @@ pub fn pack_text(options: &Options) -> Result<Said, Failure> {
         return Err(Failure::usage("`pack` takes a text and the case file to write"));
     };
     let bytes = read(text)?;
-    let source =
-        as_text(&bytes).ok_or_else(|| Failure::of_file(shown(text), "this is no text, so there is nothing to pack"))?;
+    let source = as_text(text, &bytes)?.ok_or_else(|| {
+        Failure::of_file(&shown(text), "this is a case file already, or damaged: `pack` takes its text")
+    })?;
     let packed = packed(text, source)?;
-    let encoded = packed.tables.encode();
-    Case::new(encoded.clone()).map_err(|refusal| Failure::refused_case(shown(text), refusal, options.json))?;
+    let (encoded, names) = (packed.tables.encode(), Names::of_text(&packed));
+    let opened = Opened::of(text, encoded.clone(), names.clone(), Some((source.to_string(), packed)))?;
+    let warned = warnings(options, &opened, None, Vec::new())?;
     if case == "-" {
-        use std::io::Write;
-        let written = std::io::stdout().lock().write_all(&encoded);
-        return written.map(|()| Said::Yes).map_err(|error| Failure::of_file("standard output", error));
+        return print_bytes(&encoded).map(|()| Said::Yes);
     }
-    std::fs::write(case, &encoded).map_err(|error| Failure::of_file(case, error))?;
-    if options.json {
-        let nodes: Vec<String> =
-            packed.names.iter().map(|(name, node)| format!("{}:{node}", json::string(name))).collect();
-        let (file, bytes) = (json::string(case), encoded.len());
-        print(&format!("{{\"file\":{file},\"bytes\":{bytes},\"nodes\":{{{}}}}}\n", nodes.join(",")))?;
-    } else {
-        let lines: Vec<String> = packed.names.iter().map(|(name, node)| format!("{node} {name}\n")).collect();
+    write_file(case, &encoded, &[text])?;
+    write_file(&beside(case), names.written(&encoded).as_bytes(), &[text])?;
+    if options.flag("--json") {
+        let nodes = names.rules.iter().fold(Object::new(), |nodes, rule| nodes.plain(&rule.name, rule.node));
+        let object =
+            Object::new().text("file", &shown(case)).plain("bytes", encoded.len()).plain("nodes", nodes.done());
+        print(&format!("{}\n", object.warnings(&warned).done()))?;
+    } else if !options.flag("--quiet") {
+        let lines: Vec<String> = names.rules.iter().map(|rule| format!("{} {}\n", rule.node, rule.name)).collect();
         print(&lines.concat())?;
     }
     Ok(Said::Yes)
 }
 
-/// The text of a case; a text is packed first, so it comes back in the form that `text` writes.
+/// The text of a case, with its names; a text is packed first, so it comes back in the form that `text` writes.
 pub fn text(options: &Options) -> Result<Said, Failure> {
-    let opened = Opened::open(options.file()?, false)?;
-    let tables = Tables::decode(opened.case.bytes()).expect("a checked case can be read");
-    let text = unpack(&tables).map_err(|message| Failure::of_file(&opened.file, message))?;
-    print(&text)?;
+    let file = options.file()?;
+    let opened = Opened::open(file)?;
+    let text = unpack_named(&opened.tables, opened.names.given())
+        .map_err(|message| Failure::of_file(&opened.file, message))?;
+    if options.flag("--json") && options.named_file("-o").is_none() {
+        print(&format!("{}\n", Object::new().text("file", &opened.file).text("text", &text).done()))?;
+    } else {
+        print_or_write(&text, options.named_file("-o"), &[file])?;
+    }
     Ok(Said::Yes)
 }

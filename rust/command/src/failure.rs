@@ -1,61 +1,117 @@
-//! What ends a command with status 2, and how it is told.
+//! What ends a command with status 2, and how it is told: in words on standard error, or as one line of JSON.
 
-use std::io::{self, Write};
-
+use casefile::text::Fault;
 use galivodern::{Refusal, Refused};
 
-use crate::json;
+use crate::json::Object;
+use crate::warn::Warned;
+
+/// No more faults of one text are told than this.
+const MOST_TOLD: usize = 20;
 
 pub enum Failure {
-    /// Told on standard error.
-    Message(String),
-    /// A refusal, told on standard output as one line of JSON.
-    Json(String),
+    /// A wrong call.
+    Usage(String),
+    /// Something about a file.
+    File { file: String, message: String },
+    /// What is wrong with a text.
+    Faults { file: String, text: String, faults: Vec<Fault> },
+    /// A refused case or question, and what to do about it.
+    Refused { file: String, refused: Refused, hint: String },
+    /// Warnings that were asked to be errors.
+    Strict { file: String, warnings: Vec<Warned> },
 }
 
 impl Failure {
-    pub fn usage(message: &str) -> Failure {
-        Failure::Message(format!("{message}\nTry `galivodern help`."))
+    pub fn usage(message: impl Into<String>) -> Failure {
+        Failure::Usage(message.into())
     }
 
-    /// A file that cannot be read or written, or a text with a fault.
-    pub fn of_file(file: &str, what: impl std::fmt::Display) -> Failure {
-        Failure::Message(format!("{file}: {what}"))
+    pub fn of_file(file: &str, message: impl std::fmt::Display) -> Failure {
+        Failure::File { file: file.to_string(), message: message.to_string() }
     }
 
-    /// A refused case.
-    pub fn refused_case(file: &str, refusal: Refusal, json: bool) -> Failure {
-        Failure::refused(file, Refused { refusal, steps: 0, held: 0 }, json)
+    pub fn refused_case(file: &str, refusal: Refusal) -> Failure {
+        Failure::refused(file, Refused::from(refusal), "; pack its text again, or get the file anew")
     }
 
-    /// A refused question.
-    pub fn refused(file: &str, refused: Refused, json: bool) -> Failure {
-        let Refused { refusal, steps, held } = refused;
-        let number = refusal.number();
-        if json {
-            let why = json::string(&refusal.to_string());
-            let file = json::string(file);
-            return Failure::Json(format!(
-                r#"{{"file":{file},"refused":{number},"why":{why},"steps":{steps},"held":{held}}}"#
-            ));
-        }
-        Failure::Message(format!("{file}: refused {number}: {refused}"))
+    pub fn refused(file: &str, refused: Refused, hint: &str) -> Failure {
+        Failure::Refused { file: file.to_string(), refused, hint: hint.to_string() }
     }
 
-    pub fn report(&self) {
+    fn words(&self) -> String {
         match self {
-            Failure::Message(message) => eprintln!("galivodern: {message}"),
-            // Nothing is left to be told to if standard output is gone, too.
-            Failure::Json(line) => drop(print(&format!("{line}\n"))),
+            Failure::Usage(message) => format!("{message}\nTry `galivodern help`."),
+            Failure::File { file, message } => format!("{file}: {message}"),
+            Failure::Faults { file, text, faults } => faults_told(file, text, faults),
+            Failure::Refused { file, refused, hint } => {
+                format!("{file}: refused {}: {refused}{hint}", refused.refusal.number())
+            }
+            Failure::Strict { file, warnings } => {
+                let count = warnings.len();
+                let what = if count == 1 { "warning is an error" } else { "warnings are errors" };
+                let told: Vec<&str> = warnings.iter().map(Warned::words).collect();
+                format!("{}\ngalivodern: {file}: {count} {what} here (--strict)", told.join("\ngalivodern: "))
+            }
         }
+    }
+
+    pub fn json(&self) -> String {
+        let object = Object::new().text("error", self.kind());
+        match self {
+            Failure::Usage(message) => object.text("message", message),
+            Failure::File { file, message } => object.text("file", file).text("message", message),
+            Failure::Faults { file, faults, .. } => {
+                let fault = |fault: &Fault| {
+                    let place = Object::new().plain("line", fault.line).plain("column", fault.column);
+                    place.text("message", &fault.message).done()
+                };
+                object.text("file", file).list("faults", faults.iter().map(fault))
+            }
+            Failure::Refused { file, refused: Refused { refusal, steps, held, .. }, hint } => {
+                let object = object.text("file", file).plain("refused", refusal.number());
+                object.text("why", &format!("{refusal}{hint}")).plain("steps", steps).plain("held", held)
+            }
+            Failure::Strict { file, warnings } => object.text("file", file).warnings(warnings),
+        }
+        .done()
+    }
+
+    fn kind(&self) -> &'static str {
+        match self {
+            Failure::Usage(_) => "usage",
+            Failure::File { .. } => "file",
+            Failure::Faults { .. } => "text",
+            Failure::Refused { .. } => "refused",
+            Failure::Strict { .. } => "strict",
+        }
+    }
+
+    pub fn report(&self, json: bool) {
+        if json {
+            // Where standard output is gone, standard error is told in the JSON's place.
+            if crate::output::print(&format!("{}\n", self.json())).is_ok() {
+                return;
+            }
+        }
+        eprintln!("galivodern: {}", self.words());
     }
 }
 
-/// Writes to standard output. A reader that has gone away is no failure.
-pub fn print(text: &str) -> Result<(), Failure> {
-    let mut output = io::stdout().lock();
-    match output.write_all(text.as_bytes()).and_then(|()| output.flush()) {
-        Err(error) if error.kind() != io::ErrorKind::BrokenPipe => Err(Failure::of_file("standard output", error)),
-        _ => Ok(()),
+fn faults_told(file: &str, text: &str, faults: &[Fault]) -> String {
+    let mut told: Vec<String> = faults.iter().take(MOST_TOLD).map(|fault| placed(file, text, fault)).collect();
+    if faults.len() > MOST_TOLD {
+        told.push(format!("{file}: {} more are not shown", faults.len() - MOST_TOLD));
     }
+    told.join("\ngalivodern: ")
+}
+
+/// A message with its place, the line that it is about, and a caret under the fault.
+pub fn placed(file: &str, text: &str, fault: &Fault) -> String {
+    let head = format!("{file}:{fault}");
+    let Some(line) = text.lines().nth(fault.line - 1) else { return head };
+    let shown: String = line.chars().map(|c| if c == '\t' { ' ' } else { c }).filter(|c| !c.is_control()).collect();
+    let margin = fault.line.to_string();
+    let (blank, before) = (" ".repeat(margin.len()), " ".repeat(fault.column - 1));
+    format!("{head}\n  {margin} | {shown}\n  {blank} | {before}^")
 }

@@ -1,5 +1,49 @@
 //! Pieces of JSON.
 
+use std::fmt::Display;
+
+use crate::warn::Warned;
+
+/// An object that grows member by member.
+#[derive(Default)]
+pub struct Object(Vec<String>);
+
+impl Object {
+    pub fn new() -> Object {
+        Object::default()
+    }
+
+    /// A member whose value is JSON already.
+    pub fn plain(mut self, name: &str, value: impl Display) -> Object {
+        self.0.push(format!("{}:{value}", string(name)));
+        self
+    }
+
+    pub fn text(self, name: &str, text: &str) -> Object {
+        self.plain(name, string(text))
+    }
+
+    pub fn list(self, name: &str, items: impl Iterator<Item = String>) -> Object {
+        self.plain(name, format!("[{}]", items.collect::<Vec<_>>().join(",")))
+    }
+
+    /// A member that is left out where there is nothing to tell.
+    pub fn some(self, name: &str, text: Option<&str>) -> Object {
+        match text {
+            Some(text) => self.text(name, text),
+            None => self,
+        }
+    }
+
+    pub fn warnings(self, warnings: &[Warned]) -> Object {
+        self.list("warnings", warnings.iter().map(|warning| warning.json().to_string()))
+    }
+
+    pub fn done(self) -> String {
+        format!("{{{}}}", self.0.join(","))
+    }
+}
+
 /// A string with its quotes.
 pub fn string(text: &str) -> String {
     let mut quoted = String::from("\"");

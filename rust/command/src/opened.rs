@@ -1,107 +1,165 @@
-//! A case from a file, from its text or from standard input.
+//! A case from a file, from its text or from standard input, with its names.
 
-use std::io::Read;
+use std::ffi::OsStr;
 
-use casefile::text::{pack, Packed};
-use galivodern::Case;
+use casefile::binding::Binding;
+use casefile::near::did_you_mean;
+use casefile::text::{pack_or_faults, told, Packed};
+use casefile::time;
+use casefile::{Point, Tables, Variables};
+use galivodern::{Case, Refusal, Refused, RuleNo};
 
 use crate::failure::Failure;
+use crate::input::{as_text, read, shown};
+use crate::names::Names;
 use crate::progress::Progress;
 
-/// A case with the names that its text gave, if it came as text.
 pub struct Opened {
     pub file: String,
     pub case: Case,
-    packed: Option<Packed>,
+    pub tables: Tables,
+    pub names: Names,
+    /// The text that the case came from, if it came as text.
+    pub source: Option<(String, Packed)>,
 }
 
-/// No case is larger than 4 MiB; its text may be larger, but not without end.
-const MOST_READ: u64 = 64 << 20;
-
-/// The bytes of a file; `-` is standard input.
-pub fn read(file: &str) -> Result<Vec<u8>, Failure> {
-    let failed = |error| Failure::of_file(shown(file), error);
-    let mut bytes = Vec::new();
-    let read = if file == "-" {
-        std::io::stdin().take(MOST_READ + 1).read_to_end(&mut bytes)
-    } else {
-        std::fs::File::open(file).map_err(failed)?.take(MOST_READ + 1).read_to_end(&mut bytes)
-    };
-    if read.map_err(failed)? as u64 > MOST_READ {
-        return Err(Failure::of_file(shown(file), "too large: no case or text of one has more than 64 MiB"));
-    }
-    Ok(bytes)
+/// The node that is asked, and what is known of it.
+pub struct Asked {
+    pub node: u32,
+    pub rule: Option<String>,
+    /// Whether its variables may be unbound.
+    pub loose: bool,
 }
 
-/// What a file is called in messages.
-pub fn shown(file: &str) -> &str {
-    if file == "-" {
-        "standard input"
-    } else {
-        file
+impl Asked {
+    /// What a message calls it.
+    pub fn shown(&self) -> String {
+        self.rule.clone().unwrap_or_else(|| format!("node {}", self.node))
     }
-}
-
-/// The text, if the bytes are one. A case file has zero bytes in its contents, a text has none.
-pub fn as_text(bytes: &[u8]) -> Option<&str> {
-    if bytes.is_empty() || bytes.contains(&0) {
-        return None;
-    }
-    std::str::from_utf8(bytes).ok()
 }
 
 /// The packed text of a file.
-pub fn packed(file: &str, text: &str) -> Result<Packed, Failure> {
-    pack(text).map_err(|fault| Failure::Message(format!("{}:{fault}", shown(file))))
+pub fn packed(file: &OsStr, text: &str) -> Result<Packed, Failure> {
+    pack_or_faults(text).map_err(|faults| Failure::Faults { file: shown(file), text: text.to_string(), faults })
 }
 
 impl Opened {
-    pub fn open(file: &str, json: bool) -> Result<Opened, Failure> {
+    pub fn open(file: &OsStr) -> Result<Opened, Failure> {
         let bytes = read(file)?;
-        let packed = as_text(&bytes).map(|text| packed(file, text)).transpose()?;
-        let bytes = packed.as_ref().map_or(bytes, |packed| packed.tables.encode());
-        let file = shown(file).to_string();
-        let progress = Progress::start(format!("checking {file}"), None);
-        let case = Case::new(bytes).map_err(|refusal| Failure::refused_case(&file, refusal, json))?;
-        drop(progress);
-        Ok(Opened { file, case, packed })
-    }
-
-    /// The number of a variable by its name, `x0` where the text gave none, or by its number.
-    pub fn variable(&self, name: &str) -> Result<u16, Failure> {
-        let named = self.packed.as_ref().and_then(|packed| packed.variable(name)).map(|variable| variable as u16);
-        let number = || name.strip_prefix('x').unwrap_or(name).parse().ok();
-        named.or_else(number).ok_or_else(|| {
-            Failure::Message(format!("{}: there is no variable `{name}`; {}", self.file, self.variables_told()))
-        })
-    }
-
-    fn variables_told(&self) -> String {
-        let names: Vec<String> = (0..self.case.contents().variables as u32).map(|v| self.variable_name(v)).collect();
-        match names.len() {
-            0 => "the case has none".to_string(),
-            _ => format!("the case has {}", names.join(", ")),
+        match as_text(file, &bytes)? {
+            Some(text) => {
+                let packed = packed(file, text)?;
+                let names = Names::of_text(&packed);
+                Opened::of(file, packed.tables.encode(), names, Some((text.to_string(), packed)))
+            }
+            None => {
+                let names = Names::beside(file, &bytes)?;
+                Opened::of(file, bytes, names, None)
+            }
         }
     }
 
-    pub fn variable_name(&self, variable: u32) -> String {
-        let named = self.packed.as_ref().and_then(|packed| packed.variables.get(variable as usize).cloned());
-        named.unwrap_or_else(|| format!("x{variable}"))
+    pub fn of(file: &OsStr, bytes: Vec<u8>, names: Names, source: Option<(String, Packed)>) -> Result<Opened, Failure> {
+        let file = shown(file);
+        let progress = Progress::start(format!("checking {file}"), None);
+        let case = Case::new(bytes).map_err(|refusal| Failure::refused_case(&file, refusal))?;
+        drop(progress);
+        let tables = Tables::decode(case.bytes()).map_err(|message| Failure::of_file(&file, message))?;
+        Ok(Opened { file, case, tables, names, source })
     }
 
-    /// The node of a rule by its name, `r12`, `n12` or `t12` where the text gave none, or by its number.
-    pub fn node(&self, name: Option<&str>) -> Result<u32, Failure> {
-        let Some(name) = name else {
-            // A case without nodes is refused 8 whatever is asked.
-            return Ok(self.case.last_node().unwrap_or(0));
+    /// The number of a variable by its name, `x0` where the case has no names, or by its number.
+    pub fn variable(&self, name: &str) -> Result<u16, Failure> {
+        let number = || name.strip_prefix('x').filter(|_| self.names.variables.is_empty()).unwrap_or(name).parse().ok();
+        let count = self.case.contents().variables;
+        let known = self.names.variable(name).or_else(number).filter(|&v| (v as usize) < count);
+        known.map(|variable| variable as u16).ok_or_else(|| {
+            let names: Vec<String> = (0..count as u32).map(|v| self.variable_name(v)).collect();
+            let near = did_you_mean(name, names.iter().map(String::as_str));
+            let has = if names.is_empty() {
+                "the case has none".to_string()
+            } else {
+                format!("the case has {}", names.join(", "))
+            };
+            Failure::of_file(&self.file, format!("there is no variable `{name}`; {has}{near}"))
+        })
+    }
+
+    pub fn variable_name(&self, variable: u32) -> String {
+        self.names.variables.get(variable as usize).cloned().unwrap_or_else(|| format!("x{variable}"))
+    }
+
+    /// What is asked: a rule by its name, a node by its number, or else the last node.
+    pub fn asked(&self, rule: Option<&str>, node: Option<u32>) -> Result<Asked, Failure> {
+        let nodes = self.case.contents().nodes;
+        let none = |hint: String| Failure::refused(&self.file, Refused::from(Refusal::NoSuchNode), &hint);
+        let node = match (rule, node) {
+            (Some(_), Some(_)) => {
+                return Err(Failure::usage("`--rule` and `--node` are two ways to say what is asked"))
+            }
+            (Some(name), None) => {
+                let rule = self.names.rule(&self.file, name)?;
+                return Ok(Asked { node: rule.node, rule: Some(rule.name.clone()), loose: rule.loose });
+            }
+            (None, _) if nodes == 0 => return Err(none(": it has no rules at all".to_string())),
+            (None, Some(node)) if node as usize >= nodes => {
+                return Err(none(format!(": nodes 0 to {} exist", nodes - 1)));
+            }
+            (None, Some(node)) => node,
+            (None, None) => nodes as u32 - 1,
         };
-        let named = self.packed.as_ref().and_then(|packed| packed.node(name));
-        let number = || name.strip_prefix(['r', 'n', 't']).unwrap_or(name).parse().ok();
-        named.or_else(number).ok_or_else(|| Failure::Message(format!("{}: there is no rule `{name}`", self.file)))
+        let named = self.names.of_node(node);
+        Ok(Asked { node, rule: named.map(|rule| rule.name.clone()), loose: named.is_some_and(|rule| rule.loose) })
     }
 
     /// The point asked about: the last one if none is given.
-    pub fn point(&self, point: Option<usize>) -> usize {
-        point.unwrap_or(self.case.contents().points.saturating_sub(1))
+    pub fn point(&self, point: Option<usize>) -> Result<usize, Failure> {
+        let points = self.case.contents().points;
+        let hint = match points {
+            0 => ": its log is empty, write points into it".to_string(),
+            1 => ": only point 0 exists".to_string(),
+            _ => format!(": points 0 to {} exist", points - 1),
+        };
+        let point = point.or(points.checked_sub(1)).filter(|&point| point < points);
+        point.ok_or_else(|| Failure::refused(&self.file, Refused::from(Refusal::NoSuchPoint), &hint))
+    }
+
+    /// The time of a point: in seconds, and as a date where it has one.
+    pub fn time(&self, point: usize) -> (i64, Option<String>) {
+        let time = Point::read(self.tables.points[point]).time;
+        (time, time::written(time))
+    }
+
+    /// Refuses a rule that is asked with a variable unbound: its yes could be about another board.
+    pub fn all_bound(&self, asked: &Asked, bound: Variables) -> Result<(), Failure> {
+        let missing = Binding::of(&self.tables).free(asked.node).but(bound);
+        if asked.loose || missing.is_empty() {
+            return Ok(());
+        }
+        let names: Vec<String> = missing.iter().map(|variable| self.variable_name(variable)).collect();
+        let binds: Vec<String> = names.iter().map(|name| format!("--bind {name}=..")).collect();
+        let (names, binds, shown) = (names.join(", "), binds.join(" "), asked.shown());
+        let message = format!(
+            "{shown} is asked with {names} unbound: bind what it is about, {binds}, or list what it finds with `rows`"
+        );
+        Err(Failure::of_file(&self.file, message))
+    }
+
+    /// Refuses rows of a rule that does not bind what it leaves free, or not in order.
+    pub fn all_found(&self, asked: &Asked, bound: Variables) -> Result<(), Failure> {
+        if asked.loose || self.case.sort(RuleNo(asked.node)) != Some(galivodern::Sort::Condition) {
+            return Ok(());
+        }
+        let variables: Vec<String> =
+            (0..self.case.contents().variables as u32).map(|v| self.variable_name(v)).collect();
+        match Binding::of(&self.tables).listed(asked.node, bound).first() {
+            None => Ok(()),
+            Some(misuse) => {
+                let why = told(*misuse, &asked.shown(), &variables);
+                let name = &variables[misuse.variable as usize];
+                let message = format!("{} cannot list `{name}`: {why}; or bind it, --bind {name}=..", asked.shown());
+                Err(Failure::of_file(&self.file, message))
+            }
+        }
     }
 }

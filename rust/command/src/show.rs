@@ -18,6 +18,7 @@ pub fn text(case: &Case, bound: Option<Bound>) -> String {
             push_text(case, value, &mut shown);
             shown
         }
+        Some(other) => format!("{other:?}"),
     }
 }
 
@@ -40,6 +41,7 @@ fn push_text(case: &Case, number: u32, shown: &mut String) {
             shown.push_str(&format!("{name:?}: "));
             push_text(case, value, shown);
         }),
+        Some(other) => shown.push_str(&format!("{other:?}")),
     }
 }
 
@@ -53,6 +55,7 @@ pub fn json(case: &Case, bound: Bound) -> String {
             push_json(case, value, &mut shown);
             shown
         }
+        other => json::string(&format!("{other:?}")),
     }
 }
 
@@ -77,6 +80,7 @@ fn push_json(case: &Case, number: u32, shown: &mut String) {
             shown.push(':');
             push_json(case, value, shown);
         }),
+        Some(other) => shown.push_str(&json::string(&format!("{other:?}"))),
     }
 }
 

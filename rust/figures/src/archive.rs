@@ -1,6 +1,6 @@
 //! The calls of libcapi.a as a C program makes them, with any buffers; and the crate beside them.
 
-use galivodern::{Bindings, Bound, Case, Limits, Refused};
+use galivodern::{Bindings, Bound, Case, Limits, PointNo, RuleNo, VariableNo};
 use generate::calls::{output_fill, workspace_fill, Done};
 use generate::{Call, Kind};
 use model::Outcome;
@@ -175,12 +175,13 @@ fn bindings(start: &[u64], variables: usize) -> Option<Bindings> {
     }
     let mut bindings = Bindings::new();
     for (variable, cells) in start.chunks(2).enumerate() {
+        let named = VariableNo(variable as u16);
         let number = u32::try_from(cells[1]);
         bindings = match (cells[0], number) {
             (0, Ok(0)) if variable < variables => bindings,
-            (1, _) => bindings.with(variable as u16, Bound::Int(cells[1] as i64)),
-            (2, Ok(value)) => bindings.with(variable as u16, Bound::Value(value)),
-            (3, Ok(string)) => bindings.with(variable as u16, Bound::Part(string)),
+            (1, _) => bindings.with(named, Bound::Int(cells[1] as i64)),
+            (2, Ok(value)) => bindings.with(named, Bound::Value(value)),
+            (3, Ok(string)) => bindings.with(named, Bound::Part(string)),
             _ => return None,
         };
     }
@@ -189,21 +190,25 @@ fn bindings(start: &[u64], variables: usize) -> Option<Bindings> {
 
 /// What the crate says, as an outcome and the output cells filled.
 fn crate_outcome(case: &Case, call: &Call, start: &Bindings) -> (Outcome, Vec<u64>) {
-    let (point, node) = (call.point as usize, call.node);
+    let (point, rule) = (PointNo(call.point as usize), RuleNo(call.node));
     let limits = Limits { steps: call.limit, room: call.room as usize };
+    // A number that is no variable stays one that is none.
+    let binder = |&binder: &u32| VariableNo(u16::try_from(binder).unwrap_or(u16::MAX));
+    let binders: Vec<VariableNo> = call.binders.iter().map(binder).collect();
     let mut cells = Vec::new();
     let said = match call.kind {
-        Kind::Number => case.number(point, node, start, limits).map(|answer| answer.map(|n| n as u64)),
-        Kind::Rows => case.rows(point, node, &call.binders, start, limits).map(|answer| {
+        Kind::Number => case.number(point, rule, start, limits).map(|answer| answer.map(|n| n as u64)),
+        Kind::Rows => case.rows(point, rule, &binders, start, limits).map(|answer| {
             cells.extend(answer.value.iter().flat_map(|row| row.iter().flat_map(bound_cells)));
             answer.map(|rows| rows.len() as u64)
         }),
-        _ => case.verdict(point, node, start, limits).map(|answer| answer.map(u64::from)),
+        _ => case.verdict(point, rule, start, limits).map(|answer| answer.map(u64::from)),
     };
     let outcome = match said {
         Ok(answer) => Outcome { refusal: 0, answer: answer.value, steps: answer.steps, rows: answer.held as u64 },
-        Err(Refused { refusal, steps, held }) => {
-            Outcome { refusal: u32::from(refusal.number()), answer: 0, steps, rows: held as u64 }
+        Err(refused) => {
+            let refusal = u32::from(refused.refusal.number());
+            Outcome { refusal, answer: 0, steps: refused.steps, rows: refused.held as u64 }
         }
     };
     (outcome, cells)
@@ -215,5 +220,6 @@ fn bound_cells(bound: Option<Bound>) -> [u64; 2] {
         Some(Bound::Int(number)) => [1, number as u64],
         Some(Bound::Value(value)) => [2, u64::from(value)],
         Some(Bound::Part(string)) => [3, u64::from(string)],
+        Some(other) => unreachable!("{other:?} is none of document 01's cells"),
     }
 }

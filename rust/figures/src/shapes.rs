@@ -116,7 +116,7 @@ fn since_miss(points: usize) -> String {
 }
 
 fn count_distinct(points: usize) -> String {
-    let rule = "number asked = count for t where formerly within 9d (Flash(n: n) and tp t)";
+    let rule = "loose number asked = count for t where formerly within 9d (Flash(n: n) and tp t)";
     format!("variables t n\n{}{rule}", flashes(points))
 }
 
@@ -126,7 +126,7 @@ fn count_repeated(points: usize) -> String {
 }
 
 fn sum_distinct(points: usize) -> String {
-    let rule = "number asked = sum t for t where formerly within 9d (Flash(n: n) and tp t)";
+    let rule = "loose number asked = sum t for t where formerly within 9d (Flash(n: n) and tp t)";
     format!("variables t n\n{}{rule}", flashes(points))
 }
 

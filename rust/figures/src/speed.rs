@@ -6,7 +6,7 @@ use casefile::text::Packed;
 use dogwood::extension::temporal::ast::{AggExpr, Condition};
 use dogwood::interpreter::eval;
 use dogwood::interpreter::value::Trace;
-use galivodern::{Bindings, Case, Limits, Sort};
+use galivodern::{Bindings, Case, Limits, PointNo, RuleNo, Sort};
 use judge::convert::Converter;
 
 use crate::shapes::{Shape, SHAPES};
@@ -32,8 +32,8 @@ pub struct Asked {
     case: Case,
     theirs: Option<Theirs>,
     sort: Option<Sort>,
-    node: u32,
-    point: usize,
+    asked: RuleNo,
+    point: PointNo,
     limits: Limits,
 }
 
@@ -42,7 +42,8 @@ impl Asked {
         let case = Case::new(packed.tables.encode()).map_err(|refusal| refusal.to_string())?;
         let node = packed.node("asked").ok_or("the rule has another name")?;
         let converter = Converter { tables: &packed.tables };
-        let sort = case.sort(node);
+        let (asked, point) = (RuleNo(node), PointNo(case.contents().points - 1));
+        let sort = case.sort(asked);
         let theirs = (!alone).then(|| Theirs {
             trace: converter.trace(),
             rule: match sort {
@@ -50,9 +51,8 @@ impl Asked {
                 _ => Rule::Condition(converter.condition(node)),
             },
         });
-        let point = case.contents().points - 1;
         let limits = Limits { steps: Limits::MOST_STEPS, room };
-        Ok(Asked { case, theirs, sort, node, point, limits })
+        Ok(Asked { case, theirs, sort, asked, point, limits })
     }
 
     /// The answer's number and the steps it took.
@@ -61,11 +61,11 @@ impl Asked {
         match self.sort {
             Some(Sort::Aggregate) => self
                 .case
-                .number(self.point, self.node, &unbound, self.limits)
+                .number(self.point, self.asked, &unbound, self.limits)
                 .map(|answer| (answer.value, answer.steps)),
             _ => self
                 .case
-                .verdict(self.point, self.node, &unbound, self.limits)
+                .verdict(self.point, self.asked, &unbound, self.limits)
                 .map(|answer| (i64::from(answer.value), answer.steps)),
         }
         .map_err(|refused| refused.to_string())
@@ -73,7 +73,7 @@ impl Asked {
 
     /// The Rust's answer, where it is asked.
     pub fn theirs(&self) -> Option<i64> {
-        self.theirs.as_ref().map(|theirs| theirs.answer(self.point))
+        self.theirs.as_ref().map(|theirs| theirs.answer(self.point.0))
     }
 }
 

@@ -1,6 +1,20 @@
-/// What a variable is bound to.
+use crate::numbers::VariableNo;
+
+/// What a variable is bound to. There may be more ways one day, so that a `match` needs an arm for
+/// the rest:
+///
+/// ```compile_fail,E0004
+/// # use galivodern::Bound;
+/// # fn shown(bound: Bound) {
+/// match bound {
+///     Bound::Int(_) | Bound::Value(_) | Bound::Part(_) => {}
+/// }
+/// # }
+/// ```
 #[derive(Clone, Copy, Debug, PartialEq, Eq, Hash)]
+#[non_exhaustive]
 pub enum Bound {
+    /// An integer.
     Int(i64),
     /// A value of the case by its number; not one that is an integer. [`Case::value`] reads it.
     ///
@@ -37,13 +51,14 @@ impl Bound {
 /// are not named here are unbound.
 ///
 /// ```
-/// use galivodern::{Bindings, Bound};
+/// use galivodern::{Bindings, Bound, VariableNo};
 ///
-/// let bindings = Bindings::new().with(0, Bound::Int(9));
-/// assert_eq!(bindings.get(0), Some(Bound::Int(9)));
-/// assert_eq!(bindings.get(1), None);
+/// let bindings = Bindings::new().with(VariableNo(0), Bound::Int(9));
+/// assert_eq!(bindings.get(VariableNo(0)), Some(Bound::Int(9)));
+/// assert_eq!(bindings.get(VariableNo(1)), None);
 /// ```
 #[derive(Clone, Debug, Default, PartialEq, Eq)]
+#[must_use]
 pub struct Bindings {
     /// Two cells a variable, up to the last one that was bound.
     cells: Vec<u64>,
@@ -59,8 +74,8 @@ impl Bindings {
     /// such variable.
     ///
     /// [`BadStart`]: crate::Refusal::BadStart
-    pub fn with(mut self, variable: u16, to: Bound) -> Bindings {
-        let at = 2 * usize::from(variable);
+    pub fn with(mut self, variable: VariableNo, to: Bound) -> Bindings {
+        let at = 2 * usize::from(variable.0);
         if self.cells.len() < at + 2 {
             self.cells.resize(at + 2, 0);
         }
@@ -69,8 +84,9 @@ impl Bindings {
     }
 
     /// What a variable is bound to.
-    pub fn get(&self, variable: u16) -> Option<Bound> {
-        let at = 2 * usize::from(variable);
+    #[must_use]
+    pub fn get(&self, variable: VariableNo) -> Option<Bound> {
+        let at = 2 * usize::from(variable.0);
         let cells = self.cells.get(at..at + 2)?;
         Bound::of_cells(cells[0], cells[1])
     }

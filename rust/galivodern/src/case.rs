@@ -4,6 +4,9 @@ use std::sync::{Mutex, PoisonError};
 use crate::answer::Answer;
 use crate::bindings::Bindings;
 use crate::limits::Limits;
+use crate::names::{Fault, Names};
+use crate::numbers::{PointNo, RuleNo, VariableNo};
+use crate::points::{Point, Points};
 use crate::records::{Records, Sort, Value};
 use crate::refusal::{Refusal, Refused};
 use crate::rows::Rows;
@@ -18,6 +21,7 @@ const MOST_VARIABLES: usize = 16;
 /// shared between threads: where two ask at once, the second takes a workspace of its own.
 pub struct Case {
     checked: Checked,
+    names: Names,
     /// What the last question used; empty while one is asked.
     spare: Mutex<Buffers>,
 }
@@ -30,11 +34,17 @@ struct Buffers {
 
 /// How much a case holds. Each kind of record is numbered from 0.
 #[derive(Clone, Copy, Debug, PartialEq, Eq)]
+#[non_exhaustive]
 pub struct Contents {
+    /// Variables.
     pub variables: usize,
+    /// Strings.
     pub strings: usize,
+    /// Values.
     pub values: usize,
+    /// Points of the log.
     pub points: usize,
+    /// Nodes: rules, numbers and their parts.
     pub nodes: usize,
 }
 
@@ -48,40 +58,58 @@ impl Case {
     /// ```
     pub fn new(bytes: impl Into<Vec<u8>>) -> Result<Case, Refusal> {
         match Checked::new(bytes.into()) {
-            Ok(checked) => Ok(Case { checked, spare: Mutex::default() }),
+            Ok(checked) => Ok(Case { checked, names: Names::default(), spare: Mutex::default() }),
             Err(returned) => Err(Refusal::of_return(returned).expect("0 is no refusal")),
         }
+    }
+
+    /// Packs the text of a case and checks it. docs/CASE-TEXT.md describes the text. The names that
+    /// it gives are kept: [`Case::rule`] and [`Case::variable`] find them.
+    ///
+    /// ```
+    /// use galivodern::Case;
+    ///
+    /// let case = Case::from_text("point 5 Flash\nrule flashed = Flash()")?;
+    /// assert!(case.rule("flashed").is_some());
+    ///
+    /// let fault = Case::from_text("point 5 Flash\nrule flashed = Flash(").unwrap_err();
+    /// assert_eq!(fault.line, 2);
+    /// # Ok::<(), galivodern::Fault>(())
+    /// ```
+    pub fn from_text(text: &str) -> Result<Case, Fault> {
+        let packed = casefile::text::pack(text)?;
+        let case = Case::new(packed.tables.encode()).map_err(Fault::refused)?;
+        Ok(Case { names: Names::of(&packed), ..case })
     }
 
     /// Whether a condition holds at a point.
     ///
     /// ```
-    /// # use galivodern::{Bindings, Bound, Case, Limits, Refusal};
-    /// let text = r#"
+    /// # use galivodern::{Bindings, Bound, Case, Limits, PointNo, Refusal};
+    /// let case = Case::from_text(r#"
     ///     variables x
     ///     point 120 Flash logged {n: 7}
-    ///     rule flashed = Flash(n: x)
-    /// "#;
-    /// let case = Case::new(casefile::text::pack(text).expect("well formed").tables.encode())?;
-    /// let flashed = case.last_node().expect("there is a rule");
+    ///     rule flashed(x) = Flash(n: x)
+    /// "#)?;
+    /// let (flashed, x) = (case.rule("flashed").unwrap(), case.variable("x").unwrap());
     ///
-    /// let seven = Bindings::new().with(0, Bound::Int(7));
-    /// assert!(case.verdict(0, flashed, &seven, Limits::default())?.value);
-    /// let nine = Bindings::new().with(0, Bound::Int(9));
-    /// assert!(!case.verdict(0, flashed, &nine, Limits::default())?.value);
+    /// let seven = Bindings::new().with(x, Bound::Int(7));
+    /// assert!(case.verdict(PointNo(0), flashed, &seven, Limits::default())?.value);
+    /// let nine = Bindings::new().with(x, Bound::Int(9));
+    /// assert!(!case.verdict(PointNo(0), flashed, &nine, Limits::default())?.value);
     ///
-    /// let refused = case.verdict(0, flashed, &nine, Limits { steps: 0, room: 0 }).unwrap_err();
+    /// let refused = case.verdict(PointNo(0), flashed, &nine, Limits { steps: 0, room: 0 }).unwrap_err();
     /// assert_eq!(refused.refusal, Refusal::StepsExhausted);
     /// # Ok::<(), Box<dyn std::error::Error>>(())
     /// ```
     pub fn verdict(
         &self,
-        point: usize,
-        node: u32,
+        point: PointNo,
+        rule: RuleNo,
         bindings: &Bindings,
         limits: Limits,
     ) -> Result<Answer<bool>, Refused> {
-        let told = self.asked(point, node, bindings, limits, 0, |question, buffers| {
+        let told = self.asked(point, rule, self.complete(rule, bindings), limits, 0, |question, buffers| {
             self.checked.verdict(question, buffers.workspace)
         });
         Ok(answer(told)?.map(|bits| bits == 1))
@@ -90,21 +118,26 @@ impl Case {
     /// The number of an aggregate at a point: a count, or a sum clamped to 64 bits.
     ///
     /// ```
-    /// # use galivodern::{Bindings, Case, Limits};
-    /// let text = r#"
+    /// # use galivodern::{Bindings, Case, Limits, PointNo};
+    /// let case = Case::from_text(r#"
     ///     variables b
     ///     point 100 Review logged {board: "b1"}
     ///     point 105 Review logged {board: "b2"}
     ///     point 110 Review logged {board: "b1"}
     ///     number boards = count for b where formerly within 1h Review(board: b)
-    /// "#;
-    /// let case = Case::new(casefile::text::pack(text).expect("well formed").tables.encode())?;
-    /// let boards = case.last_node().expect("there is a number");
-    /// assert_eq!(case.number(2, boards, &Bindings::new(), Limits::default())?.value, 2);
+    /// "#)?;
+    /// let boards = case.rule("boards").unwrap();
+    /// assert_eq!(case.number(PointNo(2), boards, &Bindings::new(), Limits::default())?.value, 2);
     /// # Ok::<(), Box<dyn std::error::Error>>(())
     /// ```
-    pub fn number(&self, point: usize, node: u32, bindings: &Bindings, limits: Limits) -> Result<Answer<i64>, Refused> {
-        let told = self.asked(point, node, bindings, limits, 0, |question, buffers| {
+    pub fn number(
+        &self,
+        point: PointNo,
+        rule: RuleNo,
+        bindings: &Bindings,
+        limits: Limits,
+    ) -> Result<Answer<i64>, Refused> {
+        let told = self.asked(point, rule, self.complete(rule, bindings), limits, 0, |question, buffers| {
             self.checked.number(question, buffers.workspace)
         });
         Ok(answer(told)?.map(|bits| bits as i64))
@@ -113,16 +146,16 @@ impl Case {
     /// The rows that a condition finds at a point, on the variables in `binders`, each row once.
     ///
     /// ```
-    /// # use galivodern::{Bindings, Bound, Case, Limits, Value};
-    /// let text = r#"
+    /// # use galivodern::{Bindings, Bound, Case, Limits, PointNo, Value};
+    /// let case = Case::from_text(r#"
     ///     variables b n
     ///     point 100 Review logged {board: "b1", n: 3}
     ///     point 105 Review logged {board: "b2", n: 3}
-    ///     rule reviewed = formerly within 1h Review(board: b, n: n)
-    /// "#;
-    /// let case = Case::new(casefile::text::pack(text).expect("well formed").tables.encode())?;
-    /// let reviewed = case.last_node().expect("there is a rule");
-    /// let found = case.rows(1, reviewed, &[0, 1], &Bindings::new(), Limits::default())?.value;
+    ///     rule reviewed(b, n) = formerly within 1h Review(board: b, n: n)
+    /// "#)?;
+    /// let reviewed = case.rule("reviewed").unwrap();
+    /// let binders = ["b", "n"].map(|name| case.variable(name).unwrap());
+    /// let found = case.rows(PointNo(1), reviewed, &binders, &Bindings::new(), Limits::default())?.value;
     ///
     /// assert_eq!(found.len(), 2);
     /// let first = found.get(0).expect("there are two");
@@ -133,70 +166,151 @@ impl Case {
     /// ```
     pub fn rows(
         &self,
-        point: usize,
-        node: u32,
-        binders: &[u32],
+        point: PointNo,
+        rule: RuleNo,
+        binders: &[VariableNo],
         bindings: &Bindings,
         limits: Limits,
     ) -> Result<Answer<Rows>, Refused> {
         // No more rows are given than are held, so the output takes whatever is found.
         let width = 2 * binders.len();
         let cells = width.saturating_mul(allowed_room(limits));
+        let numbers: Vec<u32> = binders.iter().map(|binder| u32::from(binder.0)).collect();
         let mut given = Vec::new();
-        let told = self.asked(point, node, bindings, limits, cells, |question, buffers| {
-            let told = self.checked.rows(question, binders, buffers.workspace, buffers.output);
+        let told = self.asked(point, rule, Some(bindings), limits, cells, |question, buffers| {
+            let told = self.checked.rows(question, &numbers, buffers.workspace, buffers.output);
             given.extend_from_slice(&buffers.output[..width * told.answer as usize]);
             told
         });
         Ok(answer(told)?.map(|count| Rows::new(binders.len(), count as usize, given)))
     }
 
-    /// Asks with a workspace as large as the limits need and an output of so many cells.
+    /// The bindings, if they bind every parameter of the rule.
+    fn complete<'a>(&self, rule: RuleNo, bindings: &'a Bindings) -> Option<&'a Bindings> {
+        self.parameters(rule).iter().all(|parameter| bindings.get(*parameter).is_some()).then_some(bindings)
+    }
+
+    /// Asks with a workspace as large as the limits need and an output of so many cells. Without
+    /// bindings the call is refused: it is lent no starting cells, and a parameter is a variable.
     fn asked(
         &self,
-        point: usize,
-        node: u32,
-        bindings: &Bindings,
+        point: PointNo,
+        rule: RuleNo,
+        bindings: Option<&Bindings>,
         limits: Limits,
         output: usize,
         call: impl FnOnce(Question, Lent) -> Told,
     ) -> Told {
         let variables = self.contents().variables;
         let mut padded = [0; 2 * MOST_VARIABLES];
-        let start = start_cells(bindings.cells(), variables, &mut padded);
+        let start = bindings.map_or(&[][..], |bindings| start_cells(bindings.cells(), variables, &mut padded));
         let workspace = 2 * variables * allowed_room(limits);
         let mut buffers = std::mem::take(&mut *self.spare.lock().unwrap_or_else(PoisonError::into_inner));
         let lent = Lent {
             workspace: at_least(&mut buffers.workspace, workspace),
             output: at_least(&mut buffers.output, output),
         };
-        let told = call(Question { point, node, start, limits }, lent);
+        let told = call(Question { point: point.0, node: rule.0, start, limits }, lent);
         *self.spare.lock().unwrap_or_else(PoisonError::into_inner) = buffers;
         told
     }
 
     /// How much the case holds.
+    #[must_use]
     pub fn contents(&self) -> Contents {
         let [variables, strings, values, points, nodes] = self.checked.contents().map(|count| count as usize);
         Contents { variables, strings, values, points, nodes }
     }
 
+    /// A rule, number or term by the name that the case's text gave it; a case file has no names.
+    #[must_use]
+    pub fn rule(&self, name: &str) -> Option<RuleNo> {
+        self.rules().find(|(known, _)| *known == name).map(|(_, rule)| rule)
+    }
+
+    /// The rules, numbers and terms that the case's text names, in its order.
+    #[must_use]
+    pub fn rules(&self) -> impl ExactSizeIterator<Item = (&str, RuleNo)> {
+        self.names.rules()
+    }
+
+    /// A variable by the name that the case's text gave it; a case file has no names.
+    #[must_use]
+    pub fn variable(&self, name: &str) -> Option<VariableNo> {
+        self.names.variable(name)
+    }
+
+    /// The parameters that the case's text gives a rule or number, as `b` in `rule ready(b) = ..`. A
+    /// verdict or number is refused, [`BadStart`], where one of them is not bound; rows are not.
+    ///
+    /// ```
+    /// # use galivodern::{Bindings, Bound, Case, Limits, PointNo, Refusal};
+    /// let case = Case::from_text("variables n\npoint 5 Flash logged {n: 7}\nrule flashed(n) = Flash(n: n)")?;
+    /// let flashed = case.rule("flashed").unwrap();
+    /// let refused = case.verdict(PointNo(0), flashed, &Bindings::new(), Limits::default()).unwrap_err();
+    /// assert_eq!(refused.refusal, Refusal::BadStart);
+    ///
+    /// let start = Bindings::new().with(case.parameters(flashed)[0], Bound::Int(7));
+    /// assert!(case.verdict(PointNo(0), flashed, &start, Limits::default())?.value);
+    /// # Ok::<(), Box<dyn std::error::Error>>(())
+    /// ```
+    ///
+    /// [`BadStart`]: crate::Refusal::BadStart
+    #[must_use]
+    pub fn parameters(&self, rule: RuleNo) -> &[VariableNo] {
+        self.names.parameters(rule)
+    }
+
     /// The last node, which is the last rule of a case that was packed from text.
-    pub fn last_node(&self) -> Option<u32> {
-        self.contents().nodes.checked_sub(1).map(|node| node as u32)
+    #[must_use]
+    pub fn last_rule(&self) -> Option<RuleNo> {
+        self.contents().nodes.checked_sub(1).map(|node| RuleNo(node as u32))
     }
 
     /// What a node is; None where there is none of this number.
-    pub fn sort(&self, node: u32) -> Option<Sort> {
-        ((node as usize) < self.contents().nodes).then(|| self.records().sort(node))
+    #[must_use]
+    pub fn sort(&self, rule: RuleNo) -> Option<Sort> {
+        ((rule.0 as usize) < self.contents().nodes).then(|| self.records().sort(rule.0))
+    }
+
+    /// The points of the log in their order: when each happened, what, and with which fields.
+    ///
+    /// ```
+    /// # use galivodern::{Case, Value};
+    /// let case = Case::from_text(r#"
+    ///     point 100 Review logged {board: "b1"}
+    ///     point 110 Flash logged {board: "b1", volts: decimal "3.30"}
+    /// "#)?;
+    /// for point in case.points() {
+    ///     print!("{} {}", point.time(), point.action());
+    ///     for (name, value) in point.fields() {
+    ///         print!(" {name}={value:?}");
+    ///     }
+    ///     println!();
+    /// }
+    /// let last = case.points().next_back().unwrap();
+    /// assert_eq!((last.time(), last.action()), (110, "Flash"));
+    /// assert_eq!(last.field("volts"), Some(Value::Decimal("3.30")));
+    /// # Ok::<(), galivodern::Fault>(())
+    /// ```
+    pub fn points(&self) -> Points<'_> {
+        Points::new(self.records(), self.contents().points)
+    }
+
+    /// A point of the log; None where there is none of this number.
+    #[must_use]
+    pub fn point(&self, number: PointNo) -> Option<Point<'_>> {
+        self.points().nth(number.0)
     }
 
     /// A value of the case; None where there is none of this number.
+    #[must_use]
     pub fn value(&self, number: u32) -> Option<Value<'_>> {
         ((number as usize) < self.contents().values).then(|| self.records().value(number))
     }
 
     /// A string of the case; None where there is none of this number.
+    #[must_use]
     pub fn string(&self, number: u32) -> Option<&str> {
         ((number as usize) < self.contents().strings).then(|| self.records().string(number))
     }
@@ -206,11 +320,13 @@ impl Case {
     }
 
     /// The case file.
+    #[must_use]
     pub fn bytes(&self) -> &[u8] {
         self.checked.bytes()
     }
 
     /// The case file, given back.
+    #[must_use]
     pub fn into_bytes(self) -> Vec<u8> {
         self.checked.into_bytes()
     }
@@ -218,7 +334,7 @@ impl Case {
 
 impl Clone for Case {
     fn clone(&self) -> Case {
-        Case { checked: self.checked.clone(), spare: Mutex::default() }
+        Case { checked: self.checked.clone(), names: self.names.clone(), spare: Mutex::default() }
     }
 }
 

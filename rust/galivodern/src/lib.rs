@@ -8,36 +8,42 @@
 //! an answer may take; none takes more, and every answer says how many it took.
 //!
 //! ```
-//! use galivodern::{Bindings, Case, Limits};
+//! use galivodern::{Bindings, Case, Limits, PointNo};
 //!
-//! let text = r#"
+//! let case = Case::from_text(r#"
 //!     point 100 Review logged {board: "b1"}
 //!     point 110 Flash logged {board: "b1"}
 //!     rule reviewed = formerly within 1h Review(board: "b1")
-//! "#;
-//! let packed = casefile::text::pack(text).expect("the text is well formed");
-//! let reviewed = packed.node("reviewed").expect("the rule is named so");
+//! "#)?;
+//! let reviewed = case.rule("reviewed").expect("the rule is named so");
 //!
-//! let case = Case::new(packed.tables.encode())?;
-//! let answer = case.verdict(1, reviewed, &Bindings::new(), Limits::default())?;
+//! let answer = case.verdict(PointNo(1), reviewed, &Bindings::new(), Limits::default())?;
 //! assert!(answer.value);
 //! assert_eq!((answer.steps, answer.held), (3, 0));
 //! # Ok::<(), Box<dyn std::error::Error>>(())
 //! ```
 //!
-//! Here the case was written as text and packed by the repository's crate `casefile`; the command
-//! `galivodern pack` does the same and writes a file, and docs/CASE-TEXT.md describes the text.
+//! Here the case is written as text; [`Case::new`] takes a case file, which the command
+//! `galivodern pack` writes from such a text. In the repository docs/CASE-TEXT.md describes the
+//! text, docs/MEANING.md what each construct means and docs/FORMAT.md the file.
 //!
 //! # What is proved, and what is assumed
 //!
 //! The calls that this crate wraps are proved; their contracts are in the repository's
-//! `crates/capi`. This crate itself is plain Rust, which is tested. Its `unsafe` code stands in
-//! one module, `sys`, and says at each place why it is sound.
+//! `crates/capi`. This crate itself is plain Rust, which is tested, and so is the packer behind
+//! [`Case::from_text`]. The `unsafe` code stands in one module, `sys`, and says at each place why it
+//! is sound.
+
+#![deny(missing_docs)]
+#![deny(clippy::must_use_candidate)]
 
 mod answer;
 mod bindings;
 mod case;
 mod limits;
+mod names;
+mod numbers;
+mod points;
 mod records;
 mod refusal;
 mod rows;
@@ -48,7 +54,15 @@ pub use answer::Answer;
 pub use bindings::{Bindings, Bound};
 pub use case::{Case, Contents};
 pub use limits::Limits;
+pub use names::Fault;
+pub use numbers::{PointNo, RuleNo, VariableNo};
+pub use points::{Entity, Point, Points};
 pub use records::{Sort, Value};
 pub use refusal::{Refusal, Refused};
-pub use rows::{Row, Rows};
+pub use rows::{Row, RowIter, Rows, RowsIter};
 pub use window::Window;
+
+/// The README's program, to be tried with the others.
+#[cfg(doctest)]
+#[doc = include_str!("../README.md")]
+struct Readme;

@@ -3,6 +3,7 @@
 
 /// What a node is, and so which question it answers.
 #[derive(Clone, Copy, Debug, PartialEq, Eq, Hash)]
+#[non_exhaustive]
 pub enum Sort {
     /// Asked by [`Case::verdict`] and [`Case::rows`].
     ///
@@ -18,27 +19,48 @@ pub enum Sort {
 }
 
 /// A value of a case. The items of arrays and objects are given by their value numbers, since a
-/// case may share them.
+/// case may share them; [`Case::value`] reads them.
+///
+/// [`Case::value`]: crate::Case::value
 #[derive(Clone, Debug, PartialEq, Eq)]
+#[non_exhaustive]
 pub enum Value<'a> {
+    /// No value.
     Null,
+    /// True or false.
     Bool(bool),
+    /// An integer.
     Int(i64),
+    /// A decimal as it was written: `1.50` and `1.5` are equal in a rule, and differ here.
     Decimal(&'a str),
+    /// Text.
     String(&'a str),
-    Entity { ty: &'a str, id: &'a str },
+    /// An entity.
+    Entity {
+        /// Its type.
+        ty: &'a str,
+        /// Its id.
+        id: &'a str,
+    },
+    /// Items by their value numbers.
     Array(Vec<u32>),
+    /// Members by name and value number, in the byte order of their names.
     Object(Vec<(&'a str, u32)>),
 }
 
 const STRINGS: usize = 0;
 const VALUES: usize = 1;
 const MEMBERS: usize = 2;
+const POINTS: usize = 3;
 const NODES: usize = 4;
+const LISTS: usize = 5;
 const TEXT: usize = 6;
 
 /// Words a record of a table, in the order of the tables; text has single bytes.
 const RECORD_WORDS: [usize; 6] = [2, 4, 2, 12, 8, 1];
+
+/// The word that stands for no principal or resource.
+const NONE: u32 = u32::MAX;
 
 /// A checked case, to be read.
 #[derive(Clone, Copy)]
@@ -80,6 +102,30 @@ impl<'a> Records<'a> {
             6 => Value::Array(self.members(a, b).map(|[_, value]| value).collect()),
             _ => Value::Object(self.members(a, b).map(|[name, value]| (self.string(name), value)).collect()),
         }
+    }
+
+    /// Names and values of an object's members.
+    pub fn object(self, number: u32) -> impl ExactSizeIterator<Item = (&'a str, Value<'a>)> {
+        let [_, first, count] = self.record(VALUES, number);
+        (0..count).map(move |k| {
+            let [name, value] = self.record(MEMBERS, first + k);
+            (self.string(name), self.value(value))
+        })
+    }
+
+    /// A value that may be left out.
+    pub fn maybe(self, number: u32) -> Option<Value<'a>> {
+        (number != NONE).then(|| self.value(number))
+    }
+
+    pub fn point(self, number: u32) -> [u32; 12] {
+        self.record(POINTS, number)
+    }
+
+    /// A word of the lists.
+    pub fn list(self, place: u32) -> u32 {
+        let [word] = self.record(LISTS, place);
+        word
     }
 
     fn members(self, first: u32, count: u32) -> impl Iterator<Item = [u32; 2]> + 'a {

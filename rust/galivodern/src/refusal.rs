@@ -4,6 +4,7 @@ use std::fmt;
 /// `RoomExhausted` the one that is met first.
 #[derive(Clone, Copy, Debug, PartialEq, Eq, PartialOrd, Ord, Hash)]
 #[repr(u8)]
+#[non_exhaustive]
 pub enum Refusal {
     /// Shorter than 64 bytes, edition not 1, or tables misplaced or no whole number of records.
     BadContents = 1,
@@ -21,7 +22,7 @@ pub enum Refusal {
     NoSuchPoint = 7,
     /// The case has no such node, or it is not of the sort that the call answers.
     NoSuchNode = 8,
-    /// The starting bindings are malformed.
+    /// The starting bindings are malformed, or leave a parameter of the rule unbound.
     BadStart = 9,
     /// A limit is above its most.
     BadLimits = 10,
@@ -35,7 +36,7 @@ pub enum Refusal {
 
 impl Refusal {
     /// All refusals, in order.
-    pub const ALL: [Refusal; 13] = [
+    pub const ALL: &[Refusal] = &[
         Refusal::BadContents,
         Refusal::TooLarge,
         Refusal::BadStrings,
@@ -52,6 +53,7 @@ impl Refusal {
     ];
 
     /// Its number, from 1 to 13.
+    #[must_use]
     pub fn number(self) -> u8 {
         self as u8
     }
@@ -61,8 +63,8 @@ impl Refusal {
         if number == 0 {
             return None;
         }
-        let refusal = Refusal::ALL.into_iter().find(|refusal| u64::from(refusal.number()) == number);
-        Some(refusal.unwrap_or_else(|| panic!("libcapi.a returned {number}, which no call of galivodern.h does here")))
+        let refusal = Refusal::ALL.iter().find(|refusal| u64::from(refusal.number()) == number);
+        Some(*refusal.unwrap_or_else(|| panic!("libcapi.a returned {number}, which no call of galivodern.h does here")))
     }
 }
 
@@ -85,8 +87,8 @@ impl fmt::Display for Refusal {
                  numbers of counts and sums"
             }
             Refusal::BadStart => {
-                "a starting binding is malformed: no such variable, no such value or string, or an integer given as a \
-                 value's number"
+                "a starting binding is malformed: no such variable, no such value or string, an integer given as a \
+                 value's number, or a parameter of the rule that is not bound"
             }
             Refusal::BadLimits => "more than 1,000,000,000 steps or room for more than 16,384 rows is asked for",
             Refusal::StepsExhausted => "the answer takes more steps than allowed",
@@ -100,12 +102,21 @@ impl std::error::Error for Refusal {}
 
 /// A refused question, with what was spent on it.
 #[derive(Clone, Copy, Debug, PartialEq, Eq)]
+#[non_exhaustive]
 pub struct Refused {
+    /// Why there is no answer.
     pub refusal: Refusal,
     /// The steps that were spent before: none, unless the walk had begun.
     pub steps: u64,
     /// The greatest number of rows that were held at once.
     pub held: usize,
+}
+
+/// Refused before anything was spent.
+impl From<Refusal> for Refused {
+    fn from(refusal: Refusal) -> Refused {
+        Refused { refusal, steps: 0, held: 0 }
+    }
 }
 
 impl fmt::Display for Refused {

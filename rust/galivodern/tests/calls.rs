@@ -2,8 +2,9 @@
 
 use std::error::Error;
 
-use casefile::text::{pack, Packed};
-use galivodern::{Answer, Bindings, Bound, Case, Contents, Limits, Refusal, Refused, Sort, Value};
+use galivodern::{
+    Answer, Bindings, Bound, Case, Contents, Limits, PointNo, Refusal, Refused, RuleNo, Sort, Value, VariableNo,
+};
 
 const TEXT: &str = r#"
     variables b n
@@ -15,21 +16,20 @@ const TEXT: &str = r#"
     point 110 Flash
       logged {board: "b1", n: 4}
 
-    rule reviewed = formerly within 1h Review(board: b, n: n)
-    number boards = count for b where @reviewed
-    rule owner = b == principal.id
+    loose rule reviewed = formerly within 1h Review(board: b, n: n)
+    loose number boards = count for b where @reviewed
+    rule owner(b) = b == principal.id
 "#;
 
-fn packed() -> Packed {
-    pack(TEXT).expect("the text is well formed")
-}
+const B: VariableNo = VariableNo(0);
+const N: VariableNo = VariableNo(1);
 
 fn case() -> Case {
-    Case::new(packed().tables.encode()).expect("a packed case passes the check")
+    Case::from_text(TEXT).expect("the text is well formed")
 }
 
-fn node(name: &str) -> u32 {
-    packed().node(name).expect("the text names it")
+fn rule(name: &str) -> RuleNo {
+    case().rule(name).expect("the text names it")
 }
 
 fn refusal<T: std::fmt::Debug>(said: Result<Answer<T>, Refused>) -> Refusal {
@@ -41,14 +41,16 @@ fn a_case_says_what_it_holds() {
     let case = case();
     let Contents { variables, points, nodes, .. } = case.contents();
     assert_eq!((variables, points), (2, 2));
-    assert_eq!(case.last_node(), Some(nodes as u32 - 1));
-    assert_eq!(case.sort(node("reviewed")), Some(Sort::Condition));
-    assert_eq!(case.sort(node("boards")), Some(Sort::Aggregate));
-    assert_eq!(case.sort(0), Some(Sort::Term));
-    assert_eq!(case.sort(nodes as u32), None);
-    assert_eq!(case.clone().into_bytes(), packed().tables.encode());
+    assert_eq!(case.last_rule(), Some(RuleNo(nodes as u32 - 1)));
+    assert_eq!(case.sort(rule("reviewed")), Some(Sort::Condition));
+    assert_eq!(case.sort(rule("boards")), Some(Sort::Aggregate));
+    assert_eq!(case.sort(RuleNo(0)), Some(Sort::Term));
+    assert_eq!(case.sort(RuleNo(nodes as u32)), None);
+    let packed = casefile::text::pack(TEXT).expect("the text is well formed").tables.encode();
+    assert_eq!(case.clone().into_bytes(), packed);
     let empty = Case::new(casefile::Tables::default().encode()).expect("an empty case passes");
-    assert_eq!(empty.last_node(), None);
+    assert_eq!(empty.last_rule(), None);
+    assert_eq!(empty.points().len(), 0);
 }
 
 #[test]
@@ -70,19 +72,19 @@ fn values_are_read_as_they_were_written() {
 #[test]
 fn a_part_of_an_entity_is_a_row_too() {
     let case = case();
-    let found = case.rows(0, node("owner"), &[0], &Bindings::new(), Limits::default()).expect("an answer");
+    let found = case.rows(PointNo(0), rule("owner"), &[B], &Bindings::new(), Limits::default()).expect("an answer");
     let Some(Bound::Part(string)) = found.value.get(0).expect("one row").get(0) else { panic!("an own part") };
     assert_eq!(case.string(string), Some("ann"));
-    let ann = Bindings::new().with(0, Bound::Part(string));
-    assert!(case.verdict(0, node("owner"), &ann, Limits::default()).expect("an answer").value);
+    let ann = Bindings::new().with(B, Bound::Part(string));
+    assert!(case.verdict(PointNo(0), rule("owner"), &ann, Limits::default()).expect("an answer").value);
 }
 
 #[test]
 fn rows_come_in_order_with_what_is_absent() {
     let case = case();
     let limits = Limits::default();
-    let start = Bindings::new().with(1, Bound::Int(3));
-    let found = case.rows(1, node("reviewed"), &[1, 0, 0], &start, limits).expect("an answer").value;
+    let start = Bindings::new().with(N, Bound::Int(3));
+    let found = case.rows(PointNo(1), rule("reviewed"), &[N, B, B], &start, limits).expect("an answer").value;
     assert_eq!(found.len(), 1);
     let row: Vec<Option<Bound>> = found.iter().next().expect("one row").iter().collect();
     // n was bound before, so the row does not bind it; the board is asked for twice.
@@ -90,7 +92,7 @@ fn rows_come_in_order_with_what_is_absent() {
     assert!(matches!(row[1], Some(Bound::Value(_))));
     assert_eq!(row[1], row[2]);
     assert_eq!(found.get(1), None);
-    let none = case.rows(1, node("reviewed"), &[], &Bindings::new(), limits).expect("an answer").value;
+    let none = case.rows(PointNo(1), rule("reviewed"), &[], &Bindings::new(), limits).expect("an answer").value;
     assert_eq!((none.len(), none.iter().map(|row| row.iter().len()).sum::<usize>()), (1, 0));
 }
 
@@ -98,18 +100,18 @@ fn rows_come_in_order_with_what_is_absent() {
 fn each_refusal_of_a_question_is_given() {
     let case = case();
     let (limits, unbound) = (Limits::default(), Bindings::new());
-    let (reviewed, boards) = (node("reviewed"), node("boards"));
-    let verdict = |point, node, start: &Bindings, limits| case.verdict(point, node, start, limits);
+    let (reviewed, boards) = (rule("reviewed"), rule("boards"));
+    let verdict = |point, rule, start: &Bindings, limits| case.verdict(PointNo(point), rule, start, limits);
     assert_eq!(refusal(verdict(2, reviewed, &unbound, limits)), Refusal::NoSuchPoint);
     assert_eq!(refusal(verdict(usize::MAX, reviewed, &unbound, limits)), Refusal::NoSuchPoint);
-    assert_eq!(refusal(verdict(0, u32::MAX, &unbound, limits)), Refusal::NoSuchNode);
+    assert_eq!(refusal(verdict(0, RuleNo(u32::MAX), &unbound, limits)), Refusal::NoSuchNode);
     assert_eq!(refusal(verdict(0, boards, &unbound, limits)), Refusal::NoSuchNode);
-    assert_eq!(refusal(case.number(0, reviewed, &unbound, limits)), Refusal::NoSuchNode);
+    assert_eq!(refusal(case.number(PointNo(0), reviewed, &unbound, limits)), Refusal::NoSuchNode);
     for start in [
-        Bindings::new().with(2, Bound::Int(1)),
-        Bindings::new().with(u16::MAX, Bound::Int(1)),
-        Bindings::new().with(0, Bound::Value(u32::MAX)),
-        Bindings::new().with(0, Bound::Part(u32::MAX)),
+        Bindings::new().with(VariableNo(2), Bound::Int(1)),
+        Bindings::new().with(VariableNo(u16::MAX), Bound::Int(1)),
+        Bindings::new().with(B, Bound::Value(u32::MAX)),
+        Bindings::new().with(B, Bound::Part(u32::MAX)),
     ] {
         assert_eq!(refusal(verdict(0, reviewed, &start, limits)), Refusal::BadStart);
     }
@@ -120,57 +122,61 @@ fn each_refusal_of_a_question_is_given() {
         Limits { steps: 1, room: usize::MAX },
     ] {
         assert_eq!(refusal(verdict(0, reviewed, &unbound, limits)), Refusal::BadLimits);
-        assert_eq!(refusal(case.rows(0, reviewed, &[0], &unbound, limits)), Refusal::BadLimits);
+        assert_eq!(refusal(case.rows(PointNo(0), reviewed, &[B], &unbound, limits)), Refusal::BadLimits);
     }
-    let starved = case.number(1, boards, &unbound, Limits { steps: 1, room: 9 }).expect_err("one step is too few");
-    assert_eq!(starved, Refused { refusal: Refusal::StepsExhausted, steps: 1, held: 0 });
-    let cramped = case.number(1, boards, &unbound, Limits { steps: 99, room: 0 }).expect_err("a row is needed");
+    let number = |limits| case.number(PointNo(1), boards, &unbound, limits);
+    let starved = number(Limits { steps: 1, room: 9 }).expect_err("one step is too few");
+    assert_eq!((starved.refusal, starved.steps, starved.held), (Refusal::StepsExhausted, 1, 0));
+    let cramped = number(Limits { steps: 99, room: 0 }).expect_err("a row is needed");
     assert_eq!((cramped.refusal, cramped.held), (Refusal::RoomExhausted, 0));
-    let wrong = case.rows(1, reviewed, &[0, 2], &unbound, limits).expect_err("there is no third variable");
+    let binders = [B, VariableNo(2)];
+    let wrong = case.rows(PointNo(1), reviewed, &binders, &unbound, limits).expect_err("there is no third variable");
     assert_eq!((wrong.refusal, wrong.held), (Refusal::BadOutput, 1));
-    assert!(case.verdict(1, reviewed, &unbound, Limits::MOST).expect("the most is allowed").value);
+    assert!(verdict(1, reviewed, &unbound, Limits::MOST).expect("the most is allowed").value);
 }
 
 #[test]
 fn an_answer_takes_what_it_says() {
     let case = case();
-    let (boards, unbound) = (node("boards"), Bindings::new());
-    let answer = case.number(1, boards, &unbound, Limits::default()).expect("an answer");
+    let (boards, unbound) = (rule("boards"), Bindings::new());
+    let number = |limits| case.number(PointNo(1), boards, &unbound, limits);
+    let answer = number(Limits::default()).expect("an answer");
     let just = Limits { steps: answer.steps, room: answer.held };
-    assert_eq!(case.number(1, boards, &unbound, just), Ok(answer));
+    assert_eq!(number(just), Ok(answer));
     let fewer = Limits { steps: answer.steps - 1, ..just };
-    assert_eq!(refusal(case.number(1, boards, &unbound, fewer)), Refusal::StepsExhausted);
+    assert_eq!(refusal(number(fewer)), Refusal::StepsExhausted);
     let narrower = Limits { room: answer.held - 1, ..just };
-    assert_eq!(refusal(case.number(1, boards, &unbound, narrower)), Refusal::RoomExhausted);
+    assert_eq!(refusal(number(narrower)), Refusal::RoomExhausted);
 }
 
 #[test]
 fn refusals_have_numbers_and_words() {
     let words: Vec<String> = Refusal::ALL.iter().map(Refusal::to_string).collect();
-    for (k, refusal) in Refusal::ALL.into_iter().enumerate() {
+    for (k, refusal) in Refusal::ALL.iter().enumerate() {
         assert_eq!(usize::from(refusal.number()), k + 1);
         assert_eq!(words.iter().filter(|other| **other == words[k]).count(), 1);
     }
-    let refused = Refused { refusal: Refusal::StepsExhausted, steps: 1, held: 0 };
+    let limits = Limits { steps: 1, room: 9 };
+    let refused = case().number(PointNo(1), rule("boards"), &Bindings::new(), limits).expect_err("one step is too few");
     assert_eq!(refused.to_string(), "the answer takes more steps than allowed (1 step spent, at most 0 rows held)");
     assert_eq!(refused.source().map(ToString::to_string), Some(Refusal::StepsExhausted.to_string()));
-    let refused = Refused { refusal: Refusal::NoSuchPoint, steps: 0, held: 0 };
+    let refused = Refused::from(Refusal::NoSuchPoint);
     assert_eq!(refused.to_string(), "the case has no such point");
 }
 
 #[test]
 fn a_shared_case_answers_each_thread() {
     let case = case();
-    let (boards, reviewed, unbound) = (node("boards"), node("reviewed"), Bindings::new());
+    let (boards, reviewed, unbound) = (rule("boards"), rule("reviewed"), Bindings::new());
     std::thread::scope(|scope| {
         for thread in 0..4 {
             let (case, unbound) = (&case, &unbound);
             scope.spawn(move || {
                 for k in 0..500 {
                     let limits = Limits { steps: 1_000, room: 1 + (7 * k + thread) % 50 };
-                    let count = case.number(1, boards, unbound, limits).expect("an answer");
+                    let count = case.number(PointNo(1), boards, unbound, limits).expect("an answer");
                     assert_eq!((count.value, count.held), (1, 1));
-                    let rows = case.rows(1, reviewed, &[0, 1], unbound, limits).expect("an answer").value;
+                    let rows = case.rows(PointNo(1), reviewed, &[B, N], unbound, limits).expect("an answer").value;
                     assert_eq!(rows.get(0).and_then(|row| row.get(1)), Some(Bound::Int(3)));
                 }
             });
@@ -182,10 +188,9 @@ fn a_shared_case_answers_each_thread() {
 #[test]
 fn a_rule_of_the_greatest_height_needs_little_stack() {
     let points = "point 1 A logged {n: 1}\n".repeat(2);
-    let rule = format!("rule tall = {}A(n: x)", "exists x formerly within 1h ".repeat(31));
-    let packed = pack(&format!("variables x\n{points}{rule}")).expect("the text is well formed");
-    let case = Case::new(packed.tables.encode()).expect("height 64 passes the check");
-    let asked = move || case.verdict(1, case.last_node()?, &Bindings::new(), Limits::default()).ok();
+    let rule = format!("loose rule tall = {}A(n: x)", "exists x formerly within 1h ".repeat(31));
+    let case = Case::from_text(&format!("variables x\n{points}{rule}")).expect("height 64 passes the check");
+    let asked = move || case.verdict(PointNo(1), case.last_rule()?, &Bindings::new(), Limits::default()).ok();
     let thread = std::thread::Builder::new().stack_size(1 << 20).spawn(asked).expect("a thread");
     assert_eq!(thread.join().expect("no overflow").map(|answer| answer.value), Some(true));
 }

@@ -1,6 +1,6 @@
 //! The examples of document 01, and the files that break each rule of the check, through the crate.
 
-use galivodern::{Bindings, Bound, Case, Limits, Refusal, Refused};
+use galivodern::{Bindings, Bound, Case, Limits, PointNo, Refusal, RuleNo, VariableNo};
 use generate::examples::{examples, Example};
 use generate::rules::rule_files;
 use generate::Kind;
@@ -8,7 +8,7 @@ use generate::Kind;
 /// The starting cells as bindings: the examples bind integers only.
 fn bindings(start: &[u64]) -> Bindings {
     start.chunks(2).enumerate().fold(Bindings::new(), |bindings, (variable, cells)| match cells {
-        [1, bits] => bindings.with(variable as u16, Bound::Int(*bits as i64)),
+        [1, bits] => bindings.with(VariableNo(variable as u16), Bound::Int(*bits as i64)),
         _ => bindings,
     })
 }
@@ -16,15 +16,15 @@ fn bindings(start: &[u64]) -> Bindings {
 /// Refusal or 0, answer's bits, steps and rows held.
 fn ask(case: &Case, example: &Example) -> (u8, u64, (u64, u64)) {
     let call = &example.call;
-    let (point, bindings) = (call.point as usize, bindings(&call.start));
+    let (point, rule, bindings) = (PointNo(call.point as usize), RuleNo(call.node), bindings(&call.start));
     let limits = Limits { steps: call.limit, room: call.room as usize };
     let said = match call.kind {
-        Kind::Number => case.number(point, call.node, &bindings, limits).map(|answer| answer.map(|n| n as u64)),
-        _ => case.verdict(point, call.node, &bindings, limits).map(|answer| answer.map(u64::from)),
+        Kind::Number => case.number(point, rule, &bindings, limits).map(|answer| answer.map(|n| n as u64)),
+        _ => case.verdict(point, rule, &bindings, limits).map(|answer| answer.map(u64::from)),
     };
     match said {
         Ok(answer) => (0, answer.value, (answer.steps, answer.held as u64)),
-        Err(Refused { refusal, steps, held }) => (refusal.number(), 0, (steps, held as u64)),
+        Err(refused) => (refused.refusal.number(), 0, (refused.steps, refused.held as u64)),
     }
 }
 

@@ -126,7 +126,7 @@ impl Making<'_> {
             // A Predicate's terms are leaves, and not among its children.
             let terms = if let Node::Predicate { arguments, .. } = node { arguments.count } else { 0 };
             let mut measure = Measure { size: 1 + u64::from(terms), height: 1 + terms.min(1) };
-            for child in node.children() {
+            for child in node.children(|_| Vec::new()) {
                 let below = self.measures[child as usize];
                 measure.size += below.size;
                 measure.height = measure.height.max(1 + below.height);

@@ -1,0 +1,17 @@
+//! The case file of document 01: its tables as words, its records with names,
+//! a builder that sorts and numbers the strings, and a text form for people.
+
+pub mod binding;
+pub mod builder;
+pub mod lint;
+pub mod near;
+pub mod records;
+pub mod tables;
+pub mod text;
+pub mod time;
+mod variables;
+
+pub use builder::Builder;
+pub use records::{Node, Point, Run, Value, Within};
+pub use tables::{Tables, NONE};
+pub use variables::Variables;

@@ -1,0 +1,157 @@
+//! What has been read of a text, and the whole of it.
+
+use std::collections::HashMap;
+
+use super::closed::binding_faults;
+use super::lexer::{tokens, Place, Token};
+use super::plain::{build, PlainNode, PlainPoint, PlainValues};
+use super::{Fault, Packed, Places, Rule, STATEMENTS};
+use crate::near::did_you_mean;
+
+const MOST_RECORDS: usize = 16_384;
+const MOST_NODES: usize = 1_024;
+const MOST_HEIGHT: u32 = 64;
+const MOST_FILE_BYTES: usize = 4_194_304;
+
+/// Turns a text into a case that passes the check, or says what is wrong first and where.
+pub fn pack(text: &str) -> Result<Packed, Fault> {
+    pack_or_faults(text).map_err(|mut faults| faults.swap_remove(0))
+}
+
+/// The same with everything that is wrong, in the order of the text: one fault for each statement at most, and then
+/// what is wrong with the binding of variables.
+pub fn pack_or_faults(text: &str) -> Result<Packed, Vec<Fault>> {
+    let (mut parser, faults) = Parser::of(text);
+    parser.faults = faults;
+    while parser.token() != &Token::End {
+        if let Err(fault) = parser.statement() {
+            parser.told(fault);
+            parser.skip_statement();
+        }
+    }
+    parser.finish()
+}
+
+/// What a name stands for.
+#[derive(Clone, Copy, PartialEq, Eq)]
+pub enum Named {
+    Value(u32),
+    Condition(u32),
+    Aggregate(u32),
+    Term(u32),
+    /// Its own statement has a fault, which is told there.
+    Faulty,
+}
+
+#[derive(Default)]
+pub struct Parser {
+    pub tokens: Vec<(Token, Place)>,
+    pub at: usize,
+    pub nesting: usize,
+    faults: Vec<Fault>,
+    pub variables: Vec<String>,
+    pub values: PlainValues,
+    pub points: Vec<PlainPoint>,
+    pub nodes: Vec<PlainNode>,
+    heights: Vec<u32>,
+    pub named: HashMap<String, Named>,
+    pub names: Vec<(String, u32)>,
+    pub rules: Vec<Rule>,
+    pub places: Places,
+    /// What the statement that is read has referred to by name.
+    pub references: Vec<(u32, Place)>,
+}
+
+pub type Parsed<T> = Result<T, Fault>;
+
+impl Parser {
+    /// At the beginning of a text, with what is wrong with its tokens.
+    pub fn of(text: &str) -> (Parser, Vec<Fault>) {
+        let (tokens, faults) = tokens(text);
+        (Parser { tokens, ..Parser::default() }, faults)
+    }
+
+    /// Keeps a fault; one without words was told before.
+    fn told(&mut self, fault: Fault) {
+        if !fault.message.is_empty() {
+            self.faults.push(fault);
+        }
+    }
+
+    /// Goes on to the next line that begins with a statement's keyword.
+    fn skip_statement(&mut self) {
+        self.nesting = 0;
+        loop {
+            let line = self.tokens[self.at.saturating_sub(1)].1.line;
+            let keyword = matches!(self.token(), Token::Word(word) if STATEMENTS.contains(&word.as_str()));
+            if self.token() == &Token::End || keyword && self.place().line > line {
+                return;
+            }
+            self.at += 1;
+        }
+    }
+
+    pub fn within_mosts(&self, place: Place) -> Parsed<()> {
+        let counts = [
+            (self.values.values.len(), MOST_RECORDS, "values"),
+            (self.points.len(), MOST_RECORDS, "points"),
+            (self.nodes.len(), MOST_NODES, "nodes"),
+        ];
+        match counts.iter().find(|(count, most, _)| count > most) {
+            Some((_, most, what)) => place.fault(format!("from here on the case has more than {most} {what}")),
+            None => Ok(()),
+        }
+    }
+
+    /// Adds a node; its children are there already.
+    pub fn add(&mut self, node: PlainNode, place: Place) -> Parsed<u32> {
+        let height = 1 + node.children().iter().map(|&child| self.heights[child as usize]).max().unwrap_or(0);
+        if height > MOST_HEIGHT {
+            return place.fault(format!("nodes nest to at most {MOST_HEIGHT}"));
+        }
+        self.nodes.push(node);
+        self.heights.push(height);
+        self.places.nodes.push(place);
+        Ok(self.nodes.len() as u32 - 1)
+    }
+
+    /// Whether a term may stand in comparisons and arithmetic only.
+    pub fn is_operand_only(&self, node: u32) -> bool {
+        matches!(self.nodes[node as usize], PlainNode::Aggregate(_) | PlainNode::Arithmetic(..))
+    }
+
+    pub fn variable(&mut self) -> Parsed<u32> {
+        let place = self.place();
+        let Token::Word(name) = self.token().clone() else {
+            return self.expected("a variable");
+        };
+        self.at += 1;
+        match self.variables.iter().position(|known| *known == name) {
+            Some(number) => Ok(number as u32),
+            None => {
+                let near = did_you_mean(&name, self.variables.iter().map(String::as_str));
+                let how = if near.is_empty() { "; `variables` at the top declares them" } else { &near };
+                place.fault(format!("`{name}` is no variable{how}"))
+            }
+        }
+    }
+
+    fn finish(mut self) -> Result<Packed, Vec<Fault>> {
+        let tables = build(self.variables.len() as u32, &self.values, &self.points, &self.nodes);
+        if tables.strings.len() > MOST_RECORDS {
+            self.faults.push(self.place().told(format!("the case has more than {MOST_RECORDS} strings")));
+        }
+        if tables.encode().len() > MOST_FILE_BYTES {
+            self.faults.push(self.place().told(format!("the case takes more than {MOST_FILE_BYTES} bytes")));
+        }
+        let packed =
+            Packed { tables, variables: self.variables, names: self.names, rules: self.rules, places: self.places };
+        self.faults.extend(binding_faults(&packed));
+        self.faults.sort_by_key(|fault| (fault.line, fault.column));
+        if self.faults.is_empty() {
+            Ok(packed)
+        } else {
+            Err(self.faults)
+        }
+    }
+}

@@ -160,7 +160,7 @@ impl Copy {
         let folder = PathBuf::from(env!("CARGO_TARGET_TMPDIR")).join("swaps");
         let _ = std::fs::remove_dir_all(&folder);
         let from = Path::new(env!("CARGO_MANIFEST_DIR"));
-        for part in ["src", "src/text", "tests"] {
+        for part in ["src", "src/lint", "src/text", "tests"] {
             std::fs::create_dir_all(folder.join(part)).expect("the folder for tests can be written");
             for entry in std::fs::read_dir(from.join(part)).expect("the crate can be read").flatten() {
                 let name = format!("{part}/{}", entry.file_name().to_string_lossy());

@@ -50,7 +50,8 @@ impl Question {
     }
 
     pub fn refused(&self, refused: Refused) -> Failure {
-        Failure::refused(&self.opened.file, refused, hint(refused))
+        let (file, hint) = (self.opened.file.clone(), hint(refused).to_string());
+        Failure::Refused { file, refused, hint, question: self.json() }
     }
 }
 

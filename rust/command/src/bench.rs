@@ -25,7 +25,17 @@ pub fn bench(options: &Options) -> Result<Said, Failure> {
             let _ = print(&format!("refused {}\n", refused.refusal.number()));
         }
     })?;
-    let mut asked = opened.asked(None, None)?;
+    let mut asked = opened.asked(None, opened.case.last_rule().map(|rule| rule.0))?;
+    if let Some(last) = opened.names.last().filter(|last| last.node != asked.node) {
+        let message = format!(
+            "the last rule, {}, is another name of node {}, and `bench` asks the last node, {}: use `ask`, or write the \
+             rule out",
+            last.name,
+            last.node,
+            asked.shown()
+        );
+        return Err(Failure::of_file(&opened.file, message));
+    }
     asked.loose |= options.flag("--loose");
     opened.all_bound(&asked, Variables::default())?;
     every_point(&opened, asked.node, options)

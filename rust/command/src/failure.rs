@@ -17,7 +17,7 @@ pub enum Failure {
     /// What is wrong with a text.
     Faults { file: String, text: String, faults: Vec<Fault> },
     /// A refused case or question, and what to do about it.
-    Refused { file: String, refused: Refused, hint: String },
+    Refused { file: String, refused: Refused, hint: String, question: Object },
     /// Warnings that were asked to be errors.
     Strict { file: String, warnings: Vec<Warned> },
 }
@@ -36,7 +36,8 @@ impl Failure {
     }
 
     pub fn refused(file: &str, refused: Refused, hint: &str) -> Failure {
-        Failure::Refused { file: file.to_string(), refused, hint: hint.to_string() }
+        let question = Object::new().text("file", file);
+        Failure::Refused { file: file.to_string(), refused, hint: hint.to_string(), question }
     }
 
     fn words(&self) -> String {
@@ -44,7 +45,7 @@ impl Failure {
             Failure::Usage(message) => format!("{message}\nTry `galivodern help`."),
             Failure::File { file, message } => format!("{file}: {message}"),
             Failure::Faults { file, text, faults } => faults_told(file, text, faults),
-            Failure::Refused { file, refused, hint } => {
+            Failure::Refused { file, refused, hint, .. } => {
                 format!("{file}: refused {}: {refused}{hint}", refused.refusal.number())
             }
             Failure::Strict { file, warnings } => {
@@ -68,8 +69,8 @@ impl Failure {
                 };
                 object.text("file", file).list("faults", faults.iter().map(fault))
             }
-            Failure::Refused { file, refused: Refused { refusal, steps, held, .. }, hint } => {
-                let object = object.text("file", file).plain("refused", refusal.number());
+            Failure::Refused { refused: Refused { refusal, steps, held, .. }, hint, question, .. } => {
+                let object = object.with(question).plain("refused", refusal.number());
                 object.text("why", &format!("{refusal}{hint}")).plain("steps", steps).plain("held", held)
             }
             Failure::Strict { file, warnings } => object.text("file", file).warnings(warnings),

@@ -35,6 +35,12 @@ impl Object {
         }
     }
 
+    /// The members of another object behind these.
+    pub fn with(mut self, other: &Object) -> Object {
+        self.0.extend(other.0.iter().cloned());
+        self
+    }
+
     pub fn warnings(self, warnings: &[Warned]) -> Object {
         self.list("warnings", warnings.iter().map(|warning| warning.json().to_string()))
     }

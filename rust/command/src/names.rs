@@ -119,6 +119,16 @@ impl Names {
         })
     }
 
+    /// The last rule or number.
+    pub fn last(&self) -> Option<&Name> {
+        self.rules.iter().rev().find(|rule| rule.keyword != Keyword::Term)
+    }
+
+    /// Whether a node has names, and is loose by all of them.
+    pub fn all_loose(&self, node: u32) -> bool {
+        self.of_node(node).is_some() && self.rules.iter().filter(|rule| rule.node == node).all(|rule| rule.loose)
+    }
+
     /// The name of a node, the last one that was given to it.
     pub fn of_node(&self, node: u32) -> Option<&Name> {
         self.rules.iter().rev().find(|rule| rule.node == node && rule.keyword != Keyword::Term)

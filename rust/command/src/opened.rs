@@ -11,7 +11,7 @@ use galivodern::{Case, Refusal, Refused, RuleNo};
 
 use crate::failure::Failure;
 use crate::input::{as_text, read, shown};
-use crate::names::Names;
+use crate::names::{Name, Names};
 use crate::progress::Progress;
 
 pub struct Opened {
@@ -32,6 +32,10 @@ pub struct Asked {
 }
 
 impl Asked {
+    fn of(rule: &Name) -> Asked {
+        Asked { node: rule.node, rule: Some(rule.name.clone()), loose: rule.loose }
+    }
+
     /// What a message calls it.
     pub fn shown(&self) -> String {
         self.rule.clone().unwrap_or_else(|| format!("node {}", self.node))
@@ -89,7 +93,7 @@ impl Opened {
         self.names.variables.get(variable as usize).cloned().unwrap_or_else(|| format!("x{variable}"))
     }
 
-    /// What is asked: a rule by its name, a node by its number, or else the last node.
+    /// What is asked: a rule by its name, a node by its number, or else the last rule, the last node where none is named.
     pub fn asked(&self, rule: Option<&str>, node: Option<u32>) -> Result<Asked, Failure> {
         let nodes = self.case.contents().nodes;
         let none = |hint: String| Failure::refused(&self.file, Refused::from(Refusal::NoSuchNode), &hint);
@@ -97,19 +101,20 @@ impl Opened {
             (Some(_), Some(_)) => {
                 return Err(Failure::usage("`--rule` and `--node` are two ways to say what is asked"))
             }
-            (Some(name), None) => {
-                let rule = self.names.rule(&self.file, name)?;
-                return Ok(Asked { node: rule.node, rule: Some(rule.name.clone()), loose: rule.loose });
-            }
+            (Some(name), None) => return Ok(Asked::of(self.names.rule(&self.file, name)?)),
             (None, _) if nodes == 0 => return Err(none(": it has no rules at all".to_string())),
             (None, Some(node)) if node as usize >= nodes => {
                 return Err(none(format!(": nodes 0 to {} exist", nodes - 1)));
             }
             (None, Some(node)) => node,
-            (None, None) => nodes as u32 - 1,
+            // The last statement may be another name of an earlier node.
+            (None, None) => match self.names.last() {
+                Some(rule) => return Ok(Asked::of(rule)),
+                None => nodes as u32 - 1,
+            },
         };
-        let named = self.names.of_node(node);
-        Ok(Asked { node, rule: named.map(|rule| rule.name.clone()), loose: named.is_some_and(|rule| rule.loose) })
+        let loose = self.names.all_loose(node);
+        Ok(Asked { node, rule: self.names.of_node(node).map(|rule| rule.name.clone()), loose })
     }
 
     /// The point asked about: the last one if none is given.

@@ -120,7 +120,8 @@ fn errors_name_file_number_and_words() {
     refused(&["ask", &text, "--rule", "boards", "--room", "1"], "errors.case: refused 12: the answer takes more rows");
     refused(&["ask", &text, "--rule", "boards", "--room", "16385"], "refused 10: ");
     let json = format!(
-        "{{\"error\":\"refused\",\"file\":\"{text}\",\"refused\":11,\"why\":\"the answer takes more steps than allowed; \
+        "{{\"error\":\"refused\",\"file\":\"{text}\",\"point\":2,\"time\":110,\"date\":\"1970-01-01T00:01:50Z\",\"node\":10,\
+         \"rule\":\"boards\",\"refused\":11,\"why\":\"the answer takes more steps than allowed; \
          allow more with --steps, up to 1000000000\",\"steps\":1,\"held\":0}}\n"
     );
     assert_eq!(run(&["ask", &text, "--rule", "boards", "--steps", "1", "--json"]), (2, json, String::new()));

@@ -92,7 +92,7 @@ fn names_survive_packing() {
     let listed = "; did you mean `seen`? The case has: reviewed, boards, volts, rail, seen";
     refused(&["ask", &case, "--rule", "sene"], &format!("there is no rule `sene`{listed}"));
     refused(&["ask", &text, "--rule", "r4"], "there is no rule `r4`");
-    refused(&["ask", &case, "--rule", "4"], "there is no rule `4`");
+    refused(&["ask", &case, "--rule", "10"], "there is no rule `10`");
     refused(
         &["ask", &case, "--node", "r4"],
         "`--node` takes a number, not `r4`; a rule is asked by its name with --rule",
@@ -118,6 +118,25 @@ fn names_survive_packing() {
     refused(&["check", &case], "t.bin.names: these are no names of a case");
     std::fs::remove_file(format!("{case}.names")).expect("it is there");
     refused(&["ask", &case, "--rule", "seen"], "the case has no names: ask a node by its number with --node");
+}
+
+/// The last rule is asked where none is named, also where it is another name of an earlier one.
+#[test]
+fn the_last_rule_is_asked_where_none_is_named() {
+    let text = "point 1 A\nrule yes = A()\nrule no = B()\nrule gate = @yes\nterm t = 3\n";
+    assert_eq!(run_with(&["ask", "-"], text.as_bytes()).0, 0);
+    assert!(run_with(&["ask", "-", "--json"], text.as_bytes()).1.contains("\"node\":0,\"rule\":\"gate\""));
+    let (status, _, error) = run_with(&["bench", "-"], text.replace("term t = 3\n", "").as_bytes());
+    assert_eq!(status, 2);
+    assert!(
+        error.contains("the last rule, gate, is another name of node 0, and `bench` asks the last node, no"),
+        "{error}"
+    );
+    // A node is loose if all its names are.
+    let text = "variables b\npoint 1 A logged {n: 1}\nrule strict(b) = A(n: b)\nloose rule wide = @strict\n";
+    assert_eq!(run_with(&["ask", "-"], text.as_bytes()).0, 0);
+    assert_eq!(run_with(&["ask", "-", "--rule", "strict"], text.as_bytes()).0, 2);
+    assert_eq!(run_with(&["ask", "-", "--node", "1"], text.as_bytes()).0, 2);
 }
 
 #[test]

@@ -2,6 +2,7 @@
 
 pub mod calls;
 pub mod cases;
+pub mod claims;
 pub mod damage;
 pub mod examples;
 pub mod random;

@@ -43,7 +43,7 @@ fn text(members: usize, name: &str) -> Result<String, String> {
 
 fn asked(members: usize, name: &str) -> Result<Asked, String> {
     let packed = pack(&text(members, name)?).map_err(|fault| fault.to_string())?;
-    Asked::new(&packed, 0)
+    Asked::new(&packed, 0, false)
 }
 
 /// Nanoseconds for one step of the scan: the lookup, and two numbers compared where it hits.
@@ -54,8 +54,8 @@ pub fn print_table() -> Result<bool, String> {
         let asked = asked(members, name)?;
         let (answer, steps) = asked.ours()?;
         let rust = asked.theirs();
-        if answer != rust {
-            return Err(format!("{members}, {name}: {answer}, the Rust says {rust}"));
+        if rust != Some(answer) {
+            return Err(format!("{members}, {name}: {answer}, the Rust says {rust:?}"));
         }
         let (ours, theirs) = by_turns(|| asked.ours(), || asked.theirs());
         let step = |time: f64| shown(time / steps as f64);

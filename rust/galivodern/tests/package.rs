@@ -26,7 +26,8 @@ fn nothing_public_goes_undocumented_or_unused() {
     }
 }
 
-/// Those who match an enum, or take an answer apart, are told to leave room for what may come.
+/// Those who match an enum, or take an answer apart, are told to leave room for what may come. A window
+/// is three and stays so.
 #[test]
 fn what_may_grow_is_marked() {
     let mut marked = 0;
@@ -34,7 +35,10 @@ fn what_may_grow_is_marked() {
         let source = std::fs::read_to_string(entry.expect("a file").path()).expect("text");
         for item in ["pub enum ", "pub struct Answer", "pub struct Contents", "pub struct Refused", "pub struct Fault"]
         {
-            for (before, _) in source.match_indices(&format!("\n{item}")).map(|(at, _)| source.split_at(at)) {
+            for (before, after) in source.match_indices(&format!("\n{item}")).map(|(at, _)| source.split_at(at)) {
+                if after.starts_with("\npub enum Window {") {
+                    continue;
+                }
                 let attributes = before.rsplit("\n\n").next().unwrap_or_default();
                 assert!(attributes.contains("#[non_exhaustive]"), "{item} after:\n{attributes}");
                 marked += 1;

@@ -170,7 +170,7 @@ fn three_arguments(points: usize) -> String {
 
 fn and_comparison(points: usize) -> String {
     let log = log(points, |k| format!("Flash logged @o{} context @limits", k % 8));
-    let rule = "rule asked = formerly within 9d (Flash(n: n) and n > context.most)";
+    let rule = "loose rule asked = formerly within 9d (Flash(n: n) and n > context.most)";
     format!("variables n\n{}value limits = {{most: 9}}\n{log}{rule}", objects(8))
 }
 
@@ -233,4 +233,14 @@ fn shared_terms(points: usize, levels: usize) -> String {
         writeln!(text, "term t{k} = @t{below} + @t{below}").expect("a string takes all");
     }
     text + &format!("rule asked = formerly within 9d @t{levels} == 0")
+}
+
+#[cfg(test)]
+mod tests {
+    #[test]
+    fn every_shape_is_a_case() {
+        for shape in super::SHAPES {
+            shape.case(shape.points).expect(shape.name);
+        }
+    }
 }

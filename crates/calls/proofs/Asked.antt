@@ -93,14 +93,14 @@ module _ {s : List ℕ} {point n : ℕ} {start : List ℕ} {limits : Limits} {wo
 module _ {s : List ℕ} {c : WalkCall} {e : Env} {n : ℕ} {before after : List ℕ} {r : SaidAnswer} {nd : Node} (is : nd ≡ nodeAt s n) where
   pub answer-number : {v : Number} {b : Bool} → b ≡ isAggregate nd → b ≡ true → Numbers s c e n (c .asked) (record { steps = 0; held = 0; most = 0 }) before after v → TellsNumber v r → TellsAnswer s c e n r
   unfolding answerFrom choose started
-  answer-number sort yes comes tells =
-      let e : isAggregate (nodeAt s n) ≡ true = ap isAggregate (sym is) ∙ sym sort ∙ yes in
+  answer-number sort is-one comes tells =
+      let e : isAggregate (nodeAt s n) ≡ true = ap isAggregate (sym is) ∙ sym sort ∙ is-one in
       record { is = rw e (tells .is ∙ ap (λ o. saying inBits (told o)) (comes .comes .is)) }
 
   pub answer-verdict : {v : Verdict} {b : Bool} → b ≡ isAggregate nd → b ≡ false → Decides s c e (node n (c .asked)) (record { steps = 0; held = 0; most = 0 }) before after v → TellsVerdict v r → TellsAnswer s c e n r
   unfolding answerFrom choose started
-  answer-verdict sort no comes tells =
-      let e : isAggregate (nodeAt s n) ≡ false = ap isAggregate (sym is) ∙ sym sort ∙ no in
+  answer-verdict sort is-none comes tells =
+      let e : isAggregate (nodeAt s n) ≡ false = ap isAggregate (sym is) ∙ sym sort ∙ is-none in
       record { is = rw e (tells .is ∙ ap (λ o. saying verdict (told o)) (comes .comes .is)) }
 
 -- ---- the ask call
@@ -127,16 +127,16 @@ ask-refused {s} {point} {n} {start} {limits} {work} {k = k} checked opens is =
 
 -- what a walk tells clears the workspace, in either manner
 answer-clears : (c : Call) (s : List ℕ) (w : WalkCall) (e : Env) (n : ℕ) → workspaceAfter c (answerFrom s w e n) ≡ cleared (2 * vars (c .file) * c .limits .room) (c .workspace)
-unfolding answerFrom
+unfolding answerFrom choose
 answer-clears c s w e n = go (isAggregate (nodeAt s n))
   where
     go : (b : Bool) → workspaceAfter c (choose b (saying inBits (told (outcome (w .limits) started (numberFor s w e n (w .asked))))) (saying verdict (told (outcome (w .limits) started (walkFor s w e (node n (w .asked))))))) ≡ cleared (2 * vars (c .file) * c .limits .room) (c .workspace)
     go true = saying-clears inBits c _ ∙ walk-clears c (w .limits) (numberFor s w e n (w .asked))
     go false = saying-clears verdict c _ ∙ walk-clears c (w .limits) (walkFor s w e (node n (w .asked)))
 
-pub ask-told : {s : List ℕ} {point n : ℕ} {start : List ℕ} {limits : Limits} {work : List ℕ} {o : Opening} {part : List ℕ} {after : List ℕ} {r : SaidAnswer} → Checked s → Opens (wantedFor Answerable) (callOf s point n start limits work) o → o .against ≡ Nothing → TellsAnswer s (o .call) (o .env) n r → length part ≡ length (take (o .cells) work) → after ≡ cleared (o .cells) (part ++ drop (o .cells) work) → Answers (callOf s point n start limits work) after r
+pub ask-told : {s : List ℕ} {point n : ℕ} {start : List ℕ} {limits : Limits} {work : List ℕ} {o : Opening} (part : List ℕ) {after : List ℕ} {r : SaidAnswer} → Checked s → Opens (wantedFor Answerable) (callOf s point n start limits work) o → o .against ≡ Nothing → TellsAnswer s (o .call) (o .env) n r → length part ≡ length (take (o .cells) work) → after ≡ cleared (o .cells) (part ++ drop (o .cells) work) → Answers (callOf s point n start limits work) after r
 unfolding askCall result answerFrom walkFor numberFor wantedFor choose
-ask-told {s} {point} {n} {start} {limits} {work} {o} {part = part} checked opens is tells long after =
+ask-told {s} {point} {n} {start} {limits} {work} {o} part checked opens is tells long after =
     let c : Call = callOf s point n start limits work in
     let a = walked-as checked opens is (λ m q. m .number q) in
     let b = walked-as checked opens is (λ m q. m .verdict q) in

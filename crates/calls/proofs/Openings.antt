@@ -9,6 +9,7 @@ use native.Mathlib.Omega.{arith}
 use native.Mathlib.Nat.{mul-comm, mul-le-mul, mul-le-mul-left}
 use lib.Seq.{length-take-le}
 use Rattle.evaluator.specs.declared.Call.{Call as WalkCall}
+use Rattle.rows.specs.Slots.{Sized}
 use lib.Dec.{leb, ltb}
 use lib.ListN.{length}
 use mir.Val.{Fits}
@@ -17,6 +18,7 @@ use types.Run.{OneOf}
 use denote.Enum.Declared.{tagOf}
 use borrow.Author.Tests.{leb-true, le-leb, lt-leb, lt-ltb, le-ltb, ltb-true, ltb-false, not-true, not-false}
 use Rattle.meaning.proofs.Node.{the-type}
+use Rattle.meaning.specs.declared.Env.{Env}
 use Rattle.meaning.specs.declared.Limits.{Limits}
 use Rattle.meaning.specs.declared.Node.{Node}
 use Rattle.meaning.specs.declared.Node.the-variants.{And, Or, Not, Formerly, Previous, Since, Predicate, Comparison, Exists, Tp, Literal, Context, Scope, Variable, Wildcard, Aggregate, Arithmetic, Sum, Count, Broken}
@@ -105,19 +107,23 @@ module _ (nd : Node) where
   unfolding isAggregate allOf isSort pick sorts _and_
   no-aggregate h = is-not-of aggregates (0 ∷ 1 ∷ 2 ∷ 3 ∷ 4 ∷ 5 ∷ 6 ∷ 7 ∷ 8 ∷ 9 ∷ 10 ∷ 11 ∷ 12 ∷ 13 ∷ 14 ∷ 15 ∷ 16 ∷ 19 ∷ []) nd h refl
 
-module _ (wanted : Wanted) (nd : Node) where
-  pub wants-condition : {r : Bool} → wanted ≡ Condition → r ≡ isCondition nd → r ≡ wantedFor wanted nd
+module _ (nd : Node) {r : Bool} (is : r ≡ isCondition nd) where
+  pub answerable-first : r ≡ true → true ≡ answerable nd
+  unfolding answerable _or_
+  answerable-first e = rw (← is, e) refl
+
+  pub answerable-second : {r′ : Bool} → r ≡ false → r′ ≡ isAggregate nd → r′ ≡ answerable nd
+  unfolding answerable _or_
+  answerable-second e is′ = rw (← is, e) is′
+
+module _ (wanted : Wanted) (nd : Node) {r : Bool} where
+  pub wants-answerable : wanted ≡ Answerable → r ≡ answerable nd → r ≡ wantedFor wanted nd
+  unfolding wantedFor
+  wants-answerable e is = rw e is
+
+  pub wants-condition : wanted ≡ Condition → r ≡ isCondition nd → r ≡ wantedFor wanted nd
   unfolding wantedFor
   wants-condition e is = rw e is
-
-  module _ {r : Bool} (e : wanted ≡ Answerable) (is : r ≡ isCondition nd) where
-    pub wants-any : r ≡ true → true ≡ wantedFor wanted nd
-    unfolding wantedFor answerable _or_
-    wants-any yes = rw (e, ← is, yes) refl
-
-    pub wants-else : {r′ : Bool} → r ≡ false → r′ ≡ isAggregate nd → r′ ≡ wantedFor wanted nd
-    unfolding wantedFor answerable _or_
-    wants-else no is′ = rw (e, ← is, no) is′
 
 -- beyond the table stands no node that a call is about
 broken-none : (wanted : Wanted) → wantedFor wanted Broken ≡ false
@@ -164,6 +170,13 @@ module _ (vars : ℕ) (limits : Limits) (cells : ℕ) where
 
 pub room-fits : {v n : ℕ} → v ≤ 16 → n ≤ 16384 → Fits w64 (2 * v * n)
 room-fits {v} {n} few small = record { fits = omega (arith, mul-le-mul (mul-le-mul-left 2 few) small) }
+
+-- where nothing is beyond its limit, the cells of the rows can be counted
+pub few-vars : {env : Env} → Sized env → Fits w64 (2 * env .count)
+few-vars sized = record { fits = omega (arith, sized .few) }
+
+pub many-cells : {env : Env} (limits : Limits) (cells : ℕ) {over : Bool} → Sized env → over ≡ not (inLimits (env .count) limits cells) → over ≡ false → Fits w64 (2 * env .count * limits .room)
+many-cells {env} limits cells sized over-is fits = room-fits (sized .few) (limits-are (env .count) limits cells (not-false _ (sym over-is ∙ fits)) .0)
 
 some-if : {A : Type 0} (b : Bool) (x : A) → isSome (onlyIf b x) ≡ b
 unfolding isSome onlyIf

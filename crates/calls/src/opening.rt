@@ -10,7 +10,7 @@ use stringcheck::point_count;
 ghost use mathlib.Core.Path.{_≡_};
 ghost use mathlib.Core.Bool.{Bool, not};
 ghost use Prim.Native.Nat.{_≤_};
-ghost use Rattle.meaning.specs.Calls.{isCondition, isAggregate};
+ghost use Rattle.meaning.specs.Calls.{isCondition, isAggregate, answerable};
 ghost use Rattle.meaning.specs.Check.{Checked};
 ghost use Rattle.calls.specs.Promises.{callOf};
 ghost use Rattle.calls.specs.Opening.{wantedFor, inLimits, turnedDown, Opens};
@@ -38,7 +38,7 @@ fn is_wanted(wanted: Wanted, node: Node) -> bool
     ensures { λ r. ⌜ _≡_ {A = Bool} r (wantedFor wanted node) ⌝ }
 {
     match wanted {
-        Wanted::Answerable => is_condition(node) || is_aggregate(node),
+        Wanted::Answerable => is_answerable(node),
         Wanted::Condition => is_condition(node),
     }
 }
@@ -81,6 +81,15 @@ pub fn is_aggregate(node: Node) -> bool
         } => true,
         _ => false,
     }
+}
+
+fn is_answerable(node: Node) -> bool
+    ensures { λ r. ⌜ _≡_ {A = Bool} r (answerable node) ⌝ }
+{
+    if is_condition(node) {
+        return true;
+    }
+    is_aggregate(node)
 }
 
 // limits above their most, or a workspace too short for the rows

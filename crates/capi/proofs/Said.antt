@@ -13,6 +13,9 @@ use Rattle.capi.specs.declared.telling.Telling.{Telling as Told}
 use Rattle.capi.specs.Seen.{saidNumber, toldCells, yesCell, answerCell, sortCell, countCell, noCell}
 use Rattle.capi.specs.Telling.{refusing, Telling}
 
+pub refused-as : {n steps most : ℕ} (k : Refusal) → n ≡ numberOf k → record { number = n; answer = 0; steps = steps; most = most; fourth = 0 } ≡ refusing (numberOf k) steps most
+refused-as k e = rw e refl
+
 module _ {said : SaidAnswer} {steps most : ℕ} where
   pub told-verdict : {b : Bool} {a : ℕ} → said ≡ Ans.Verdict b steps most → a ≡ yesCell b → Telling answerCell sortCell (asAnswer said) (record { number = 0; answer = a; steps = steps; most = most; fourth = 0 })
   unfolding asAnswer saidNumber toldCells answerCell sortCell

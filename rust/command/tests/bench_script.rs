@@ -40,6 +40,7 @@ fn a_refused_case_has_status_2_and_its_limits() {
         assert_eq!((status, output), (2, printed.clone()), "{error}");
         assert!(error.contains(&format!("tools/bench: my.bin: refused {number}")) && error.contains(words), "{error}");
     }
+    assert!(bench("refused 1\n", &["my.bin"]).2.contains("a text is packed first"));
     let error = bench("refused 2\n", &["my.bin"]).2;
     for limit in ["65,536 bytes", "16,384 strings", "1,024 nodes", "16 variables", "1,000,000 steps", "256 rows"] {
         assert!(error.contains(limit), "{limit}: {error}");

@@ -1,0 +1,6 @@
+pub mod Asked
+pub mod Contents
+pub mod Strings
+pub mod Values
+pub mod Points
+pub mod Nodes

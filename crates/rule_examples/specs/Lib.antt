@@ -4,3 +4,13 @@ pub mod Strings
 pub mod Values
 pub mod Points
 pub mod Nodes
+pub mod Records
+pub mod Equality
+pub mod Look
+pub mod Matching
+pub mod Conditions
+pub mod Windows
+pub mod Numbers
+pub mod Rows
+pub mod Joins
+pub mod Calls

@@ -2,8 +2,8 @@
 use mathlib.Core.Path.{_≡_, refl}
 use mathlib.Core.List.{List, [], _∷_, _++_, map}
 use Prim.Native.Nat.{ℕ, zero, suc, _+_}
-use Rattle.meaning.specs.Case.{nothing, places}
-use Rattle.meaning.specs.Check.{height, heightRule}
+use Rattle.meaning.specs.Case.{places}
+use Rattle.meaning.specs.Check.{height}
 use Rattle.meaning.specs.Written.{table, file}
 use Rattle.rule_examples.specs.Asked.{all, wanted, got, checked}
 
@@ -31,7 +31,7 @@ values =
     []
 
 members : List (List ℕ)
-members = map (λ v. nothing ∷ v ∷ []) (0 ∷ 2 ∷ 8 ∷ 7 ∷ 4 ∷ [])
+members = map (λ v. 4294967295 ∷ v ∷ []) (0 ∷ 2 ∷ 8 ∷ 7 ∷ 4 ∷ [])
 
 lists : List ℕ
 lists =

@@ -2,7 +2,6 @@
 use mathlib.Core.Path.{_≡_, refl}
 use mathlib.Core.List.{List, [], _∷_, _++_}
 use Prim.Native.Nat.{ℕ}
-use Rattle.meaning.specs.Case.{nothing}
 use Rattle.meaning.specs.Written.{table, file}
 use Rattle.rule_examples.specs.Asked.{all, wanted, got, checked}
 
@@ -29,7 +28,7 @@ values =
 -- name and value
 members : List (List ℕ)
 members =
-    (0 ∷ 0 ∷ []) ∷ (2 ∷ 1 ∷ []) ∷ (1 ∷ 0 ∷ []) ∷ (0 ∷ 0 ∷ []) ∷ (1 ∷ 0 ∷ []) ∷ (0 ∷ 3 ∷ []) ∷ (nothing ∷ 3 ∷ [])
+    (0 ∷ 0 ∷ []) ∷ (2 ∷ 1 ∷ []) ∷ (1 ∷ 0 ∷ []) ∷ (0 ∷ 0 ∷ []) ∷ (1 ∷ 0 ∷ []) ∷ (0 ∷ 3 ∷ []) ∷ (4294967295 ∷ 3 ∷ [])
     ∷ (0 ∷ 0 ∷ []) ∷ (2 ∷ 6 ∷ []) ∷ []
 
 -- a file with these points and lists
@@ -44,39 +43,39 @@ lists = 1 ∷ 3 ∷ 0 ∷ 2 ∷ 1 ∷ 2 ∷ 0 ∷ 2 ∷ []
 -- points: time low, high, namespace run, action, kind, logged, context, principal, resource, entities run
 points : List (ℕ × List ℕ)
 points =
-    (0, (4294967295 ∷ 4294967295 ∷ 0 ∷ 2 ∷ 1 ∷ 3 ∷ 3 ∷ 2 ∷ 4 ∷ nothing ∷ 2 ∷ 2 ∷ [])) ∷  -- a point
-    (5, (4294967295 ∷ 4294967295 ∷ 7 ∷ 2 ∷ 1 ∷ 3 ∷ 3 ∷ 2 ∷ 4 ∷ nothing ∷ 2 ∷ 2 ∷ [])) ∷  -- a namespace past the lists
-    (0, (4294967295 ∷ 4294967295 ∷ 8 ∷ 0 ∷ 1 ∷ 3 ∷ 3 ∷ 2 ∷ 4 ∷ nothing ∷ 2 ∷ 2 ∷ [])) ∷  -- an empty namespace at the end
-    (5, (4294967295 ∷ 4294967295 ∷ 9 ∷ 0 ∷ 1 ∷ 3 ∷ 3 ∷ 2 ∷ 4 ∷ nothing ∷ 2 ∷ 2 ∷ [])) ∷  -- an empty namespace past the lists
-    (5, (4294967295 ∷ 4294967295 ∷ 0 ∷ 2 ∷ 4 ∷ 3 ∷ 3 ∷ 2 ∷ 4 ∷ nothing ∷ 2 ∷ 2 ∷ [])) ∷  -- an action that is no string
-    (0, (4294967295 ∷ 4294967295 ∷ 0 ∷ 2 ∷ 3 ∷ 3 ∷ 3 ∷ 2 ∷ 4 ∷ nothing ∷ 2 ∷ 2 ∷ [])) ∷  -- an action of the last string
-    (5, (4294967295 ∷ 4294967295 ∷ 0 ∷ 2 ∷ 1 ∷ 4 ∷ 3 ∷ 2 ∷ 4 ∷ nothing ∷ 2 ∷ 2 ∷ [])) ∷  -- a kind that is no string
-    (0, (4294967295 ∷ 4294967295 ∷ 0 ∷ 2 ∷ 1 ∷ 3 ∷ 1 ∷ 2 ∷ 4 ∷ nothing ∷ 2 ∷ 2 ∷ [])) ∷  -- logged empty
-    (0, (4294967295 ∷ 4294967295 ∷ 0 ∷ 2 ∷ 1 ∷ 3 ∷ 7 ∷ 2 ∷ 4 ∷ nothing ∷ 2 ∷ 2 ∷ [])) ∷  -- logged with a dot inside
-    (5, (4294967295 ∷ 4294967295 ∷ 0 ∷ 2 ∷ 1 ∷ 3 ∷ 9 ∷ 2 ∷ 4 ∷ nothing ∷ 2 ∷ 2 ∷ [])) ∷  -- logged that is no value
-    (5, (4294967295 ∷ 4294967295 ∷ 0 ∷ 2 ∷ 1 ∷ 3 ∷ 0 ∷ 2 ∷ 4 ∷ nothing ∷ 2 ∷ 2 ∷ [])) ∷  -- logged Null
-    (5, (4294967295 ∷ 4294967295 ∷ 0 ∷ 2 ∷ 1 ∷ 3 ∷ 8 ∷ 2 ∷ 4 ∷ nothing ∷ 2 ∷ 2 ∷ [])) ∷  -- logged an Array
-    (5, (4294967295 ∷ 4294967295 ∷ 0 ∷ 2 ∷ 1 ∷ 3 ∷ nothing ∷ 2 ∷ 4 ∷ nothing ∷ 2 ∷ 2 ∷ [])) ∷  -- logged none
-    (0, (4294967295 ∷ 4294967295 ∷ 0 ∷ 2 ∷ 1 ∷ 3 ∷ 3 ∷ 1 ∷ 4 ∷ nothing ∷ 2 ∷ 2 ∷ [])) ∷  -- context empty
-    (5, (4294967295 ∷ 4294967295 ∷ 0 ∷ 2 ∷ 1 ∷ 3 ∷ 3 ∷ 9 ∷ 4 ∷ nothing ∷ 2 ∷ 2 ∷ [])) ∷  -- context that is no value
-    (5, (4294967295 ∷ 4294967295 ∷ 0 ∷ 2 ∷ 1 ∷ 3 ∷ 3 ∷ 0 ∷ 4 ∷ nothing ∷ 2 ∷ 2 ∷ [])) ∷  -- context Null
-    (5, (4294967295 ∷ 4294967295 ∷ 0 ∷ 2 ∷ 1 ∷ 3 ∷ 3 ∷ 8 ∷ 4 ∷ nothing ∷ 2 ∷ 2 ∷ [])) ∷  -- context an Array
-    (5, (4294967295 ∷ 4294967295 ∷ 0 ∷ 2 ∷ 1 ∷ 3 ∷ 3 ∷ 3 ∷ 4 ∷ nothing ∷ 2 ∷ 2 ∷ [])) ∷  -- context with a dot
-    (5, (4294967295 ∷ 4294967295 ∷ 0 ∷ 2 ∷ 1 ∷ 3 ∷ 3 ∷ 4 ∷ 4 ∷ nothing ∷ 2 ∷ 2 ∷ [])) ∷  -- context with a dot in its second name
-    (5, (4294967295 ∷ 4294967295 ∷ 0 ∷ 2 ∷ 1 ∷ 3 ∷ 3 ∷ 5 ∷ 4 ∷ nothing ∷ 2 ∷ 2 ∷ [])) ∷  -- context with a dot one below
-    (5, (4294967295 ∷ 4294967295 ∷ 0 ∷ 2 ∷ 1 ∷ 3 ∷ 3 ∷ 7 ∷ 4 ∷ nothing ∷ 2 ∷ 2 ∷ [])) ∷  -- context with a dot under an Array
-    (0, (4294967295 ∷ 4294967295 ∷ 0 ∷ 2 ∷ 1 ∷ 3 ∷ 3 ∷ 2 ∷ 8 ∷ nothing ∷ 2 ∷ 2 ∷ [])) ∷  -- a principal of the last value
-    (5, (4294967295 ∷ 4294967295 ∷ 0 ∷ 2 ∷ 1 ∷ 3 ∷ 3 ∷ 2 ∷ 9 ∷ nothing ∷ 2 ∷ 2 ∷ [])) ∷  -- a principal that is no value
-    (0, (4294967295 ∷ 4294967295 ∷ 0 ∷ 2 ∷ 1 ∷ 3 ∷ 3 ∷ 2 ∷ nothing ∷ nothing ∷ 2 ∷ 2 ∷ [])) ∷  -- no principal
-    (5, (4294967295 ∷ 4294967295 ∷ 0 ∷ 2 ∷ 1 ∷ 3 ∷ 3 ∷ 2 ∷ 4294967294 ∷ nothing ∷ 2 ∷ 2 ∷ [])) ∷  -- a principal one below none
+    (0, (4294967295 ∷ 4294967295 ∷ 0 ∷ 2 ∷ 1 ∷ 3 ∷ 3 ∷ 2 ∷ 4 ∷ 4294967295 ∷ 2 ∷ 2 ∷ [])) ∷  -- a point
+    (5, (4294967295 ∷ 4294967295 ∷ 7 ∷ 2 ∷ 1 ∷ 3 ∷ 3 ∷ 2 ∷ 4 ∷ 4294967295 ∷ 2 ∷ 2 ∷ [])) ∷  -- a namespace past the lists
+    (0, (4294967295 ∷ 4294967295 ∷ 8 ∷ 0 ∷ 1 ∷ 3 ∷ 3 ∷ 2 ∷ 4 ∷ 4294967295 ∷ 2 ∷ 2 ∷ [])) ∷  -- an empty namespace at the end
+    (5, (4294967295 ∷ 4294967295 ∷ 9 ∷ 0 ∷ 1 ∷ 3 ∷ 3 ∷ 2 ∷ 4 ∷ 4294967295 ∷ 2 ∷ 2 ∷ [])) ∷  -- an empty namespace past the lists
+    (5, (4294967295 ∷ 4294967295 ∷ 0 ∷ 2 ∷ 4 ∷ 3 ∷ 3 ∷ 2 ∷ 4 ∷ 4294967295 ∷ 2 ∷ 2 ∷ [])) ∷  -- an action that is no string
+    (0, (4294967295 ∷ 4294967295 ∷ 0 ∷ 2 ∷ 3 ∷ 3 ∷ 3 ∷ 2 ∷ 4 ∷ 4294967295 ∷ 2 ∷ 2 ∷ [])) ∷  -- an action of the last string
+    (5, (4294967295 ∷ 4294967295 ∷ 0 ∷ 2 ∷ 1 ∷ 4 ∷ 3 ∷ 2 ∷ 4 ∷ 4294967295 ∷ 2 ∷ 2 ∷ [])) ∷  -- a kind that is no string
+    (0, (4294967295 ∷ 4294967295 ∷ 0 ∷ 2 ∷ 1 ∷ 3 ∷ 1 ∷ 2 ∷ 4 ∷ 4294967295 ∷ 2 ∷ 2 ∷ [])) ∷  -- logged empty
+    (0, (4294967295 ∷ 4294967295 ∷ 0 ∷ 2 ∷ 1 ∷ 3 ∷ 7 ∷ 2 ∷ 4 ∷ 4294967295 ∷ 2 ∷ 2 ∷ [])) ∷  -- logged with a dot inside
+    (5, (4294967295 ∷ 4294967295 ∷ 0 ∷ 2 ∷ 1 ∷ 3 ∷ 9 ∷ 2 ∷ 4 ∷ 4294967295 ∷ 2 ∷ 2 ∷ [])) ∷  -- logged that is no value
+    (5, (4294967295 ∷ 4294967295 ∷ 0 ∷ 2 ∷ 1 ∷ 3 ∷ 0 ∷ 2 ∷ 4 ∷ 4294967295 ∷ 2 ∷ 2 ∷ [])) ∷  -- logged Null
+    (5, (4294967295 ∷ 4294967295 ∷ 0 ∷ 2 ∷ 1 ∷ 3 ∷ 8 ∷ 2 ∷ 4 ∷ 4294967295 ∷ 2 ∷ 2 ∷ [])) ∷  -- logged an Array
+    (5, (4294967295 ∷ 4294967295 ∷ 0 ∷ 2 ∷ 1 ∷ 3 ∷ 4294967295 ∷ 2 ∷ 4 ∷ 4294967295 ∷ 2 ∷ 2 ∷ [])) ∷  -- logged none
+    (0, (4294967295 ∷ 4294967295 ∷ 0 ∷ 2 ∷ 1 ∷ 3 ∷ 3 ∷ 1 ∷ 4 ∷ 4294967295 ∷ 2 ∷ 2 ∷ [])) ∷  -- context empty
+    (5, (4294967295 ∷ 4294967295 ∷ 0 ∷ 2 ∷ 1 ∷ 3 ∷ 3 ∷ 9 ∷ 4 ∷ 4294967295 ∷ 2 ∷ 2 ∷ [])) ∷  -- context that is no value
+    (5, (4294967295 ∷ 4294967295 ∷ 0 ∷ 2 ∷ 1 ∷ 3 ∷ 3 ∷ 0 ∷ 4 ∷ 4294967295 ∷ 2 ∷ 2 ∷ [])) ∷  -- context Null
+    (5, (4294967295 ∷ 4294967295 ∷ 0 ∷ 2 ∷ 1 ∷ 3 ∷ 3 ∷ 8 ∷ 4 ∷ 4294967295 ∷ 2 ∷ 2 ∷ [])) ∷  -- context an Array
+    (5, (4294967295 ∷ 4294967295 ∷ 0 ∷ 2 ∷ 1 ∷ 3 ∷ 3 ∷ 3 ∷ 4 ∷ 4294967295 ∷ 2 ∷ 2 ∷ [])) ∷  -- context with a dot
+    (5, (4294967295 ∷ 4294967295 ∷ 0 ∷ 2 ∷ 1 ∷ 3 ∷ 3 ∷ 4 ∷ 4 ∷ 4294967295 ∷ 2 ∷ 2 ∷ [])) ∷  -- context with a dot in its second name
+    (5, (4294967295 ∷ 4294967295 ∷ 0 ∷ 2 ∷ 1 ∷ 3 ∷ 3 ∷ 5 ∷ 4 ∷ 4294967295 ∷ 2 ∷ 2 ∷ [])) ∷  -- context with a dot one below
+    (5, (4294967295 ∷ 4294967295 ∷ 0 ∷ 2 ∷ 1 ∷ 3 ∷ 3 ∷ 7 ∷ 4 ∷ 4294967295 ∷ 2 ∷ 2 ∷ [])) ∷  -- context with a dot under an Array
+    (0, (4294967295 ∷ 4294967295 ∷ 0 ∷ 2 ∷ 1 ∷ 3 ∷ 3 ∷ 2 ∷ 8 ∷ 4294967295 ∷ 2 ∷ 2 ∷ [])) ∷  -- a principal of the last value
+    (5, (4294967295 ∷ 4294967295 ∷ 0 ∷ 2 ∷ 1 ∷ 3 ∷ 3 ∷ 2 ∷ 9 ∷ 4294967295 ∷ 2 ∷ 2 ∷ [])) ∷  -- a principal that is no value
+    (0, (4294967295 ∷ 4294967295 ∷ 0 ∷ 2 ∷ 1 ∷ 3 ∷ 3 ∷ 2 ∷ 4294967295 ∷ 4294967295 ∷ 2 ∷ 2 ∷ [])) ∷  -- no principal
+    (5, (4294967295 ∷ 4294967295 ∷ 0 ∷ 2 ∷ 1 ∷ 3 ∷ 3 ∷ 2 ∷ 4294967294 ∷ 4294967295 ∷ 2 ∷ 2 ∷ [])) ∷  -- a principal one below none
     (0, (4294967295 ∷ 4294967295 ∷ 0 ∷ 2 ∷ 1 ∷ 3 ∷ 3 ∷ 2 ∷ 4 ∷ 8 ∷ 2 ∷ 2 ∷ [])) ∷  -- a resource of the last value
     (5, (4294967295 ∷ 4294967295 ∷ 0 ∷ 2 ∷ 1 ∷ 3 ∷ 3 ∷ 2 ∷ 4 ∷ 9 ∷ 2 ∷ 2 ∷ [])) ∷  -- a resource that is no value
-    (0, (4294967295 ∷ 4294967295 ∷ 0 ∷ 2 ∷ 1 ∷ 3 ∷ 3 ∷ 2 ∷ 4 ∷ nothing ∷ 2 ∷ 2 ∷ [])) ∷  -- no resource
+    (0, (4294967295 ∷ 4294967295 ∷ 0 ∷ 2 ∷ 1 ∷ 3 ∷ 3 ∷ 2 ∷ 4 ∷ 4294967295 ∷ 2 ∷ 2 ∷ [])) ∷  -- no resource
     (5, (4294967295 ∷ 4294967295 ∷ 0 ∷ 2 ∷ 1 ∷ 3 ∷ 3 ∷ 2 ∷ 4 ∷ 4294967294 ∷ 2 ∷ 2 ∷ [])) ∷  -- a resource one below none
-    (0, (4294967295 ∷ 4294967295 ∷ 0 ∷ 2 ∷ 1 ∷ 3 ∷ 3 ∷ 2 ∷ 4 ∷ nothing ∷ 8 ∷ 0 ∷ [])) ∷  -- no entities at the end
-    (5, (4294967295 ∷ 4294967295 ∷ 0 ∷ 2 ∷ 1 ∷ 3 ∷ 3 ∷ 2 ∷ 4 ∷ nothing ∷ 9 ∷ 0 ∷ [])) ∷  -- no entities past the lists
-    (5, (4294967295 ∷ 4294967295 ∷ 0 ∷ 2 ∷ 1 ∷ 3 ∷ 3 ∷ 2 ∷ 4 ∷ nothing ∷ 6 ∷ 1 ∷ [])) ∷  -- an entity past the lists
-    (5, (4294967295 ∷ 4294967295 ∷ 0 ∷ 2 ∷ 1 ∷ 3 ∷ 3 ∷ 2 ∷ 4 ∷ nothing ∷ 2 ∷ 3 ∷ [])) ∷  -- entities past the lists
+    (0, (4294967295 ∷ 4294967295 ∷ 0 ∷ 2 ∷ 1 ∷ 3 ∷ 3 ∷ 2 ∷ 4 ∷ 4294967295 ∷ 8 ∷ 0 ∷ [])) ∷  -- no entities at the end
+    (5, (4294967295 ∷ 4294967295 ∷ 0 ∷ 2 ∷ 1 ∷ 3 ∷ 3 ∷ 2 ∷ 4 ∷ 4294967295 ∷ 9 ∷ 0 ∷ [])) ∷  -- no entities past the lists
+    (5, (4294967295 ∷ 4294967295 ∷ 0 ∷ 2 ∷ 1 ∷ 3 ∷ 3 ∷ 2 ∷ 4 ∷ 4294967295 ∷ 6 ∷ 1 ∷ [])) ∷  -- an entity past the lists
+    (5, (4294967295 ∷ 4294967295 ∷ 0 ∷ 2 ∷ 1 ∷ 3 ∷ 3 ∷ 2 ∷ 4 ∷ 4294967295 ∷ 2 ∷ 3 ∷ [])) ∷  -- entities past the lists
     []
 
 points-are : got (λ p. checked (pointsOf (p ∷ [], lists))) points ≡ wanted points
@@ -86,9 +85,9 @@ points-are = refl
 -- two points, the first or the second wrong
 both : List (ℕ × List (List ℕ))
 both =
-    (0, ((4294967295 ∷ 4294967295 ∷ 0 ∷ 2 ∷ 1 ∷ 3 ∷ 3 ∷ 2 ∷ 4 ∷ nothing ∷ 2 ∷ 2 ∷ []) ∷ (4294967295 ∷ 4294967295 ∷ 0 ∷ 2 ∷ 1 ∷ 3 ∷ 3 ∷ 2 ∷ 4 ∷ nothing ∷ 2 ∷ 2 ∷ []) ∷ [])) ∷  -- both right
-    (5, ((4294967295 ∷ 4294967295 ∷ 0 ∷ 2 ∷ 4 ∷ 3 ∷ 3 ∷ 2 ∷ 4 ∷ nothing ∷ 2 ∷ 2 ∷ []) ∷ (4294967295 ∷ 4294967295 ∷ 0 ∷ 2 ∷ 1 ∷ 3 ∷ 3 ∷ 2 ∷ 4 ∷ nothing ∷ 2 ∷ 2 ∷ []) ∷ [])) ∷  -- the first wrong
-    (5, ((4294967295 ∷ 4294967295 ∷ 0 ∷ 2 ∷ 1 ∷ 3 ∷ 3 ∷ 2 ∷ 4 ∷ nothing ∷ 2 ∷ 2 ∷ []) ∷ (4294967295 ∷ 4294967295 ∷ 0 ∷ 2 ∷ 4 ∷ 3 ∷ 3 ∷ 2 ∷ 4 ∷ nothing ∷ 2 ∷ 2 ∷ []) ∷ [])) ∷  -- the second wrong
+    (0, ((4294967295 ∷ 4294967295 ∷ 0 ∷ 2 ∷ 1 ∷ 3 ∷ 3 ∷ 2 ∷ 4 ∷ 4294967295 ∷ 2 ∷ 2 ∷ []) ∷ (4294967295 ∷ 4294967295 ∷ 0 ∷ 2 ∷ 1 ∷ 3 ∷ 3 ∷ 2 ∷ 4 ∷ 4294967295 ∷ 2 ∷ 2 ∷ []) ∷ [])) ∷  -- both right
+    (5, ((4294967295 ∷ 4294967295 ∷ 0 ∷ 2 ∷ 4 ∷ 3 ∷ 3 ∷ 2 ∷ 4 ∷ 4294967295 ∷ 2 ∷ 2 ∷ []) ∷ (4294967295 ∷ 4294967295 ∷ 0 ∷ 2 ∷ 1 ∷ 3 ∷ 3 ∷ 2 ∷ 4 ∷ 4294967295 ∷ 2 ∷ 2 ∷ []) ∷ [])) ∷  -- the first wrong
+    (5, ((4294967295 ∷ 4294967295 ∷ 0 ∷ 2 ∷ 1 ∷ 3 ∷ 3 ∷ 2 ∷ 4 ∷ 4294967295 ∷ 2 ∷ 2 ∷ []) ∷ (4294967295 ∷ 4294967295 ∷ 0 ∷ 2 ∷ 4 ∷ 3 ∷ 3 ∷ 2 ∷ 4 ∷ 4294967295 ∷ 2 ∷ 2 ∷ []) ∷ [])) ∷  -- the second wrong
     []
 
 both-are : got (λ ps. checked (pointsOf (ps, lists))) both ≡ wanted both
@@ -120,6 +119,6 @@ listed =
     (0, (1 ∷ 3 ∷ 0 ∷ 3 ∷ 1 ∷ 2 ∷ 0 ∷ 2 ∷ [])) ∷  -- types rise while ids fall
     []
 
-listed-are : got (λ ls. checked (pointsOf ((4294967295 ∷ 4294967295 ∷ 0 ∷ 2 ∷ 1 ∷ 3 ∷ 3 ∷ 2 ∷ 4 ∷ nothing ∷ 2 ∷ 2 ∷ []) ∷ [], ls))) listed ≡ wanted listed
+listed-are : got (λ ls. checked (pointsOf ((4294967295 ∷ 4294967295 ∷ 0 ∷ 2 ∷ 1 ∷ 3 ∷ 3 ∷ 2 ∷ 4 ∷ 4294967295 ∷ 2 ∷ 2 ∷ []) ∷ [], ls))) listed ≡ wanted listed
 unfolding all listed pointsOf
 listed-are = refl

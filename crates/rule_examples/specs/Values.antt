@@ -2,7 +2,6 @@
 use mathlib.Core.Path.{_≡_, refl}
 use mathlib.Core.List.{List, [], _∷_, _++_}
 use Prim.Native.Nat.{ℕ, zero, suc, _+_}
-use Rattle.meaning.specs.Case.{nothing}
 use Rattle.meaning.specs.Check.{depth}
 use Rattle.meaning.specs.Written.{table, file}
 use Rattle.rule_examples.specs.Asked.{all, wanted, got, checked}
@@ -39,24 +38,24 @@ values =
     (4, (((8 ∷ []) ∷ []), [])) ∷  -- no kind
     (4, (((0 ∷ []) ∷ (8 ∷ []) ∷ []), [])) ∷  -- the last of no kind
     (4, (((8 ∷ []) ∷ (0 ∷ []) ∷ []), [])) ∷  -- the first of no kind
-    (0, (((0 ∷ []) ∷ (6 ∷ 0 ∷ 1 ∷ []) ∷ []), ((nothing ∷ 0 ∷ []) ∷ []))) ∷  -- an Array
-    (0, (((0 ∷ []) ∷ (6 ∷ 0 ∷ 2 ∷ []) ∷ []), ((nothing ∷ 0 ∷ []) ∷ (nothing ∷ 0 ∷ []) ∷ []))) ∷  -- an Array of the same twice
-    (4, (((0 ∷ []) ∷ (6 ∷ 0 ∷ 1 ∷ 1 ∷ []) ∷ []), ((nothing ∷ 0 ∷ []) ∷ []))) ∷  -- an Array with a word used
-    (4, (((0 ∷ []) ∷ (6 ∷ 1 ∷ 1 ∷ []) ∷ []), ((nothing ∷ 0 ∷ []) ∷ []))) ∷  -- an Array past the members
-    (0, (((0 ∷ []) ∷ (6 ∷ 1 ∷ 0 ∷ []) ∷ []), ((nothing ∷ 0 ∷ []) ∷ []))) ∷  -- an empty Array at the end
-    (4, (((0 ∷ []) ∷ (6 ∷ 2 ∷ 0 ∷ []) ∷ []), ((nothing ∷ 0 ∷ []) ∷ []))) ∷  -- an empty Array past the members
+    (0, (((0 ∷ []) ∷ (6 ∷ 0 ∷ 1 ∷ []) ∷ []), ((4294967295 ∷ 0 ∷ []) ∷ []))) ∷  -- an Array
+    (0, (((0 ∷ []) ∷ (6 ∷ 0 ∷ 2 ∷ []) ∷ []), ((4294967295 ∷ 0 ∷ []) ∷ (4294967295 ∷ 0 ∷ []) ∷ []))) ∷  -- an Array of the same twice
+    (4, (((0 ∷ []) ∷ (6 ∷ 0 ∷ 1 ∷ 1 ∷ []) ∷ []), ((4294967295 ∷ 0 ∷ []) ∷ []))) ∷  -- an Array with a word used
+    (4, (((0 ∷ []) ∷ (6 ∷ 1 ∷ 1 ∷ []) ∷ []), ((4294967295 ∷ 0 ∷ []) ∷ []))) ∷  -- an Array past the members
+    (0, (((0 ∷ []) ∷ (6 ∷ 1 ∷ 0 ∷ []) ∷ []), ((4294967295 ∷ 0 ∷ []) ∷ []))) ∷  -- an empty Array at the end
+    (4, (((0 ∷ []) ∷ (6 ∷ 2 ∷ 0 ∷ []) ∷ []), ((4294967295 ∷ 0 ∷ []) ∷ []))) ∷  -- an empty Array past the members
     (4, (((0 ∷ []) ∷ (6 ∷ 0 ∷ 1 ∷ []) ∷ []), ((0 ∷ 0 ∷ []) ∷ []))) ∷  -- an Array item with a name
-    (4, (((0 ∷ []) ∷ (6 ∷ 0 ∷ 2 ∷ []) ∷ []), ((nothing ∷ 0 ∷ []) ∷ (0 ∷ 0 ∷ []) ∷ []))) ∷  -- the second item with a name
-    (4, (((0 ∷ []) ∷ (6 ∷ 0 ∷ 2 ∷ []) ∷ []), ((0 ∷ 0 ∷ []) ∷ (nothing ∷ 0 ∷ []) ∷ []))) ∷  -- the first item with a name
-    (4, (((6 ∷ 0 ∷ 1 ∷ []) ∷ []), ((nothing ∷ 0 ∷ []) ∷ []))) ∷  -- an Array in itself
-    (4, (((6 ∷ 0 ∷ 1 ∷ []) ∷ (0 ∷ []) ∷ []), ((nothing ∷ 1 ∷ []) ∷ []))) ∷  -- an Array of a later value
-    (4, (((0 ∷ []) ∷ (6 ∷ 0 ∷ 2 ∷ []) ∷ []), ((nothing ∷ 0 ∷ []) ∷ (nothing ∷ 1 ∷ []) ∷ []))) ∷  -- the second item is itself
+    (4, (((0 ∷ []) ∷ (6 ∷ 0 ∷ 2 ∷ []) ∷ []), ((4294967295 ∷ 0 ∷ []) ∷ (0 ∷ 0 ∷ []) ∷ []))) ∷  -- the second item with a name
+    (4, (((0 ∷ []) ∷ (6 ∷ 0 ∷ 2 ∷ []) ∷ []), ((0 ∷ 0 ∷ []) ∷ (4294967295 ∷ 0 ∷ []) ∷ []))) ∷  -- the first item with a name
+    (4, (((6 ∷ 0 ∷ 1 ∷ []) ∷ []), ((4294967295 ∷ 0 ∷ []) ∷ []))) ∷  -- an Array in itself
+    (4, (((6 ∷ 0 ∷ 1 ∷ []) ∷ (0 ∷ []) ∷ []), ((4294967295 ∷ 1 ∷ []) ∷ []))) ∷  -- an Array of a later value
+    (4, (((0 ∷ []) ∷ (6 ∷ 0 ∷ 2 ∷ []) ∷ []), ((4294967295 ∷ 0 ∷ []) ∷ (4294967295 ∷ 1 ∷ []) ∷ []))) ∷  -- the second item is itself
     (0, (((0 ∷ []) ∷ (7 ∷ 0 ∷ 2 ∷ []) ∷ []), ((0 ∷ 0 ∷ []) ∷ (1 ∷ 0 ∷ []) ∷ []))) ∷  -- an Object
     (4, (((0 ∷ []) ∷ (7 ∷ 0 ∷ 2 ∷ 1 ∷ []) ∷ []), ((0 ∷ 0 ∷ []) ∷ (1 ∷ 0 ∷ []) ∷ []))) ∷  -- an Object with a word used
     (4, (((0 ∷ []) ∷ (7 ∷ 1 ∷ 2 ∷ []) ∷ []), ((0 ∷ 0 ∷ []) ∷ (1 ∷ 0 ∷ []) ∷ []))) ∷  -- an Object past the members
     (0, (((0 ∷ []) ∷ (7 ∷ 2 ∷ 0 ∷ []) ∷ []), ((0 ∷ 0 ∷ []) ∷ (1 ∷ 0 ∷ []) ∷ []))) ∷  -- an empty Object at the end
     (4, (((0 ∷ []) ∷ (7 ∷ 3 ∷ 0 ∷ []) ∷ []), ((0 ∷ 0 ∷ []) ∷ (1 ∷ 0 ∷ []) ∷ []))) ∷  -- an empty Object past the members
-    (4, (((0 ∷ []) ∷ (7 ∷ 0 ∷ 1 ∷ []) ∷ []), ((nothing ∷ 0 ∷ []) ∷ []))) ∷  -- an Object member without a name
+    (4, (((0 ∷ []) ∷ (7 ∷ 0 ∷ 1 ∷ []) ∷ []), ((4294967295 ∷ 0 ∷ []) ∷ []))) ∷  -- an Object member without a name
     (4, (((0 ∷ []) ∷ (7 ∷ 0 ∷ 2 ∷ []) ∷ []), ((0 ∷ 0 ∷ []) ∷ (0 ∷ 0 ∷ []) ∷ []))) ∷  -- names repeat
     (4, (((0 ∷ []) ∷ (7 ∷ 0 ∷ 2 ∷ []) ∷ []), ((1 ∷ 0 ∷ []) ∷ (0 ∷ 0 ∷ []) ∷ []))) ∷  -- names fall
     (0, (((0 ∷ []) ∷ (7 ∷ 1 ∷ 2 ∷ []) ∷ []), ((1 ∷ 0 ∷ []) ∷ (0 ∷ 0 ∷ []) ∷ (1 ∷ 0 ∷ []) ∷ []))) ∷  -- an Object from the second member on
@@ -67,13 +66,13 @@ values =
     (4, (((0 ∷ []) ∷ (7 ∷ 0 ∷ 2 ∷ []) ∷ []), ((0 ∷ 0 ∷ []) ∷ (1 ∷ 1 ∷ []) ∷ []))) ∷  -- the second member is itself
     (0, (((0 ∷ []) ∷ []), ((1 ∷ 0 ∷ []) ∷ []))) ∷  -- a member nobody uses
     (4, (((0 ∷ []) ∷ []), ((2 ∷ 0 ∷ []) ∷ []))) ∷  -- a member nobody uses, of no string
-    (0, (((0 ∷ []) ∷ []), ((nothing ∷ 0 ∷ []) ∷ []))) ∷  -- a member nobody uses, without a name
-    (0, (((0 ∷ []) ∷ (0 ∷ []) ∷ []), ((nothing ∷ 1 ∷ []) ∷ []))) ∷  -- a member nobody uses, of the last value
-    (4, (((0 ∷ []) ∷ (0 ∷ []) ∷ []), ((nothing ∷ 2 ∷ []) ∷ []))) ∷  -- a member nobody uses, of no value
-    (4, (((0 ∷ []) ∷ []), ((nothing ∷ 0 ∷ []) ∷ (2 ∷ 0 ∷ []) ∷ []))) ∷  -- the last member of no string
-    (4, (((0 ∷ []) ∷ []), ((2 ∷ 0 ∷ []) ∷ (nothing ∷ 0 ∷ []) ∷ []))) ∷  -- the first member of no string
+    (0, (((0 ∷ []) ∷ []), ((4294967295 ∷ 0 ∷ []) ∷ []))) ∷  -- a member nobody uses, without a name
+    (0, (((0 ∷ []) ∷ (0 ∷ []) ∷ []), ((4294967295 ∷ 1 ∷ []) ∷ []))) ∷  -- a member nobody uses, of the last value
+    (4, (((0 ∷ []) ∷ (0 ∷ []) ∷ []), ((4294967295 ∷ 2 ∷ []) ∷ []))) ∷  -- a member nobody uses, of no value
+    (4, (((0 ∷ []) ∷ []), ((4294967295 ∷ 0 ∷ []) ∷ (2 ∷ 0 ∷ []) ∷ []))) ∷  -- the last member of no string
+    (4, (((0 ∷ []) ∷ []), ((2 ∷ 0 ∷ []) ∷ (4294967295 ∷ 0 ∷ []) ∷ []))) ∷  -- the first member of no string
     (4, (((0 ∷ []) ∷ []), ((4294967294 ∷ 0 ∷ []) ∷ []))) ∷  -- one below none
-    (0, (((0 ∷ []) ∷ (7 ∷ 0 ∷ 1 ∷ []) ∷ (6 ∷ 1 ∷ 2 ∷ []) ∷ (6 ∷ 0 ∷ 0 ∷ []) ∷ []), ((0 ∷ 0 ∷ []) ∷ (nothing ∷ 1 ∷ []) ∷ (nothing ∷ 0 ∷ []) ∷ []))) ∷  -- an Array of an Object and Null
+    (0, (((0 ∷ []) ∷ (7 ∷ 0 ∷ 1 ∷ []) ∷ (6 ∷ 1 ∷ 2 ∷ []) ∷ (6 ∷ 0 ∷ 0 ∷ []) ∷ []), ((0 ∷ 0 ∷ []) ∷ (4294967295 ∷ 1 ∷ []) ∷ (4294967295 ∷ 0 ∷ []) ∷ []))) ∷  -- an Array of an Object and Null
     []
 
 values-are : got (λ e. checked (valuesOf e)) values ≡ wanted values
@@ -94,16 +93,16 @@ unfolding around held
 tower kind name n = valuesOf ((0 ∷ []) ∷ around kind 0 n, held name 0 n)
 
 towers :
-    (checked (tower 6 nothing 31) ∷ checked (tower 6 nothing 32) ∷ checked (tower 7 0 31) ∷ checked (tower 7 0 32) ∷ [])
+    (checked (tower 6 4294967295 31) ∷ checked (tower 6 4294967295 32) ∷ checked (tower 7 0 31) ∷ checked (tower 7 0 32) ∷ [])
     ≡ (0 ∷ 4 ∷ 0 ∷ 4 ∷ [])
 unfolding all tower valuesOf
 towers = refl
 
 -- the deeper of two parts counts, the first or the second; an Entity has none
 depths :
-    (depth (valuesOf (((0 ∷ []) ∷ (6 ∷ 0 ∷ 1 ∷ []) ∷ (6 ∷ 1 ∷ 2 ∷ []) ∷ []), ((nothing ∷ 0 ∷ []) ∷ (nothing ∷ 1 ∷ []) ∷ (nothing ∷ 0 ∷ []) ∷ []))) 2 ∷
-    depth (valuesOf (((0 ∷ []) ∷ (6 ∷ 0 ∷ 1 ∷ []) ∷ (6 ∷ 1 ∷ 2 ∷ []) ∷ []), ((nothing ∷ 0 ∷ []) ∷ (nothing ∷ 0 ∷ []) ∷ (nothing ∷ 1 ∷ []) ∷ []))) 2 ∷
-    depth (valuesOf (((0 ∷ []) ∷ (5 ∷ 0 ∷ 1 ∷ []) ∷ []), ((nothing ∷ 0 ∷ []) ∷ []))) 1 ∷
+    (depth (valuesOf (((0 ∷ []) ∷ (6 ∷ 0 ∷ 1 ∷ []) ∷ (6 ∷ 1 ∷ 2 ∷ []) ∷ []), ((4294967295 ∷ 0 ∷ []) ∷ (4294967295 ∷ 1 ∷ []) ∷ (4294967295 ∷ 0 ∷ []) ∷ []))) 2 ∷
+    depth (valuesOf (((0 ∷ []) ∷ (6 ∷ 0 ∷ 1 ∷ []) ∷ (6 ∷ 1 ∷ 2 ∷ []) ∷ []), ((4294967295 ∷ 0 ∷ []) ∷ (4294967295 ∷ 0 ∷ []) ∷ (4294967295 ∷ 1 ∷ []) ∷ []))) 2 ∷
+    depth (valuesOf (((0 ∷ []) ∷ (5 ∷ 0 ∷ 1 ∷ []) ∷ []), ((4294967295 ∷ 0 ∷ []) ∷ []))) 1 ∷
     []) ≡ (3 ∷ 3 ∷ 1 ∷ [])
 unfolding all valuesOf
 depths = refl

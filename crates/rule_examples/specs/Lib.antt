@@ -4,6 +4,8 @@ pub mod Strings
 pub mod Values
 pub mod Points
 pub mod Nodes
+pub mod Terms
+pub mod Towers
 pub mod Records
 pub mod Equality
 pub mod Look

@@ -1,7 +1,7 @@
 -- Refusal 4: values, members and depth. Each file with the check's refusal, 0 where it passes
 use mathlib.Core.Path.{_≡_, refl}
-use mathlib.Core.List.{List, [], _∷_, _++_}
-use Prim.Native.Nat.{ℕ, zero, suc, _+_}
+use mathlib.Core.List.{List, [], _∷_}
+use Prim.Native.Nat.{ℕ}
 use Rattle.meaning.specs.Check.{depth}
 use Rattle.meaning.specs.Written.{table, file}
 use Rattle.rule_examples.specs.Asked.{all, wanted, got, checked}
@@ -78,25 +78,6 @@ values =
 values-are : got (λ e. checked (valuesOf e)) values ≡ wanted values
 unfolding all values valuesOf
 values-are = refl
-
--- Null in so many Arrays, or Objects: value k + 1 holds value k as member k
-around : ℕ → ℕ → ℕ → List (List ℕ)
-around kind k zero = []
-around kind k (suc n) = (kind ∷ k ∷ 1 ∷ []) ∷ around kind (k + 1) n
-
-held : ℕ → ℕ → ℕ → List (List ℕ)
-held name k zero = []
-held name k (suc n) = (name ∷ k ∷ []) ∷ held name (k + 1) n
-
-tower : ℕ → ℕ → ℕ → List ℕ
-unfolding around held
-tower kind name n = valuesOf ((0 ∷ []) ∷ around kind 0 n, held name 0 n)
-
-towers :
-    (checked (tower 6 4294967295 31) ∷ checked (tower 6 4294967295 32) ∷ checked (tower 7 0 31) ∷ checked (tower 7 0 32) ∷ [])
-    ≡ (0 ∷ 4 ∷ 0 ∷ 4 ∷ [])
-unfolding all tower valuesOf
-towers = refl
 
 -- the deeper of two parts counts, the first or the second; an Entity has none
 depths :

@@ -1,10 +1,10 @@
 -- How the examples are asked: what the check and the calls say of a file's bytes
 use mathlib.Core.Path.{_≡_, refl}
-use mathlib.Core.Bool.{Bool, true, false}
+use mathlib.Core.Bool.{true}
 use mathlib.Core.List.{List, [], _∷_, map}
 use Prim.Native.Nat.{ℕ, _*_}
 use lib.ListN.{length, replicate}
-use Rattle.meaning.specs.Calls.{Call, Said, gives, refuses, Result}
+use Rattle.meaning.specs.Calls.{Call, Said, gives, refuses, Result, Answer}
 use Rattle.meaning.specs.Below.{upto, made}
 use Rattle.meaning.specs.Tests.{_and_, _or_, choose, onlyIf, isSome, orElse, pick, allBelow, rises, greatest, levels, throughout}
 use Rattle.meaning.specs.Text.{before, free, first, follow, next, ended, utf8}
@@ -16,7 +16,7 @@ use Rattle.meaning.specs.Look.{named, members, descend, boundAt, attributesOf, 
 use Rattle.meaning.specs.Rows.{inCells, cells, rowOf, at, blank, with, without, withoutAll, over, onto, agree, agreeing, sameCell, sameRow, isIn, addNew, joinAll, column}
 use Rattle.meaning.specs.Walk.{give, visit, adding, dropping, _>>=_, started, after, measured, spent, most, run, ending, outcome}
 use Rattle.meaning.specs.Meaning.{under as under·Meaning, unbinding, earlier, latest, now, lending, condition, term, aggregate, ifYes, unlessYes, oneRow, asRows, taking, lentTo, andVerdict, joining, andRows, orVerdict, orRows, notVerdict, existsVerdict, existsRows, time, inside, ifInside, downward, rising, upward, every, formerlyVerdict, formerlyRows, sinceVerdict, keeping, sinceRows, before as before·Meaning, isThere, previously, place, tpRow, tpVerdict, given, matchField, matchArguments, sameEvent, match, predicate, both, compared, compareVerdict, unbound, bindRows, eqRows, compareRows, ifInt, arithmetic, aggregated, relation, sumOf, countOf, names, arguments, meaningOf, noMeaning, meaning, firsts, question}
-use Rattle.meaning.specs.Calls.{numberOf, isInt, wellFormed, moreRow, startRow, startOr, against, walkOf, told, unlessRefused, asking, cleared, workspaceAfter, result, checkCall, verdictCall, inBits, numberCall, cellsOf, filled, allUnder, projected, outputFits, rowsGiven, rowsCall}
+use Rattle.meaning.specs.Calls.{numberOf, isInt, wellFormed, moreRow, startRow, startOr, isCondition, isAggregate, answerable, against, walkOf, told, unlessRefused, unlessAgainst, asking, cleared, workspaceAfter, result, checkCall, saying, askCall, cellsOf, filled, allUnder, projected, outputFits, rowsGiven, rowsCall}
 use Rattle.meaning.specs.Written.{bytesOf, packed, table, placed, flat, file}
 
 -- examples are pairs: what is wanted, and what is asked
@@ -45,11 +45,8 @@ asked s node point start = record {
   workspace = replicate (9 * length start) 7;
 }
 
-unfoldable pub verdict : List ℕ → ℕ → ℕ → List ℕ → Said Bool
-verdict s node point start = verdictCall (asked s node point start) .said
-
-unfoldable pub number : List ℕ → ℕ → ℕ → List ℕ → Said ℕ
-number s node point start = numberCall (asked s node point start) .said
+unfoldable pub answer : List ℕ → ℕ → ℕ → List ℕ → Said Answer
+answer s node point start = askCall (asked s node point start) .said
 
 -- the row count with both numbers, and the cells filled
 unfoldable pub rows : List ℕ → ℕ → ℕ → List ℕ → List ℕ → ℕ → Said ℕ × List ℕ
@@ -58,5 +55,5 @@ rows s node point start binders cells =
 
 -- the whole definition is computed by
 unfoldable pub all : true ≡ true
-unfolding upto made _and_ _or_ choose onlyIf isSome orElse pick allBelow rises greatest levels throughout before free first follow next ended utf8 words contents offset size body bodyWord stringWord valueWord memberWord pointWord nodeWord list text places runOf signed maybe unitOf cmpOf arithOf rootFrom under nodeFrom valueFrom partAt valueAt entityAt pointAt nodeAt caseOf isSort sortOf arity child startOf bodyRule bodies mosts endBefore placeRule endToEnd utf8Rule orderRule stringRules memberRule arrayItem objectItem valueRule partCount partValue depth depthRule valueRules plainNames plain stringRun entityRule entityItem entityRun pointRule pointRules pathRun variableRun argumentRule argumentRun literal zerosFrom ruleOf nodeRule height heightRule nodeRules check highest lowest clamp calculate secondsOf seconds inWindow sumℤ window isDigit digits natural cut unsigned scaled decimal seen decimalKey see sameList sameParts alike sameValue asValue same boundOf integer named members descend boundAt attributesOf ownPart supplied entityOf attribute fromRoot rootOf scopeAt contextAt fieldAt inCells cells rowOf at blank with without withoutAll over onto agree agreeing sameCell sameRow isIn addNew joinAll column give visit adding dropping _>>=_ started after measured spent most run ending outcome under·Meaning unbinding earlier latest now lending condition term aggregate ifYes unlessYes oneRow asRows taking lentTo andVerdict joining andRows orVerdict orRows notVerdict existsVerdict existsRows time inside ifInside downward rising upward every formerlyVerdict formerlyRows sinceVerdict keeping sinceRows before·Meaning isThere previously place tpRow tpVerdict given matchField matchArguments sameEvent match predicate both compared compareVerdict unbound bindRows eqRows compareRows ifInt arithmetic aggregated relation sumOf countOf names arguments meaningOf noMeaning meaning firsts question numberOf isInt wellFormed moreRow startRow startOr against walkOf told unlessRefused asking cleared workspaceAfter result checkCall verdictCall inBits numberCall cellsOf filled allUnder projected outputFits rowsGiven rowsCall bytesOf packed table placed flat file wanted got no checked asked verdict number rows
+unfolding upto made _and_ _or_ choose onlyIf isSome orElse pick allBelow rises greatest levels throughout before free first follow next ended utf8 words contents offset size body bodyWord stringWord valueWord memberWord pointWord nodeWord list text places runOf signed maybe unitOf cmpOf arithOf rootFrom under nodeFrom valueFrom partAt valueAt entityAt pointAt nodeAt caseOf isSort sortOf arity child startOf bodyRule bodies mosts endBefore placeRule endToEnd utf8Rule orderRule stringRules memberRule arrayItem objectItem valueRule partCount partValue depth depthRule valueRules plainNames plain stringRun entityRule entityItem entityRun pointRule pointRules pathRun variableRun argumentRule argumentRun literal zerosFrom ruleOf nodeRule height heightRule nodeRules check highest lowest clamp calculate secondsOf seconds inWindow sumℤ window isDigit digits natural cut unsigned scaled decimal seen decimalKey see sameList sameParts alike sameValue asValue same boundOf integer named members descend boundAt attributesOf ownPart supplied entityOf attribute fromRoot rootOf scopeAt contextAt fieldAt inCells cells rowOf at blank with without withoutAll over onto agree agreeing sameCell sameRow isIn addNew joinAll column give visit adding dropping _>>=_ started after measured spent most run ending outcome under·Meaning unbinding earlier latest now lending condition term aggregate ifYes unlessYes oneRow asRows taking lentTo andVerdict joining andRows orVerdict orRows notVerdict existsVerdict existsRows time inside ifInside downward rising upward every formerlyVerdict formerlyRows sinceVerdict keeping sinceRows before·Meaning isThere previously place tpRow tpVerdict given matchField matchArguments sameEvent match predicate both compared compareVerdict unbound bindRows eqRows compareRows ifInt arithmetic aggregated relation sumOf countOf names arguments meaningOf noMeaning meaning firsts question numberOf isInt wellFormed moreRow startRow startOr isCondition isAggregate answerable against walkOf told unlessRefused unlessAgainst asking cleared workspaceAfter result checkCall saying askCall cellsOf filled allUnder projected outputFits rowsGiven rowsCall bytesOf packed table placed flat file wanted got no checked asked answer rows
 all = refl

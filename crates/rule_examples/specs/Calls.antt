@@ -4,7 +4,7 @@ use mathlib.Core.Bool.{Bool, true, false}
 use mathlib.Core.List.{List, [], _∷_, _++_}
 use Prim.Native.Nat.{ℕ}
 use lib.ListN.{replicate}
-use Rattle.meaning.specs.Calls.{Call, Said, gives, refuses, checkCall, verdictCall, numberCall, rowsCall}
+use Rattle.meaning.specs.Calls.{Call, Said, gives, refuses, Answer, verdict, number, checkCall, askCall, rowsCall}
 use Rattle.meaning.specs.Written.{table, file}
 use Rattle.rule_examples.specs.Asked.{all, wanted, got}
 
@@ -67,18 +67,18 @@ call nodes node point start steps room cells = record {
   workspace = replicate cells 7;
 }
 
-verdicts : List ((Said Bool × List ℕ) × Call)
+answers : List ((Said Answer × List ℕ) × Call)
 unfolding call
-verdicts =
-    ((gives true 1 0, (0 ∷ 0 ∷ 0 ∷ 0 ∷ [])), call ((10 ∷ []) ∷ []) 0 0 (0 ∷ 0 ∷ 0 ∷ 0 ∷ []) 100 1 4) ∷  -- answered: the workspace for one row cleared
-    ((gives true 1 0, (0 ∷ 0 ∷ 0 ∷ 0 ∷ 7 ∷ [])), call ((10 ∷ []) ∷ []) 0 0 (0 ∷ 0 ∷ 0 ∷ 0 ∷ []) 100 1 5) ∷  -- and no more of it
-    ((gives true 1 0, (7 ∷ 7 ∷ [])), call ((10 ∷ []) ∷ []) 0 0 (0 ∷ 0 ∷ 0 ∷ 0 ∷ []) 100 0 2) ∷  -- no room, none cleared
-    ((gives true 1 0, (0 ∷ 0 ∷ 0 ∷ 0 ∷ 0 ∷ 0 ∷ 0 ∷ 0 ∷ [])), call ((10 ∷ []) ∷ []) 0 0 (0 ∷ 0 ∷ 0 ∷ 0 ∷ []) 100 2 8) ∷  -- two rows
-    ((gives true 1 0, (0 ∷ 0 ∷ 0 ∷ 0 ∷ [])), call ((10 ∷ []) ∷ []) 0 1 (0 ∷ 0 ∷ 0 ∷ 0 ∷ []) 100 1 4) ∷  -- tp x
+answers =
+    ((gives (verdict true) 1 0, (0 ∷ 0 ∷ 0 ∷ 0 ∷ [])), call ((10 ∷ []) ∷ []) 0 0 (0 ∷ 0 ∷ 0 ∷ 0 ∷ []) 100 1 4) ∷  -- answered: the workspace for one row cleared
+    ((gives (verdict true) 1 0, (0 ∷ 0 ∷ 0 ∷ 0 ∷ 7 ∷ [])), call ((10 ∷ []) ∷ []) 0 0 (0 ∷ 0 ∷ 0 ∷ 0 ∷ []) 100 1 5) ∷  -- and no more of it
+    ((gives (verdict true) 1 0, (7 ∷ 7 ∷ [])), call ((10 ∷ []) ∷ []) 0 0 (0 ∷ 0 ∷ 0 ∷ 0 ∷ []) 100 0 2) ∷  -- no room, none cleared
+    ((gives (verdict true) 1 0, (0 ∷ 0 ∷ 0 ∷ 0 ∷ 0 ∷ 0 ∷ 0 ∷ 0 ∷ [])), call ((10 ∷ []) ∷ []) 0 0 (0 ∷ 0 ∷ 0 ∷ 0 ∷ []) 100 2 8) ∷  -- two rows
+    ((gives (verdict true) 1 0, (0 ∷ 0 ∷ 0 ∷ 0 ∷ [])), call ((10 ∷ []) ∷ []) 0 1 (0 ∷ 0 ∷ 0 ∷ 0 ∷ []) 100 1 4) ∷  -- tp x
     ((refuses 7 0 0, (7 ∷ 7 ∷ 7 ∷ 7 ∷ [])), call ((10 ∷ []) ∷ []) 0 2 (0 ∷ 0 ∷ 0 ∷ 0 ∷ []) 100 1 4) ∷  -- no such point
     ((refuses 8 0 0, (7 ∷ 7 ∷ 7 ∷ 7 ∷ [])), call ((10 ∷ []) ∷ []) 1 0 (0 ∷ 0 ∷ 0 ∷ 0 ∷ []) 100 1 4) ∷  -- no such node
     ((refuses 8 0 0, (7 ∷ 7 ∷ 7 ∷ 7 ∷ [])), call ((23 ∷ []) ∷ []) 0 0 (0 ∷ 0 ∷ 0 ∷ 0 ∷ []) 100 1 4) ∷  -- a term
-    ((refuses 8 0 0, (7 ∷ 7 ∷ 7 ∷ 7 ∷ [])), call ((10 ∷ []) ∷ (31 ∷ []) ∷ []) 1 0 (0 ∷ 0 ∷ 0 ∷ 0 ∷ []) 100 1 4) ∷  -- an aggregate
+    ((gives (number 1) 2 1, (0 ∷ 0 ∷ 0 ∷ 0 ∷ [])), call ((10 ∷ []) ∷ (31 ∷ []) ∷ []) 1 0 (0 ∷ 0 ∷ 0 ∷ 0 ∷ []) 100 1 4) ∷  -- an aggregate: its number
     ((refuses 8 0 0, (7 ∷ 7 ∷ 7 ∷ 7 ∷ [])), call ((10 ∷ []) ∷ (31 ∷ []) ∷ (25 ∷ 1 ∷ []) ∷ []) 2 0 (0 ∷ 0 ∷ 0 ∷ 0 ∷ []) 100 1 4) ∷  -- an aggregate as a term
     ((refuses 9 0 0, (7 ∷ 7 ∷ 7 ∷ 7 ∷ [])), call ((10 ∷ []) ∷ []) 0 0 [] 100 1 4) ∷  -- no starting bindings
     ((refuses 9 0 0, (7 ∷ 7 ∷ 7 ∷ 7 ∷ [])), call ((10 ∷ []) ∷ []) 0 0 (0 ∷ 0 ∷ 0 ∷ []) 100 1 4) ∷  -- three cells
@@ -87,51 +87,39 @@ verdicts =
     ((refuses 9 0 0, (7 ∷ 7 ∷ 7 ∷ 7 ∷ [])), call ((10 ∷ []) ∷ []) 0 0 (0 ∷ 0 ∷ 0 ∷ 0 ∷ 0 ∷ 0 ∷ []) 100 1 4) ∷  -- six cells
     ((refuses 9 0 0, (7 ∷ 7 ∷ 7 ∷ 7 ∷ [])), call ((10 ∷ []) ∷ []) 0 0 (0 ∷ 1 ∷ 0 ∷ 0 ∷ []) 100 1 4) ∷  -- unbound with a number
     ((refuses 9 0 0, (7 ∷ 7 ∷ 7 ∷ 7 ∷ [])), call ((10 ∷ []) ∷ []) 0 0 (0 ∷ 0 ∷ 0 ∷ 1 ∷ []) 100 1 4) ∷  -- the second
-    ((gives false 1 0, (0 ∷ 0 ∷ 0 ∷ 0 ∷ [])), call ((10 ∷ []) ∷ []) 0 0 (1 ∷ 18446744073709551615 ∷ 0 ∷ 0 ∷ []) 100 1 4) ∷  -- an integer
-    ((gives false 1 0, (0 ∷ 0 ∷ 0 ∷ 0 ∷ [])), call ((10 ∷ []) ∷ []) 0 0 (2 ∷ 0 ∷ 0 ∷ 0 ∷ []) 100 1 4) ∷  -- a value
+    ((gives (verdict false) 1 0, (0 ∷ 0 ∷ 0 ∷ 0 ∷ [])), call ((10 ∷ []) ∷ []) 0 0 (1 ∷ 18446744073709551615 ∷ 0 ∷ 0 ∷ []) 100 1 4) ∷  -- an integer
+    ((gives (verdict false) 1 0, (0 ∷ 0 ∷ 0 ∷ 0 ∷ [])), call ((10 ∷ []) ∷ []) 0 0 (2 ∷ 0 ∷ 0 ∷ 0 ∷ []) 100 1 4) ∷  -- a value
     ((refuses 9 0 0, (7 ∷ 7 ∷ 7 ∷ 7 ∷ [])), call ((10 ∷ []) ∷ []) 0 0 (2 ∷ 1 ∷ 0 ∷ 0 ∷ []) 100 1 4) ∷  -- a value that is an Int
-    ((gives false 1 0, (0 ∷ 0 ∷ 0 ∷ 0 ∷ [])), call ((10 ∷ []) ∷ []) 0 0 (2 ∷ 2 ∷ 0 ∷ 0 ∷ []) 100 1 4) ∷  -- the last value
+    ((gives (verdict false) 1 0, (0 ∷ 0 ∷ 0 ∷ 0 ∷ [])), call ((10 ∷ []) ∷ []) 0 0 (2 ∷ 2 ∷ 0 ∷ 0 ∷ []) 100 1 4) ∷  -- the last value
     ((refuses 9 0 0, (7 ∷ 7 ∷ 7 ∷ 7 ∷ [])), call ((10 ∷ []) ∷ []) 0 0 (2 ∷ 3 ∷ 0 ∷ 0 ∷ []) 100 1 4) ∷  -- no value
-    ((gives false 1 0, (0 ∷ 0 ∷ 0 ∷ 0 ∷ [])), call ((10 ∷ []) ∷ []) 0 0 (3 ∷ 2 ∷ 0 ∷ 0 ∷ []) 100 1 4) ∷  -- the last string
+    ((gives (verdict false) 1 0, (0 ∷ 0 ∷ 0 ∷ 0 ∷ [])), call ((10 ∷ []) ∷ []) 0 0 (3 ∷ 2 ∷ 0 ∷ 0 ∷ []) 100 1 4) ∷  -- the last string
     ((refuses 9 0 0, (7 ∷ 7 ∷ 7 ∷ 7 ∷ [])), call ((10 ∷ []) ∷ []) 0 0 (3 ∷ 3 ∷ 0 ∷ 0 ∷ []) 100 1 4) ∷  -- no string
     ((refuses 9 0 0, (7 ∷ 7 ∷ 7 ∷ 7 ∷ [])), call ((10 ∷ []) ∷ []) 0 0 (4 ∷ 0 ∷ 0 ∷ 0 ∷ []) 100 1 4) ∷  -- no tag
     ((refuses 9 0 0, (7 ∷ 7 ∷ 7 ∷ 7 ∷ [])), call ((10 ∷ []) ∷ []) 0 0 (0 ∷ 0 ∷ 4 ∷ 0 ∷ []) 100 1 4) ∷  -- the second has no tag
     ((refuses 9 0 0, (7 ∷ 7 ∷ 7 ∷ 7 ∷ [])), call ((10 ∷ []) ∷ []) 0 0 (0 ∷ 0 ∷ 2 ∷ 1 ∷ []) 100 1 4) ∷  -- the second is an Int by its value
-    ((gives true 1 0, (0 ∷ 0 ∷ 0 ∷ 0 ∷ [])), call ((10 ∷ []) ∷ []) 0 0 (0 ∷ 0 ∷ 0 ∷ 0 ∷ []) 1000000000 1 4) ∷  -- the most steps
+    ((gives (verdict true) 1 0, (0 ∷ 0 ∷ 0 ∷ 0 ∷ [])), call ((10 ∷ []) ∷ []) 0 0 (0 ∷ 0 ∷ 0 ∷ 0 ∷ []) 1000000000 1 4) ∷  -- the most steps
     ((refuses 10 0 0, (7 ∷ 7 ∷ 7 ∷ 7 ∷ [])), call ((10 ∷ []) ∷ []) 0 0 (0 ∷ 0 ∷ 0 ∷ 0 ∷ []) 1000000001 1 4) ∷  -- one more
     ((refuses 10 0 0, (7 ∷ 7 ∷ 7 ∷ [])), call ((10 ∷ []) ∷ []) 0 0 (0 ∷ 0 ∷ 0 ∷ 0 ∷ []) 100 1 3) ∷  -- a cell of workspace too few
     ((refuses 10 0 0, (7 ∷ 7 ∷ 7 ∷ 7 ∷ 7 ∷ 7 ∷ 7 ∷ [])), call ((10 ∷ []) ∷ []) 0 0 (0 ∷ 0 ∷ 0 ∷ 0 ∷ []) 100 2 7) ∷  -- likewise for two rows
     ((refuses 7 0 0, (7 ∷ 7 ∷ 7 ∷ 7 ∷ [])), call ((10 ∷ []) ∷ []) 1 2 (0 ∷ 0 ∷ 0 ∷ 0 ∷ []) 100 1 4) ∷  -- 7 before 8
     ((refuses 8 0 0, (7 ∷ 7 ∷ 7 ∷ 7 ∷ [])), call ((10 ∷ []) ∷ []) 1 0 [] 100 1 4) ∷  -- 8 before 9
     ((refuses 9 0 0, (7 ∷ 7 ∷ 7 ∷ [])), call ((10 ∷ []) ∷ []) 0 0 [] 100 1 3) ∷  -- 9 before 10
-    ((gives false 3 0, (0 ∷ 0 ∷ 0 ∷ 0 ∷ [])), call ((10 ∷ []) ∷ (4 ∷ 1 ∷ 0 ∷ 3 ∷ []) ∷ []) 1 1 (1 ∷ 9 ∷ 0 ∷ 0 ∷ []) 3 1 4) ∷  -- just the steps
+    ((gives (verdict false) 3 0, (0 ∷ 0 ∷ 0 ∷ 0 ∷ [])), call ((10 ∷ []) ∷ (4 ∷ 1 ∷ 0 ∷ 3 ∷ []) ∷ []) 1 1 (1 ∷ 9 ∷ 0 ∷ 0 ∷ []) 3 1 4) ∷  -- just the steps
     ((refuses 11 2 0, (0 ∷ 0 ∷ 0 ∷ 0 ∷ [])), call ((10 ∷ []) ∷ (4 ∷ 1 ∷ 0 ∷ 3 ∷ []) ∷ []) 1 1 (1 ∷ 9 ∷ 0 ∷ 0 ∷ []) 2 1 4) ∷  -- steps exhausted
     ((refuses 11 0 0, (0 ∷ 0 ∷ 0 ∷ 0 ∷ [])), call ((10 ∷ []) ∷ (4 ∷ 1 ∷ 0 ∷ 3 ∷ []) ∷ []) 1 0 (0 ∷ 0 ∷ 0 ∷ 0 ∷ []) 0 1 4) ∷  -- no steps
     ((refuses 12 2 0, (7 ∷ 7 ∷ [])), call ((10 ∷ []) ∷ (9 ∷ []) ∷ []) 1 0 (0 ∷ 0 ∷ 0 ∷ 0 ∷ []) 100 0 2) ∷  -- room exhausted
     ((refuses 11 1 0, []), call ((10 ∷ []) ∷ (9 ∷ []) ∷ []) 1 0 (0 ∷ 0 ∷ 0 ∷ 0 ∷ []) 1 0 0) ∷  -- steps before room
-    ((gives true 2 1, (0 ∷ 0 ∷ 0 ∷ 0 ∷ [])), call ((10 ∷ []) ∷ (9 ∷ []) ∷ []) 1 0 (0 ∷ 0 ∷ 0 ∷ 0 ∷ []) 2 1 4) ∷  -- exists x tp x
-    []
-
-verdicts-are : got (λ c. let r = verdictCall c in (r .said, r .workspace)) verdicts ≡ wanted verdicts
-unfolding all withNodes call verdicts
-verdicts-are = refl
-
-numbers : List ((Said ℕ × List ℕ) × Call)
-unfolding call
-numbers =
-    ((gives 1 2 1, (0 ∷ 0 ∷ 0 ∷ 0 ∷ [])), call ((10 ∷ []) ∷ (31 ∷ []) ∷ []) 1 0 (0 ∷ 0 ∷ 0 ∷ 0 ∷ []) 100 1 4) ∷  -- count for none where tp x
-    ((refuses 8 0 0, (7 ∷ 7 ∷ 7 ∷ 7 ∷ [])), call ((10 ∷ []) ∷ []) 0 0 (0 ∷ 0 ∷ 0 ∷ 0 ∷ []) 100 1 4) ∷  -- a condition
-    ((refuses 8 0 0, (7 ∷ 7 ∷ 7 ∷ 7 ∷ [])), call ((23 ∷ []) ∷ []) 0 0 (0 ∷ 0 ∷ 0 ∷ 0 ∷ []) 100 1 4) ∷  -- a term
-    ((refuses 8 0 0, (7 ∷ 7 ∷ 7 ∷ 7 ∷ [])), call ((10 ∷ []) ∷ (31 ∷ []) ∷ (25 ∷ 1 ∷ []) ∷ []) 2 0 (0 ∷ 0 ∷ 0 ∷ 0 ∷ []) 100 1 4) ∷  -- an aggregate as a term
+    ((gives (verdict true) 2 1, (0 ∷ 0 ∷ 0 ∷ 0 ∷ [])), call ((10 ∷ []) ∷ (9 ∷ []) ∷ []) 1 0 (0 ∷ 0 ∷ 0 ∷ 0 ∷ []) 2 1 4) ∷  -- exists x tp x
+    ((gives (number 1) 2 1, (0 ∷ 0 ∷ 0 ∷ 0 ∷ [])), call ((10 ∷ []) ∷ (31 ∷ []) ∷ []) 1 0 (0 ∷ 0 ∷ 0 ∷ 0 ∷ []) 100 1 4) ∷  -- count for none where tp x
     ((refuses 8 0 0, (7 ∷ 7 ∷ 7 ∷ 7 ∷ [])), call ((10 ∷ []) ∷ (31 ∷ []) ∷ []) 3 0 (0 ∷ 0 ∷ 0 ∷ 0 ∷ []) 100 1 4) ∷  -- no such node
     ((refuses 7 0 0, (7 ∷ 7 ∷ 7 ∷ 7 ∷ [])), call ((10 ∷ []) ∷ (31 ∷ []) ∷ []) 1 2 (0 ∷ 0 ∷ 0 ∷ 0 ∷ []) 100 1 4) ∷  -- no such point
     ((refuses 12 2 0, (7 ∷ [])), call ((10 ∷ []) ∷ (31 ∷ []) ∷ []) 1 0 (0 ∷ 0 ∷ 0 ∷ 0 ∷ []) 100 0 1) ∷  -- room exhausted
     ((refuses 11 1 0, (0 ∷ 0 ∷ 0 ∷ 0 ∷ [])), call ((10 ∷ []) ∷ (31 ∷ []) ∷ []) 1 0 (0 ∷ 0 ∷ 0 ∷ 0 ∷ []) 1 1 4) ∷  -- steps exhausted
     []
 
-numbers-are : got (λ c. let r = numberCall c in (r .said, r .workspace)) numbers ≡ wanted numbers
-unfolding all withNodes call numbers
-numbers-are = refl
+answers-are : got (λ c. let r = askCall c in (r .said, r .workspace)) answers ≡ wanted answers
+unfolding all withNodes call answers
+answers-are = refl
 
 -- with binders, and cells of output
 relations : List ((Said ℕ × List ℕ × List ℕ) × (List ℕ × ℕ × Call))
@@ -167,11 +155,11 @@ unfolding all withNodes
 counted = refl
 
 -- a file that fails the check, asked for no such point: 1 to 6 come before 7, with the workspace as it was
-unchecked : List ((Said Bool × List ℕ) × Call)
+unchecked : List ((Said Answer × List ℕ) × Call)
 unfolding call
 unchecked = ((refuses 6 0 0, 7 ∷ 7 ∷ []), call ((10 ∷ []) ∷ (11 ∷ []) ∷ []) 0 9 [] 0 0 2) ∷ []
 
-unchecked-are : got (λ c. let r = verdictCall c in (r .said, r .workspace)) unchecked ≡ wanted unchecked
+unchecked-are : got (λ c. let r = askCall c in (r .said, r .workspace)) unchecked ≡ wanted unchecked
 unfolding all withNodes call unchecked
 unchecked-are = refl
 
@@ -183,10 +171,10 @@ noVariables =
     ∷ table 8 ((20 ∷ 1 ∷ []) ∷ (8 ∷ 4 ∷ []) ∷ []) ∷ [] ∷ []
     ) (65 ∷ [])
 
-roomy : ℕ → Said Bool
+roomy : ℕ → Said Answer
 roomy room =
-    verdictCall (record { file = noVariables; point = 0; node = 1; start = []; limits = record { steps = 1; room = room }; workspace = [] }) .said
+    askCall (record { file = noVariables; point = 0; node = 1; start = []; limits = record { steps = 1; room = room }; workspace = [] }) .said
 
-rooms : (roomy 16384 ∷ roomy 16385 ∷ []) ≡ (gives true 1 0 ∷ refuses 10 0 0 ∷ [])
+rooms : (roomy 16384 ∷ roomy 16385 ∷ []) ≡ (gives (verdict true) 1 0 ∷ refuses 10 0 0 ∷ [])
 unfolding all noVariables roomy
 rooms = refl

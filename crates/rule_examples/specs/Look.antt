@@ -4,9 +4,9 @@ use mathlib.Core.Bool.{Bool, true, false}
 use mathlib.Core.List.{List, [], _∷_, _++_}
 use Prim.Native.Nat.{ℕ, _+_, _-_}
 use lib.ListN.{length}
-use Rattle.meaning.specs.Calls.{Said, gives, refuses}
+use Rattle.meaning.specs.Calls.{Said, gives, refuses, Answer, verdict, number}
 use Rattle.meaning.specs.Written.{table, file}
-use Rattle.rule_examples.specs.Asked.{all, wanted, got, verdict, number, rows}
+use Rattle.rule_examples.specs.Asked.{all, wanted, got, answer, rows}
 
 -- every variable unbound
 free : List ℕ
@@ -163,46 +163,47 @@ withNodes nodes =
     file 1 (table 2 strings ∷ table 4 values ∷ table 2 members ∷ table 12 points ∷ table 8 (leaves ++ nodes) ∷ lists ∷ []) text
 
 -- nodes, point, starting bindings
-verdicts : List (Said Bool × (List (List ℕ) × ℕ × List ℕ))
-verdicts =
-    (gives true 1 0, (((21 ∷ 17 ∷ 2 ∷ []) ∷ (20 ∷ 3 ∷ []) ∷ (8 ∷ 4 ∷ 0 ∷ 1 ∷ []) ∷ []), 0, free)) ∷  -- context.a.b == 2
-    (gives true 1 0, (((21 ∷ 19 ∷ 1 ∷ []) ∷ (8 ∷ 4 ∷ []) ∷ []), 0, free)) ∷  -- context.a == context.a
-    (gives false 1 0, (((21 ∷ 20 ∷ 1 ∷ []) ∷ (8 ∷ 4 ∷ []) ∷ []), 0, free)) ∷  -- context.b == context.b
-    (gives false 1 0, (((21 ∷ 21 ∷ 2 ∷ []) ∷ (8 ∷ 4 ∷ []) ∷ []), 0, free)) ∷  -- context.a.c == context.a.c
-    (gives false 1 0, (((21 ∷ 23 ∷ 2 ∷ []) ∷ (8 ∷ 4 ∷ []) ∷ []), 0, free)) ∷  -- context.s.b == context.s.b
-    (gives true 1 0, (((21 ∷ 25 ∷ 1 ∷ []) ∷ (20 ∷ 19 ∷ []) ∷ (8 ∷ 4 ∷ 0 ∷ 1 ∷ []) ∷ []), 0, free)) ∷  -- context.s == "s"
-    (gives true 1 0, (((22 ∷ []) ∷ (20 ∷ 12 ∷ []) ∷ (8 ∷ 4 ∷ 0 ∷ 1 ∷ []) ∷ []), 0, free)) ∷  -- principal == U::"u"
-    (gives true 1 0, (((22 ∷ 1 ∷ []) ∷ (20 ∷ 13 ∷ []) ∷ (8 ∷ 4 ∷ 0 ∷ 1 ∷ []) ∷ []), 0, free)) ∷  -- resource == G::"g"
-    (gives false 1 0, (((22 ∷ []) ∷ (20 ∷ 24 ∷ []) ∷ (8 ∷ 4 ∷ 0 ∷ 1 ∷ []) ∷ []), 0, free)) ∷  -- principal == G::"u"
-    (gives true 1 0, (((22 ∷ 0 ∷ 26 ∷ 1 ∷ []) ∷ (20 ∷ 10 ∷ []) ∷ (8 ∷ 4 ∷ 0 ∷ 1 ∷ []) ∷ []), 0, free)) ∷  -- principal.v == 4
-    (gives true 1 0, (((22 ∷ 1 ∷ 26 ∷ 1 ∷ []) ∷ (20 ∷ 1 ∷ []) ∷ (8 ∷ 4 ∷ 0 ∷ 1 ∷ []) ∷ []), 0, free)) ∷  -- resource.v == 1
-    (gives true 1 0, (((22 ∷ 0 ∷ 27 ∷ 2 ∷ []) ∷ (20 ∷ 7 ∷ []) ∷ (8 ∷ 4 ∷ 0 ∷ 1 ∷ []) ∷ []), 0, free)) ∷  -- principal.d.e == 5
-    (gives false 1 0, (((22 ∷ 0 ∷ 29 ∷ 2 ∷ []) ∷ (8 ∷ 4 ∷ []) ∷ []), 0, free)) ∷  -- principal.d.x == principal.d.x
-    (gives false 1 0, (((22 ∷ 0 ∷ 31 ∷ 1 ∷ []) ∷ (8 ∷ 4 ∷ []) ∷ []), 0, free)) ∷  -- principal.x == principal.x
-    (gives true 1 0, (((22 ∷ 0 ∷ 32 ∷ 1 ∷ []) ∷ (20 ∷ 14 ∷ []) ∷ (8 ∷ 4 ∷ 0 ∷ 1 ∷ []) ∷ []), 0, free)) ∷  -- principal.id == "u"
-    (gives true 1 0, (((22 ∷ 0 ∷ 33 ∷ 1 ∷ []) ∷ (20 ∷ 9 ∷ []) ∷ (8 ∷ 4 ∷ 0 ∷ 1 ∷ []) ∷ []), 0, free)) ∷  -- principal.type == "t"
-    (gives true 1 0, (((22 ∷ 1 ∷ 32 ∷ 1 ∷ []) ∷ (20 ∷ []) ∷ (8 ∷ 4 ∷ 0 ∷ 1 ∷ []) ∷ []), 0, free)) ∷  -- resource.id == "own"
-    (gives true 1 0, (((22 ∷ 1 ∷ 33 ∷ 1 ∷ []) ∷ (20 ∷ 25 ∷ []) ∷ (8 ∷ 4 ∷ 0 ∷ 1 ∷ []) ∷ []), 0, free)) ∷  -- resource.type == "G"
-    (gives false 1 0, (((22 ∷ 1 ∷ 32 ∷ 1 ∷ []) ∷ (20 ∷ 26 ∷ []) ∷ (8 ∷ 4 ∷ 0 ∷ 1 ∷ []) ∷ []), 0, free)) ∷  -- resource.id == "g"
-    (gives false 1 0, (((22 ∷ 0 ∷ 33 ∷ 1 ∷ []) ∷ (20 ∷ 27 ∷ []) ∷ (8 ∷ 4 ∷ 0 ∷ 1 ∷ []) ∷ []), 0, free)) ∷  -- principal.type == "U"
-    (gives false 1 0, (((22 ∷ 0 ∷ 34 ∷ 2 ∷ []) ∷ (8 ∷ 4 ∷ []) ∷ []), 0, free)) ∷  -- principal.id.x == principal.id.x
-    (gives false 1 0, (((22 ∷ 1 ∷ 36 ∷ 2 ∷ []) ∷ (8 ∷ 4 ∷ []) ∷ []), 0, free)) ∷  -- resource.type.x == resource.type.x
-    (gives true 1 0, (((22 ∷ []) ∷ (20 ∷ 14 ∷ []) ∷ (8 ∷ 4 ∷ 0 ∷ 1 ∷ []) ∷ []), 1, free)) ∷  -- principal == "u"
-    (gives false 1 0, (((22 ∷ 0 ∷ 32 ∷ 1 ∷ []) ∷ (8 ∷ 4 ∷ []) ∷ []), 1, free)) ∷  -- principal.id == principal.id
-    (gives false 1 0, (((22 ∷ 1 ∷ []) ∷ (8 ∷ 4 ∷ []) ∷ []), 1, free)) ∷  -- resource == resource
-    (gives false 1 0, (((22 ∷ 1 ∷ 32 ∷ 1 ∷ []) ∷ (8 ∷ 4 ∷ []) ∷ []), 1, free)) ∷  -- resource.id == resource.id
-    (gives false 1 0, (((22 ∷ 0 ∷ 26 ∷ 1 ∷ []) ∷ (8 ∷ 4 ∷ []) ∷ []), 1, free)) ∷  -- principal.v == principal.v
-    (gives true 1 0, (((22 ∷ 0 ∷ 32 ∷ 1 ∷ []) ∷ (20 ∷ 28 ∷ []) ∷ (8 ∷ 4 ∷ 0 ∷ 1 ∷ []) ∷ []), 2, free)) ∷  -- principal.id == "z"
-    (gives true 1 0, (((22 ∷ 0 ∷ 33 ∷ 1 ∷ []) ∷ (20 ∷ 25 ∷ []) ∷ (8 ∷ 4 ∷ 0 ∷ 1 ∷ []) ∷ []), 2, free)) ∷  -- principal.type == "G"
-    (gives false 1 0, (((22 ∷ 0 ∷ 26 ∷ 1 ∷ []) ∷ (8 ∷ 4 ∷ []) ∷ []), 2, free)) ∷  -- principal.v == principal.v
-    (gives true 1 0, (((22 ∷ 1 ∷ 32 ∷ 1 ∷ []) ∷ (20 ∷ 14 ∷ []) ∷ (8 ∷ 4 ∷ 0 ∷ 1 ∷ []) ∷ []), 2, free)) ∷  -- resource.id == "u"
-    (gives false 1 0, (((22 ∷ 1 ∷ 26 ∷ 1 ∷ []) ∷ (8 ∷ 4 ∷ []) ∷ []), 2, free)) ∷  -- resource.v == resource.v
-    (gives true 2 0, (((22 ∷ 0 ∷ 32 ∷ 1 ∷ []) ∷ (20 ∷ 28 ∷ []) ∷ (8 ∷ 4 ∷ 0 ∷ 1 ∷ []) ∷ (4 ∷ 1 ∷ 0 ∷ 3 ∷ 2 ∷ []) ∷ []), 2, free)) ∷  -- formerly within 1d principal.id == "z"
+answers : List (Said Answer × (List (List ℕ) × ℕ × List ℕ))
+answers =
+    (gives (verdict true) 1 0, (((21 ∷ 17 ∷ 2 ∷ []) ∷ (20 ∷ 3 ∷ []) ∷ (8 ∷ 4 ∷ 0 ∷ 1 ∷ []) ∷ []), 0, free)) ∷  -- context.a.b == 2
+    (gives (verdict true) 1 0, (((21 ∷ 19 ∷ 1 ∷ []) ∷ (8 ∷ 4 ∷ []) ∷ []), 0, free)) ∷  -- context.a == context.a
+    (gives (verdict false) 1 0, (((21 ∷ 20 ∷ 1 ∷ []) ∷ (8 ∷ 4 ∷ []) ∷ []), 0, free)) ∷  -- context.b == context.b
+    (gives (verdict false) 1 0, (((21 ∷ 21 ∷ 2 ∷ []) ∷ (8 ∷ 4 ∷ []) ∷ []), 0, free)) ∷  -- context.a.c == context.a.c
+    (gives (verdict false) 1 0, (((21 ∷ 23 ∷ 2 ∷ []) ∷ (8 ∷ 4 ∷ []) ∷ []), 0, free)) ∷  -- context.s.b == context.s.b
+    (gives (verdict true) 1 0, (((21 ∷ 25 ∷ 1 ∷ []) ∷ (20 ∷ 19 ∷ []) ∷ (8 ∷ 4 ∷ 0 ∷ 1 ∷ []) ∷ []), 0, free)) ∷  -- context.s == "s"
+    (gives (verdict true) 1 0, (((22 ∷ []) ∷ (20 ∷ 12 ∷ []) ∷ (8 ∷ 4 ∷ 0 ∷ 1 ∷ []) ∷ []), 0, free)) ∷  -- principal == U::"u"
+    (gives (verdict true) 1 0, (((22 ∷ 1 ∷ []) ∷ (20 ∷ 13 ∷ []) ∷ (8 ∷ 4 ∷ 0 ∷ 1 ∷ []) ∷ []), 0, free)) ∷  -- resource == G::"g"
+    (gives (verdict false) 1 0, (((22 ∷ []) ∷ (20 ∷ 24 ∷ []) ∷ (8 ∷ 4 ∷ 0 ∷ 1 ∷ []) ∷ []), 0, free)) ∷  -- principal == G::"u"
+    (gives (verdict true) 1 0, (((22 ∷ 0 ∷ 26 ∷ 1 ∷ []) ∷ (20 ∷ 10 ∷ []) ∷ (8 ∷ 4 ∷ 0 ∷ 1 ∷ []) ∷ []), 0, free)) ∷  -- principal.v == 4
+    (gives (verdict true) 1 0, (((22 ∷ 1 ∷ 26 ∷ 1 ∷ []) ∷ (20 ∷ 1 ∷ []) ∷ (8 ∷ 4 ∷ 0 ∷ 1 ∷ []) ∷ []), 0, free)) ∷  -- resource.v == 1
+    (gives (verdict true) 1 0, (((22 ∷ 0 ∷ 27 ∷ 2 ∷ []) ∷ (20 ∷ 7 ∷ []) ∷ (8 ∷ 4 ∷ 0 ∷ 1 ∷ []) ∷ []), 0, free)) ∷  -- principal.d.e == 5
+    (gives (verdict false) 1 0, (((22 ∷ 0 ∷ 29 ∷ 2 ∷ []) ∷ (8 ∷ 4 ∷ []) ∷ []), 0, free)) ∷  -- principal.d.x == principal.d.x
+    (gives (verdict false) 1 0, (((22 ∷ 0 ∷ 31 ∷ 1 ∷ []) ∷ (8 ∷ 4 ∷ []) ∷ []), 0, free)) ∷  -- principal.x == principal.x
+    (gives (verdict true) 1 0, (((22 ∷ 0 ∷ 32 ∷ 1 ∷ []) ∷ (20 ∷ 14 ∷ []) ∷ (8 ∷ 4 ∷ 0 ∷ 1 ∷ []) ∷ []), 0, free)) ∷  -- principal.id == "u"
+    (gives (verdict true) 1 0, (((22 ∷ 0 ∷ 33 ∷ 1 ∷ []) ∷ (20 ∷ 9 ∷ []) ∷ (8 ∷ 4 ∷ 0 ∷ 1 ∷ []) ∷ []), 0, free)) ∷  -- principal.type == "t"
+    (gives (verdict true) 1 0, (((22 ∷ 1 ∷ 32 ∷ 1 ∷ []) ∷ (20 ∷ []) ∷ (8 ∷ 4 ∷ 0 ∷ 1 ∷ []) ∷ []), 0, free)) ∷  -- resource.id == "own"
+    (gives (verdict true) 1 0, (((22 ∷ 1 ∷ 33 ∷ 1 ∷ []) ∷ (20 ∷ 25 ∷ []) ∷ (8 ∷ 4 ∷ 0 ∷ 1 ∷ []) ∷ []), 0, free)) ∷  -- resource.type == "G"
+    (gives (verdict false) 1 0, (((22 ∷ 1 ∷ 32 ∷ 1 ∷ []) ∷ (20 ∷ 26 ∷ []) ∷ (8 ∷ 4 ∷ 0 ∷ 1 ∷ []) ∷ []), 0, free)) ∷  -- resource.id == "g"
+    (gives (verdict false) 1 0, (((22 ∷ 0 ∷ 33 ∷ 1 ∷ []) ∷ (20 ∷ 27 ∷ []) ∷ (8 ∷ 4 ∷ 0 ∷ 1 ∷ []) ∷ []), 0, free)) ∷  -- principal.type == "U"
+    (gives (verdict false) 1 0, (((22 ∷ 0 ∷ 34 ∷ 2 ∷ []) ∷ (8 ∷ 4 ∷ []) ∷ []), 0, free)) ∷  -- principal.id.x == principal.id.x
+    (gives (verdict false) 1 0, (((22 ∷ 1 ∷ 36 ∷ 2 ∷ []) ∷ (8 ∷ 4 ∷ []) ∷ []), 0, free)) ∷  -- resource.type.x == resource.type.x
+    (gives (verdict true) 1 0, (((22 ∷ []) ∷ (20 ∷ 14 ∷ []) ∷ (8 ∷ 4 ∷ 0 ∷ 1 ∷ []) ∷ []), 1, free)) ∷  -- principal == "u"
+    (gives (verdict false) 1 0, (((22 ∷ 0 ∷ 32 ∷ 1 ∷ []) ∷ (8 ∷ 4 ∷ []) ∷ []), 1, free)) ∷  -- principal.id == principal.id
+    (gives (verdict false) 1 0, (((22 ∷ 1 ∷ []) ∷ (8 ∷ 4 ∷ []) ∷ []), 1, free)) ∷  -- resource == resource
+    (gives (verdict false) 1 0, (((22 ∷ 1 ∷ 32 ∷ 1 ∷ []) ∷ (8 ∷ 4 ∷ []) ∷ []), 1, free)) ∷  -- resource.id == resource.id
+    (gives (verdict false) 1 0, (((22 ∷ 0 ∷ 26 ∷ 1 ∷ []) ∷ (8 ∷ 4 ∷ []) ∷ []), 1, free)) ∷  -- principal.v == principal.v
+    (gives (verdict true) 1 0, (((22 ∷ 0 ∷ 32 ∷ 1 ∷ []) ∷ (20 ∷ 28 ∷ []) ∷ (8 ∷ 4 ∷ 0 ∷ 1 ∷ []) ∷ []), 2, free)) ∷  -- principal.id == "z"
+    (gives (verdict true) 1 0, (((22 ∷ 0 ∷ 33 ∷ 1 ∷ []) ∷ (20 ∷ 25 ∷ []) ∷ (8 ∷ 4 ∷ 0 ∷ 1 ∷ []) ∷ []), 2, free)) ∷  -- principal.type == "G"
+    (gives (verdict false) 1 0, (((22 ∷ 0 ∷ 26 ∷ 1 ∷ []) ∷ (8 ∷ 4 ∷ []) ∷ []), 2, free)) ∷  -- principal.v == principal.v
+    (gives (verdict true) 1 0, (((22 ∷ 1 ∷ 32 ∷ 1 ∷ []) ∷ (20 ∷ 14 ∷ []) ∷ (8 ∷ 4 ∷ 0 ∷ 1 ∷ []) ∷ []), 2, free)) ∷  -- resource.id == "u"
+    (gives (verdict false) 1 0, (((22 ∷ 1 ∷ 26 ∷ 1 ∷ []) ∷ (8 ∷ 4 ∷ []) ∷ []), 2, free)) ∷  -- resource.v == resource.v
+    (gives (verdict true) 2 0, (((22 ∷ 0 ∷ 32 ∷ 1 ∷ []) ∷ (20 ∷ 28 ∷ []) ∷ (8 ∷ 4 ∷ 0 ∷ 1 ∷ []) ∷ (4 ∷ 1 ∷ 0 ∷ 3 ∷ 2 ∷ []) ∷ []), 2, free)) ∷  -- formerly within 1d principal.id == "z"
+    (gives (verdict false) 4 0, (((22 ∷ 0 ∷ 32 ∷ 1 ∷ []) ∷ (20 ∷ 14 ∷ []) ∷ (8 ∷ 4 ∷ 0 ∷ 1 ∷ []) ∷ (4 ∷ 1 ∷ 0 ∷ 3 ∷ 2 ∷ []) ∷ []), 2, free)) ∷  -- formerly within 1d principal.id == "u"
     []
 
-verdicts-are : got (λ e. verdict (withNodes (e .0)) (0 + length (e .0) - 1) (e .1) (e .2)) verdicts ≡ wanted verdicts
-unfolding all withNodes verdicts free
-verdicts-are = refl
+answers-are : got (λ e. answer (withNodes (e .0)) (0 + length (e .0) - 1) (e .1) (e .2)) answers ≡ wanted answers
+unfolding all withNodes answers free
+answers-are = refl
 
 -- nodes, point, starting bindings, binders, cells of output
 relations : List ((Said ℕ × List ℕ) × (List (List ℕ) × ℕ × List ℕ × List ℕ × ℕ))

@@ -4,9 +4,9 @@ use mathlib.Core.Bool.{Bool, true, false}
 use mathlib.Core.List.{List, [], _∷_, _++_}
 use Prim.Native.Nat.{ℕ, _+_, _-_}
 use lib.ListN.{length}
-use Rattle.meaning.specs.Calls.{Said, gives, refuses}
+use Rattle.meaning.specs.Calls.{Said, gives, refuses, Answer, verdict, number}
 use Rattle.meaning.specs.Written.{table, file}
-use Rattle.rule_examples.specs.Asked.{all, wanted, got, verdict, number, rows}
+use Rattle.rule_examples.specs.Asked.{all, wanted, got, answer, rows}
 
 -- every variable unbound
 free : List ℕ
@@ -64,22 +64,22 @@ withNodes nodes =
     file 0 (table 2 strings ∷ table 4 values ∷ table 2 members ∷ table 12 points ∷ table 8 (leaves ++ nodes) ∷ lists ∷ []) text
 
 -- nodes, point, starting bindings
-verdicts : List (Said Bool × (List (List ℕ) × ℕ × List ℕ))
-verdicts =
-    (gives true 3 0, (((7 ∷ 0 ∷ 0 ∷ 0 ∷ 2 ∷ []) ∷ (4 ∷ 1 ∷ 0 ∷ 1 ∷ []) ∷ []), 1, free)) ∷  -- formerly within 1m A()
-    (gives false 3 0, (((7 ∷ 0 ∷ 0 ∷ 0 ∷ 2 ∷ []) ∷ (4 ∷ 1 ∷ 0 ∷ 1 ∷ []) ∷ []), 2, free)) ∷  -- formerly within 1m A()
-    (gives true 5 0, (((7 ∷ 0 ∷ 0 ∷ 0 ∷ 2 ∷ []) ∷ (4 ∷ 1 ∷ 0 ∷ 2 ∷ []) ∷ []), 3, free)) ∷  -- formerly within 1h A()
-    (gives false 5 0, (((7 ∷ 0 ∷ 0 ∷ 0 ∷ 2 ∷ []) ∷ (4 ∷ 1 ∷ 0 ∷ 2 ∷ []) ∷ []), 4, free)) ∷  -- formerly within 1h A()
-    (gives true 7 0, (((7 ∷ 0 ∷ 0 ∷ 0 ∷ 2 ∷ []) ∷ (4 ∷ 1 ∷ 0 ∷ 3 ∷ []) ∷ []), 5, free)) ∷  -- formerly within 1d A()
-    (gives false 7 0, (((7 ∷ 0 ∷ 0 ∷ 0 ∷ 2 ∷ []) ∷ (4 ∷ 1 ∷ 0 ∷ 3 ∷ []) ∷ []), 6, free)) ∷  -- formerly within 1d A()
-    (gives true 3 0, (((7 ∷ 0 ∷ 0 ∷ 0 ∷ 2 ∷ []) ∷ (4 ∷ 60 ∷ []) ∷ []), 1, free)) ∷  -- formerly within 60s A()
-    (gives false 2 0, (((7 ∷ 0 ∷ 0 ∷ 0 ∷ 2 ∷ []) ∷ (4 ∷ 59 ∷ []) ∷ []), 1, free)) ∷  -- formerly within 59s A()
-    (gives false 3 0, (((7 ∷ 0 ∷ 0 ∷ 0 ∷ 2 ∷ []) ∷ (4 ∷ 60 ∷ []) ∷ []), 2, free)) ∷  -- formerly within 60s A()
+answers : List (Said Answer × (List (List ℕ) × ℕ × List ℕ))
+answers =
+    (gives (verdict true) 3 0, (((7 ∷ 0 ∷ 0 ∷ 0 ∷ 2 ∷ []) ∷ (4 ∷ 1 ∷ 0 ∷ 1 ∷ []) ∷ []), 1, free)) ∷  -- formerly within 1m A()
+    (gives (verdict false) 3 0, (((7 ∷ 0 ∷ 0 ∷ 0 ∷ 2 ∷ []) ∷ (4 ∷ 1 ∷ 0 ∷ 1 ∷ []) ∷ []), 2, free)) ∷  -- formerly within 1m A()
+    (gives (verdict true) 5 0, (((7 ∷ 0 ∷ 0 ∷ 0 ∷ 2 ∷ []) ∷ (4 ∷ 1 ∷ 0 ∷ 2 ∷ []) ∷ []), 3, free)) ∷  -- formerly within 1h A()
+    (gives (verdict false) 5 0, (((7 ∷ 0 ∷ 0 ∷ 0 ∷ 2 ∷ []) ∷ (4 ∷ 1 ∷ 0 ∷ 2 ∷ []) ∷ []), 4, free)) ∷  -- formerly within 1h A()
+    (gives (verdict true) 7 0, (((7 ∷ 0 ∷ 0 ∷ 0 ∷ 2 ∷ []) ∷ (4 ∷ 1 ∷ 0 ∷ 3 ∷ []) ∷ []), 5, free)) ∷  -- formerly within 1d A()
+    (gives (verdict false) 7 0, (((7 ∷ 0 ∷ 0 ∷ 0 ∷ 2 ∷ []) ∷ (4 ∷ 1 ∷ 0 ∷ 3 ∷ []) ∷ []), 6, free)) ∷  -- formerly within 1d A()
+    (gives (verdict true) 3 0, (((7 ∷ 0 ∷ 0 ∷ 0 ∷ 2 ∷ []) ∷ (4 ∷ 60 ∷ []) ∷ []), 1, free)) ∷  -- formerly within 60s A()
+    (gives (verdict false) 2 0, (((7 ∷ 0 ∷ 0 ∷ 0 ∷ 2 ∷ []) ∷ (4 ∷ 59 ∷ []) ∷ []), 1, free)) ∷  -- formerly within 59s A()
+    (gives (verdict false) 3 0, (((7 ∷ 0 ∷ 0 ∷ 0 ∷ 2 ∷ []) ∷ (4 ∷ 60 ∷ []) ∷ []), 2, free)) ∷  -- formerly within 60s A()
     []
 
-verdicts-are : got (λ e. verdict (withNodes (e .0)) (0 + length (e .0) - 1) (e .1) (e .2)) verdicts ≡ wanted verdicts
-unfolding all withNodes verdicts free
-verdicts-are = refl
+answers-are : got (λ e. answer (withNodes (e .0)) (0 + length (e .0) - 1) (e .1) (e .2)) answers ≡ wanted answers
+unfolding all withNodes answers free
+answers-are = refl
 
 -- strings, end to end
 far-text : List ℕ
@@ -129,18 +129,18 @@ far-withNodes nodes =
     file 0 (table 2 far-strings ∷ table 4 far-values ∷ table 2 far-members ∷ table 12 far-points ∷ table 8 (far-leaves ++ nodes) ∷ far-lists ∷ []) far-text
 
 -- nodes, point, starting bindings
-far-verdicts : List (Said Bool × (List (List ℕ) × ℕ × List ℕ))
-far-verdicts =
-    (gives true 3 0, (((7 ∷ 0 ∷ 0 ∷ 0 ∷ 2 ∷ []) ∷ (4 ∷ 4294967295 ∷ 2147483647 ∷ []) ∷ []), 1, free)) ∷  -- formerly within 9223372036854775807s A()
-    (gives false 2 0, (((7 ∷ 0 ∷ 0 ∷ 0 ∷ 2 ∷ []) ∷ (4 ∷ 4294967294 ∷ 2147483647 ∷ []) ∷ []), 1, free)) ∷  -- formerly within 9223372036854775806s A()
-    (gives true 3 0, (((7 ∷ 0 ∷ 0 ∷ 0 ∷ 2 ∷ []) ∷ (4 ∷ 579025221 ∷ 24855 ∷ 3 ∷ []) ∷ []), 1, free)) ∷  -- formerly within 106751991167301d A()
-    (gives false 2 0, (((7 ∷ 0 ∷ 0 ∷ 0 ∷ 2 ∷ []) ∷ (4 ∷ 579025220 ∷ 24855 ∷ 3 ∷ []) ∷ []), 1, free)) ∷  -- formerly within 106751991167300d A()
-    (gives true 3 0, (((7 ∷ 0 ∷ 0 ∷ 0 ∷ 2 ∷ []) ∷ (4 ∷ []) ∷ []), 2, free)) ∷  -- formerly within 0s A()
-    (gives false 1 0, (((7 ∷ 0 ∷ 0 ∷ 1 ∷ 2 ∷ []) ∷ (5 ∷ 4294967295 ∷ 2147483647 ∷ []) ∷ []), 2, free)) ∷  -- previous within 9223372036854775807s B()
-    (gives false 1 0, (((7 ∷ 0 ∷ 0 ∷ 0 ∷ 2 ∷ []) ∷ (4 ∷ 3715942074 ∷ 4294942440 ∷ 3 ∷ []) ∷ []), 0, free)) ∷  -- formerly within -106751991167302d A()
-    (gives true 4 0, (((7 ∷ 0 ∷ 0 ∷ 1 ∷ 2 ∷ []) ∷ (7 ∷ 0 ∷ 0 ∷ 0 ∷ 2 ∷ []) ∷ (6 ∷ 0 ∷ 1 ∷ 579025221 ∷ 24855 ∷ 3 ∷ []) ∷ []), 1, free)) ∷  -- (B() since within 106751991167301d A())
+far-answers : List (Said Answer × (List (List ℕ) × ℕ × List ℕ))
+far-answers =
+    (gives (verdict true) 3 0, (((7 ∷ 0 ∷ 0 ∷ 0 ∷ 2 ∷ []) ∷ (4 ∷ 4294967295 ∷ 2147483647 ∷ []) ∷ []), 1, free)) ∷  -- formerly within 9223372036854775807s A()
+    (gives (verdict false) 2 0, (((7 ∷ 0 ∷ 0 ∷ 0 ∷ 2 ∷ []) ∷ (4 ∷ 4294967294 ∷ 2147483647 ∷ []) ∷ []), 1, free)) ∷  -- formerly within 9223372036854775806s A()
+    (gives (verdict true) 3 0, (((7 ∷ 0 ∷ 0 ∷ 0 ∷ 2 ∷ []) ∷ (4 ∷ 579025221 ∷ 24855 ∷ 3 ∷ []) ∷ []), 1, free)) ∷  -- formerly within 106751991167301d A()
+    (gives (verdict false) 2 0, (((7 ∷ 0 ∷ 0 ∷ 0 ∷ 2 ∷ []) ∷ (4 ∷ 579025220 ∷ 24855 ∷ 3 ∷ []) ∷ []), 1, free)) ∷  -- formerly within 106751991167300d A()
+    (gives (verdict true) 3 0, (((7 ∷ 0 ∷ 0 ∷ 0 ∷ 2 ∷ []) ∷ (4 ∷ []) ∷ []), 2, free)) ∷  -- formerly within 0s A()
+    (gives (verdict false) 1 0, (((7 ∷ 0 ∷ 0 ∷ 1 ∷ 2 ∷ []) ∷ (5 ∷ 4294967295 ∷ 2147483647 ∷ []) ∷ []), 2, free)) ∷  -- previous within 9223372036854775807s B()
+    (gives (verdict false) 1 0, (((7 ∷ 0 ∷ 0 ∷ 0 ∷ 2 ∷ []) ∷ (4 ∷ 3715942074 ∷ 4294942440 ∷ 3 ∷ []) ∷ []), 0, free)) ∷  -- formerly within -106751991167302d A()
+    (gives (verdict true) 4 0, (((7 ∷ 0 ∷ 0 ∷ 1 ∷ 2 ∷ []) ∷ (7 ∷ 0 ∷ 0 ∷ 0 ∷ 2 ∷ []) ∷ (6 ∷ 0 ∷ 1 ∷ 579025221 ∷ 24855 ∷ 3 ∷ []) ∷ []), 1, free)) ∷  -- (B() since within 106751991167301d A())
     []
 
-far-verdicts-are : got (λ e. verdict (far-withNodes (e .0)) (0 + length (e .0) - 1) (e .1) (e .2)) far-verdicts ≡ wanted far-verdicts
-unfolding all far-withNodes far-verdicts free
-far-verdicts-are = refl
+far-answers-are : got (λ e. answer (far-withNodes (e .0)) (0 + length (e .0) - 1) (e .1) (e .2)) far-answers ≡ wanted far-answers
+unfolding all far-withNodes far-answers free
+far-answers-are = refl

@@ -1,5 +1,6 @@
 pub mod Asked
 pub mod Contents
+pub mod Longest
 pub mod Strings
 pub mod Values
 pub mod Points

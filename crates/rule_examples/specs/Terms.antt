@@ -126,3 +126,9 @@ nodes =
 nodes-are : got (λ ns. checked (nodesOf ns)) nodes ≡ wanted nodes
 unfolding all nodes nodesOf
 nodes-are = refl
+
+-- an argument's third word past the lists, which would read as node 0, a term
+past-the-lists :
+    checked (file 1 ((0 ∷ 1 ∷ []) ∷ [] ∷ [] ∷ [] ∷ table 8 ((23 ∷ []) ∷ (7 ∷ 0 ∷ 0 ∷ 0 ∷ 0 ∷ 0 ∷ 1 ∷ []) ∷ []) ∷ (0 ∷ 1 ∷ []) ∷ []) (97 ∷ [])) ≡ 6
+unfolding all
+past-the-lists = refl

@@ -17,3 +17,4 @@ pub mod Numbers
 pub mod Rows
 pub mod Joins
 pub mod Calls
+pub mod Demanded

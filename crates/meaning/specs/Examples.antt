@@ -3,7 +3,7 @@ use mathlib.Core.Path.{_≡_, refl, _∙_}
 use mathlib.Core.Bool.{Bool, true, false}
 use mathlib.Core.List.{List, [], _∷_, _++_, map}
 use mathlib.Core.Option.{none, some}
-use Prim.Native.Nat.{ℕ, _+_, _*_, _/_, _%_, _-_}
+use Prim.Native.Nat.{ℕ}
 use lib.IntN.{ℤ, pos, negsuc}
 use lib.ListN.{length, set, replicate}
 use mir.Val.{ofZ}
@@ -19,6 +19,7 @@ use Rattle.meaning.specs.declared.Interval.{Interval}
 use Rattle.meaning.specs.declared.TimeUnit.{TimeUnit}
 use Rattle.meaning.specs.declared.TimeUnit.the-variants.{Seconds, Minutes, Hours, Days}
 use Rattle.meaning.specs.declared.CmpOp.the-variants.{Eq, NotEq}
+use Rattle.meaning.specs.Written.{packed, table, placed, flat, bytesOf, file}
 use Rattle.meaning.specs.Below.{upto, made}
 use Rattle.meaning.specs.Tests.{_and_, _or_, choose, onlyIf, isSome, orElse, pick, allBelow, rises, greatest, levels, throughout}
 use Rattle.meaning.specs.Text.{before, free as free·Text, first, follow, next, ended, utf8}
@@ -33,35 +34,6 @@ use Rattle.meaning.specs.Meaning.{under as under·Meaning, unbinding, ea
 use Rattle.meaning.specs.Calls.{Call, Said, gives, refuses, numberOf, isInt, wellFormed, moreRow, startRow, startOr, isCondition, isAggregate, answerable, against, walkOf, told, unlessRefused, unlessAgainst, asking, cleared, workspaceAfter, result, checkCall, Answer, verdict, number, saying, askCall, cellsOf, filled, allUnder, projected, outputFits, rowsGiven, rowsCall}
 
 -- ---- the case, record by record in words
-
--- a word's four bytes, the lowest first
-bytesOf : ℕ → List ℕ
-bytesOf w = w % 256 ∷ w / 256 % 256 ∷ w / 65536 % 256 ∷ w / 16777216 ∷ []
-
-packed : List ℕ → List ℕ
-unfolding bytesOf
-packed [] = []
-packed (w ∷ ws) = bytesOf w ++ packed ws
-
--- records of so many words; those not written are 0
-table : ℕ → List (List ℕ) → List ℕ
-table width [] = []
-table width (r ∷ rs) = r ++ replicate (width - length r) 0 ++ table width rs
-
--- offset and length of each body
-placed : ℕ → List ℕ → List ℕ
-placed from [] = []
-placed from (size ∷ sizes) = from ∷ size ∷ placed (from + size) sizes
-
-flat : List (List ℕ) → List ℕ
-flat [] = []
-flat (l ∷ ls) = l ++ flat ls
-
--- edition 1, V, and the bodies without gaps: six of words, then text
-file : ℕ → List (List ℕ) → List ℕ → List ℕ
-unfolding packed placed flat
-file v bodies text =
-    packed (1 ∷ v ∷ placed 64 (map (λ b. 4 * length b) bodies ++ (length text ∷ []))) ++ flat (map packed bodies) ++ text
 
 text : List ℕ
 text =
@@ -237,7 +209,7 @@ lists =
 
 -- the case with a log of these points
 withLog : List (List ℕ) → List ℕ
-unfolding table text strings values members nodes lists file
+unfolding table bytesOf packed placed flat file text strings values members nodes lists
 withLog log =
     file 3 (table 2 strings ∷ table 4 values ∷ table 2 members ∷ table 12 log ∷ table 8 nodes ∷ lists ∷ []) text
 

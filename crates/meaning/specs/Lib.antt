@@ -13,4 +13,5 @@ pub mod Meaning
 pub mod Calls
 pub mod Demands
 pub mod Laws
+pub mod Written
 pub mod Examples

@@ -19,28 +19,12 @@ use crate::tally::broken;
 use crate::tally::compared;
 use crate::tally::nothing;
 use program_parts::cell;
-use program_parts::word;
 use tables::wide;
 ghost use mathlib.Core.Path.{_≡_};
 ghost use lib.ListN.{length};
 ghost use Rattle.replay.specs.Known.{Known};
 
-// how many cells of the workspace are cleared: none for refusals 1 to 10, and those come where V or room is above its most
-fn cleared(file: &[u8], c: Listed) -> usize {
-    if 1 <= c.refusal && c.refusal <= 10 {
-        return 0;
-    }
-    let vars = wide(word(file, 1));
-    if 16 < vars {
-        return 0;
-    }
-    if 16384 < c.room {
-        return 0;
-    }
-    2 * vars * c.room
-}
-
-// refusal, answer, both numbers and the answer's sort; `parts` is what the list has of the call after its twelve words
+// refusal, answer, both numbers and the answer's sort; `parts` is what the list has of the call after its thirteen words
 fn is_said(parts: &[u8], c: Listed, said: Said) -> bool
     requires { ⌜ Known c ⌝ }
 {
@@ -78,7 +62,7 @@ fn is_answered<'a>(
     if !is_said(parts, c, said) {
         return false;
     }
-    if !buffers::is_worked(work, cleared(file, c)) {
+    if !buffers::is_worked(work, c.cleared) {
         return false;
     }
     buffers::is_put(parts, filled_at(c), output, c.filled)
@@ -109,8 +93,8 @@ fn is_as_listed<'a>(parts: &'a [u8], file: &'a [u8], c: Listed) -> bool
 
 // the list's next call, on a file
 fn call(list: i32, file: &[u8], t: Tally) -> Tally {
-    let mut words = [0u8; 48];
-    if !take(list, &mut words, 48) {
+    let mut words = [0u8; 52];
+    if !take(list, &mut words, 52) {
         return broken(t);
     }
     let c = listed_call(&words);

@@ -7,7 +7,7 @@ ghost use mathlib.Core.Bool.{Bool, true};
 ghost use Prim.Native.Nat.{_+_, _*_, _≤_};
 ghost use Rattle.replay.specs.Known.{Known};
 
-// what is asked, how long its lists and buffers are, the refusal expected (0 for none), and the output cells that the answer fills
+// what is asked, how long its lists and buffers are, the refusal expected (0 for none), and how many cells of workspace and output the call clears and fills
 pub struct Listed {
     pub kind: usize,
     pub point: usize,
@@ -19,10 +19,11 @@ pub struct Listed {
     pub binders: usize,
     pub output: usize,
     pub refusal: usize,
+    pub cleared: usize,
     pub filled: usize,
 }
 
-// the call that twelve words say
+// the call that thirteen words say
 pub fn listed_call(words: &[u8]) -> Listed {
     Listed {
         kind: wide(word(words, 0)),
@@ -35,7 +36,8 @@ pub fn listed_call(words: &[u8]) -> Listed {
         binders: wide(word(words, 8)),
         output: wide(word(words, 9)),
         refusal: wide(word(words, 10)),
-        filled: wide(word(words, 11)),
+        cleared: wide(word(words, 11)),
+        filled: wide(word(words, 12)),
     }
 }
 
@@ -64,7 +66,7 @@ pub fn is_known(c: Listed) -> bool
     c.filled <= 256
 }
 
-// where a call's parts stand after its twelve words: the starting cells first
+// where a call's parts stand after its thirteen words: the starting cells first
 pub fn binders_at(c: Listed) -> usize
     requires { ⌜ Known c ⌝ }
     ensures { λ r. ⌜ r ≤ 128 ⌝ }

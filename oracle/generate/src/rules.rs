@@ -38,8 +38,7 @@ pub fn rule_files() -> Vec<RuleFile> {
 pub fn huge_rule_files() -> Vec<RuleFile> {
     let mut list = RuleList { files: Vec::new() };
     for (count, expected) in [(16_384, 0), (16_385, 2)] {
-        let texts: Vec<Vec<u8>> = (0..count).map(|k| format!("{k:05}").into_bytes()).collect();
-        list.add(expected, &format!("{count} strings"), &with_strings(&texts));
+        list.add(expected, &format!("{count} strings"), &with_strings(&short_strings(count)));
         list.add(expected, &format!("{count} values"), &Tables { values: vec![[0; 4]; count], ..Tables::default() });
         list.add(expected, &format!("{count} points"), &with_points(count));
     }
@@ -51,6 +50,12 @@ pub fn huge_rule_files() -> Vec<RuleFile> {
     misplaced.push(0);
     list.add_bytes(1, "a file too long and misplaced", misplaced);
     list.files
+}
+
+/// The first so many strings of at most two letters, in order.
+fn short_strings(count: usize) -> Vec<Vec<u8>> {
+    let from = |a: u8| [vec![a]].into_iter().chain((0..128).map(move |b| vec![a, b]));
+    [Vec::new()].into_iter().chain((0..128).flat_map(from)).take(count).collect()
 }
 
 fn with_strings(texts: &[Vec<u8>]) -> Tables {
@@ -180,24 +185,27 @@ impl RuleList {
             b"\xF0\x90\x80\x80",
             b"\xF4\x8F\xBF\xBF",
         ];
-        let bad: [&[u8]; 22] = [
+        let bad: [&[u8]; 25] = [
             b"\x80",
             b"\xBF",
             b"\xC0\x80",
             b"\xC1\xBF",
             b"\xC2",
             b"\xC2A",
+            b"\xC2\xC0",
             b"\xC2\xC2",
             b"\xE0\x9F\xBF",
             b"\xE1\x80",
             b"\xE1A\x80",
             b"\xE1\x80A",
+            b"\xE1\x80\xC0",
             b"\xED\xA0\x80",
             b"\xED\xBF\xBF",
             b"\xF0\x8F\xBF\xBF",
             b"\xF1\x80\x80",
             b"\xF1\x80\x80A",
             b"\xF1\x80A\x80",
+            b"\xF1\x80\x80\xC0",
             b"\xF4\x90\x80\x80",
             b"\xF5\x80\x80\x80",
             b"\xF8\x88\x80\x80\x80",

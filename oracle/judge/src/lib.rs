@@ -3,6 +3,7 @@
 pub mod compare;
 pub mod convert;
 pub mod examples;
+mod fixed;
 pub mod lists;
 pub mod mix;
 pub mod reach;

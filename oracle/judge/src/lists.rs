@@ -4,7 +4,7 @@
 use std::path::{Path, PathBuf};
 
 use dogwood::interpreter::value::{decimal_reading, Value};
-use generate::calls::{random_call, spoiled, tightened};
+use generate::calls::{random_call, spoiled, tightened, Done};
 use generate::cases::random_case;
 use generate::damage::damaged;
 use generate::rules::rule_files;
@@ -13,6 +13,7 @@ use model::{Model, Outcome};
 
 use crate::compare::{compare, Found};
 use crate::convert::Converter;
+use crate::fixed::{fixed, two_rows, Fixed};
 use crate::rust::RustCase;
 
 /// A list's file name, its bytes, and what it holds.
@@ -32,7 +33,7 @@ pub fn folder() -> PathBuf {
 
 /// All lists, made anew.
 pub fn lists() -> Result<Vec<List>, String> {
-    Ok(vec![answers(SEED), rule_file_list()?, equalities()?])
+    Ok(vec![answers(SEED)?, rule_file_list()?, equalities()?])
 }
 
 const CASES: usize = 300;
@@ -58,8 +59,9 @@ fn push_file(bytes: &mut Vec<u8>, file: &[u8]) {
     bytes.resize(bytes.len().next_multiple_of(4), 0);
 }
 
-/// `judge-answers.bin`: calls of all four kinds with the answers that the Rust agreed to.
-fn answers(seed: u64) -> List {
+/// `judge-answers.bin`: calls of all three kinds with the answers that the Rust agreed to; last a case
+/// whose listed answers are wrong on purpose.
+fn answers(seed: u64) -> Result<List, String> {
     let mut random = Random::new(seed);
     let mut list = Vec::new();
     let (mut calls, mut refused) = (0, [0; 14]);
@@ -85,14 +87,34 @@ fn answers(seed: u64) -> List {
             calls += chosen.len();
         }
     }
-    let cases = CASES + CASES / DAMAGED_EVERY;
+    for case in fixed() {
+        agreed(&case)?;
+        push_case(&mut list, &case.tables.encode(), &case.calls, &mut refused);
+        calls += case.calls.len();
+    }
+    let wrong = wrong_entries();
+    push_entries(&mut list, &two_rows().tables.encode(), &wrong);
+    calls += wrong.len();
+    let cases = CASES + CASES / DAMAGED_EVERY + fixed().len() + 1;
     let mut bytes = Vec::new();
     for word in [cases as u32, calls as u32, MOST_CELLS as u32] {
         push(&mut bytes, word);
     }
     bytes.extend(list);
-    let holds = format!("{cases} cases, {calls} calls, by refusal {refused:?}");
-    List { name: "judge-answers.bin", bytes, holds }
+    let holds = format!("{cases} cases, {calls} calls, by refusal {refused:?}, {} of them wrong", wrong.len());
+    Ok(List { name: "judge-answers.bin", bytes, holds })
+}
+
+/// The Rust agrees to all calls of a case made by hand.
+fn agreed(case: &Fixed) -> Result<(), String> {
+    let mut rust = RustCase::new(&case.tables);
+    for call in &case.calls {
+        match compare(call, &call.ask(Model::document(), &case.tables.encode()), &mut rust) {
+            Found::Same | Found::NotForTheRust => {}
+            found => return Err(format!("{call:?}: {found:?}")),
+        }
+    }
+    Ok(())
 }
 
 /// Calls on a case that passes, each the Rust agrees with or is no question for it.
@@ -140,52 +162,99 @@ fn refused_calls(random: &mut Random, case: &RandomCase, bytes: &[u8]) -> Vec<Ca
 }
 
 fn push_case(list: &mut Vec<u8>, case: &[u8], calls: &[Call], refused: &mut [usize; 14]) {
+    let entries: Vec<Entry> = calls.iter().map(|call| Entry::of(call, case)).collect();
+    entries.iter().for_each(|entry| refused[entry.outcome.refusal as usize] += 1);
+    push_entries(list, case, &entries);
+}
+
+fn push_entries(list: &mut Vec<u8>, case: &[u8], entries: &[Entry]) {
     push_file(list, case);
-    push(list, calls.len() as u32);
-    for call in calls {
-        let done = call.ask(Model::document(), case);
-        refused[done.outcome.refusal as usize] += 1;
-        push_call(list, call, done.outcome, &done.output);
+    push(list, entries.len() as u32);
+    entries.iter().for_each(|entry| entry.push(list));
+}
+
+/// A call as it is listed: what it says, how many cells of the workspace it clears, and the first
+/// cells of the output.
+#[derive(Clone)]
+struct Entry {
+    call: Call,
+    outcome: Outcome,
+    cleared: usize,
+    filled: Vec<u64>,
+}
+
+impl Entry {
+    fn of(call: &Call, case: &[u8]) -> Entry {
+        let Done { outcome, workspace, output } = call.ask(Model::document(), case);
+        let filled = if call.kind == Kind::Rows { 2 * call.binders.len() * outcome.answer as usize } else { 0 };
+        let cleared = workspace.iter().take_while(|&&cell| cell == 0).count();
+        Entry { call: call.clone(), outcome, cleared, filled: output[..filled].to_vec() }
+    }
+
+    fn push(&self, list: &mut Vec<u8>) {
+        let Entry { call, outcome, cleared, filled } = self;
+        let kind = match call.kind {
+            Kind::Check => 0,
+            Kind::Ask => 1,
+            Kind::Rows => 2,
+        };
+        let (low, high) = (call.limit as u32, (call.limit >> 32) as u32);
+        let header = [
+            kind,
+            call.point,
+            call.node,
+            low,
+            high,
+            call.room as u32,
+            call.workspace as u32,
+            call.start.len() as u32,
+            call.binders.len() as u32,
+            call.output as u32,
+            outcome.refusal,
+            *cleared as u32,
+            filled.len() as u32,
+        ];
+        header.iter().for_each(|&word| push(list, word));
+        call.start.iter().for_each(|&cell| push_cell(list, cell));
+        call.binders.iter().for_each(|&binder| push(list, binder));
+        for cell in [outcome.answer, outcome.steps, outcome.rows, outcome.number as u64] {
+            push_cell(list, cell);
+        }
+        filled.iter().for_each(|&cell| push_cell(list, cell));
     }
 }
 
-fn push_call(list: &mut Vec<u8>, call: &Call, outcome: Outcome, output: &[u64]) {
-    let kind = match call.kind {
-        Kind::Check => 0,
-        Kind::Ask => 1,
-        Kind::Rows => 2,
-    };
-    let (low, high) = (call.limit as u32, (call.limit >> 32) as u32);
-    let (start, binders) = (call.start.len() as u32, call.binders.len() as u32);
-    let filled = if call.kind == Kind::Rows { 2 * call.binders.len() * outcome.answer as usize } else { 0 };
-    let header = [
-        kind,
-        call.point,
-        call.node,
-        low,
-        high,
-        call.room as u32,
-        call.workspace as u32,
-        start,
-        binders,
-        call.output as u32,
-        outcome.refusal,
-        filled as u32,
+/// One call of two rows, listed with one thing wrong each: a replay that misses one compares too little.
+fn wrong_entries() -> Vec<Entry> {
+    let case = two_rows();
+    let right = Entry::of(&case.calls[0], &case.tables.encode());
+    let changes: [fn(&mut Entry); 11] = [
+        |entry| entry.outcome.refusal = 13,
+        |entry| entry.outcome.answer += 1,
+        |entry| entry.outcome.steps += 1,
+        |entry| entry.outcome.rows += 1,
+        |entry| entry.outcome.number = true,
+        |entry| entry.cleared += 1,
+        |entry| entry.cleared -= 1,
+        |entry| entry.cleared = entry.call.workspace + 1,
+        |entry| entry.filled[3] += 1,
+        |entry| entry.filled.truncate(3),
+        |entry| entry.filled.resize(entry.call.output + 1, 0),
     ];
-    header.iter().for_each(|&word| push(list, word));
-    call.start.iter().for_each(|&cell| push_cell(list, cell));
-    call.binders.iter().for_each(|&binder| push(list, binder));
-    for cell in [outcome.answer, outcome.steps, outcome.rows, outcome.number as u64] {
-        push_cell(list, cell);
-    }
-    output[..filled].iter().for_each(|&cell| push_cell(list, cell));
+    let changed = changes.iter().map(|change| {
+        let mut entry = right.clone();
+        change(&mut entry);
+        entry
+    });
+    changed.collect()
 }
 
-/// `rule-files.bin`: the files that break each rule of the check singly, and their neighbours.
+/// `rule-files.bin`: the files that break each rule of the check singly, and their neighbours; last a
+/// case that passes, listed as refused on purpose.
 fn rule_file_list() -> Result<List, String> {
     let files = rule_files();
     let mut bytes = Vec::new();
-    push(&mut bytes, files.len() as u32);
+    push(&mut bytes, files.len() as u32 + 1);
     for file in &files {
         let said = Model::document().check(&file.bytes);
         if said != file.expected {
@@ -194,7 +263,9 @@ fn rule_file_list() -> Result<List, String> {
         push(&mut bytes, file.expected);
         push_file(&mut bytes, &file.bytes);
     }
-    Ok(List { name: "rule-files.bin", bytes, holds: format!("{} files", files.len()) })
+    push(&mut bytes, 6);
+    push_file(&mut bytes, &two_rows().tables.encode());
+    Ok(List { name: "rule-files.bin", bytes, holds: format!("{} files, and one listed wrong", files.len()) })
 }
 
 const DECIMALS: [&str; 64] = [

@@ -11,6 +11,7 @@ pub mod Rows
 pub mod Walk
 pub mod Meaning
 pub mod Calls
+pub mod Carried
 pub mod Demands
 pub mod Laws
 pub mod Examples

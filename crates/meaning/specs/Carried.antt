@@ -124,11 +124,16 @@ module _ (c : Case) (log : ℕ → Point) (i : ℕ) (row : Row) (l : Limits) whe
   unfoldable pub seenFrom : Interval → ℕ → Bool
   seenFrom within j = inWindow (seconds within) (log i .time) (log j .time)
 
+  -- what point j is to the scan
+  unfoldable pub turnAt : Look → ℕ → Turn
+  turnAt (formerly within n) j = bodyTurn (askedAt n j)
+  turnAt (previous within n) j = bodyTurn (askedAt n j)
+  turnAt (since left right within) j = anchorTurn (askedAt right j) (leftFrom (askedAt left) (suc j) (i - j))
+
   unfoldable pub scanOf : Look → Scan
-  scanOf (formerly within n) = down (seenFrom within) (λ j. bodyTurn (askedAt n j)) (suc i)
-  scanOf (previous within n) = before (seenFrom within) (λ j. bodyTurn (askedAt n j)) i
-  scanOf (since left right within) =
-      down (seenFrom within) (λ j. anchorTurn (askedAt right j) (leftFrom (askedAt left) (suc j) (i - j))) (suc i)
+  scanOf (formerly within n) = down (seenFrom within) (turnAt (formerly within n)) (suc i)
+  scanOf (previous within n) = before (seenFrom within) (turnAt (previous within n)) i
+  scanOf (since left right within) = down (seenFrom within) (turnAt (since left right within)) (suc i)
 
 -- ---- the list
 
@@ -171,13 +176,14 @@ listed list (gives s steps most) =
 
 -- ---- the call
 
-unfoldable pub shownFor : Call → Option Look → Said Shown
-shownFor c none = gives (record { verdict = false; points = [] }) 0 0
-shownFor c (some look) =
-    let s = c .file in
-    shown look (c .point) (scanOf (caseOf s) (pointAt s) (c .point) (startOr (startRow s (vars s) (c .start))) (c .limits) look)
+-- what is no such node shows nothing; it is refused before
+unfoldable pub shownAt : Case → (ℕ → Point) → ℕ → Row → Limits → Option Look → Said Shown
+shownAt c log i row l none = gives (record { verdict = false; points = [] }) 0 0
+shownAt c log i row l (some look) = shown look i (scanOf c log i row l look)
 
 unfoldable pub carriedCall : List ℕ → Call → Result Carried
 carriedCall list c =
-    let r = listed list (unlessAgainst looksBack c (shownFor c (lookOf (nodeAt (c .file) (c .node))))) in
+    let s = c .file in
+    let row = startOr (startRow s (vars s) (c .start)) in
+    let r = listed list (unlessAgainst looksBack c (shownAt (caseOf s) (pointAt s) (c .point) row (c .limits) (lookOf (nodeAt s (c .node))))) in
     result c (r .said) (r .list)

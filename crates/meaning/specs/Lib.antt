@@ -15,3 +15,4 @@ pub mod Carried
 pub mod Demands
 pub mod Laws
 pub mod Examples
+pub mod CarriedExamples

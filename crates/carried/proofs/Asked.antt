@@ -12,6 +12,8 @@ use Rattle.meaning.specs.declared.Refusal.{Refusal}
 use Rattle.meaning.specs.declared.Interval.{Interval}
 use Rattle.meaning.specs.declared.NodeNo.{NodeNo}
 use Rattle.meaning.specs.Tests.{choose}
+use Rattle.meaning.specs.Check.{bodies}
+use Rattle.meaning.specs.Laws.Checked.{checked-bodies}
 use Rattle.meaning.specs.Walk.{started, Outcome}
 use Rattle.meaning.specs.Meaning.{earlier, question}
 use Rattle.meaning.specs.Carried.{bodyTurn, leftTurn, leftFrom, anchorTurn, askedAt, turnAt}
@@ -50,6 +52,14 @@ ready-next r l = record {
   fit = record { vars = r .fit .vars; room = r .fit .room; wide = rw l (r .fit .wide) };
   held = r .held;
 }
+
+-- points before one that is low enough
+pub still-low : {i j : ℕ} → j ≤ i → i < 16384 → j < 16384
+still-low le lt = omega arith
+
+-- what reading the tables asks
+pub whole : {s : List ℕ} {c : Call} {e : Env} {m : Meter} {b : List ℕ} → Ready s c e m b → bodies s ≡ true
+whole r = checked-bodies (r .checked)
 
 -- ---- a body
 
@@ -115,12 +125,12 @@ module _ {s : List ℕ} {c : Call} {e : Env} {l j k : ℕ} {b₀ b : List ℕ} {
 
 -- ---- an anchor
 
-module _ {s : List ℕ} {c : Call} {e : Env} {l r j : ℕ} {v : Verdict} (g : Asks s c e r j v) where
-  abbrev after : TurnOf
-  after = leftFrom (λ k. asksAt s c e l k) (suc j) (c .asked - j)
+abbrev leftAfter : List ℕ → Call → Env → ℕ → ℕ → TurnOf
+leftAfter s c e l j = leftFrom (λ k. asksAt s c e l k) (suc j) (c .asked - j)
 
-  anchor-turn : {v′ : Verdict} → v ≡ v′ → anchorTurn (asksAt s c e r j) after ≡ anchorTurn (saidVerdict v′) after
-  anchor-turn q = ap (λ (a : Outcome Bool). anchorTurn a after) (sym (g .is) ∙ ap saidVerdict q)
+module _ {s : List ℕ} {c : Call} {e : Env} (l : ℕ) {r j : ℕ} {v : Verdict} (g : Asks s c e r j v) where
+  anchor-turn : {v′ : Verdict} → v ≡ v′ → anchorTurn (asksAt s c e r j) (leftAfter s c e l j) ≡ anchorTurn (saidVerdict v′) (leftAfter s c e l j)
+  anchor-turn q = ap (λ (a : Outcome Bool). anchorTurn a (leftAfter s c e l j)) (sym (g .is) ∙ ap saidVerdict q)
 
   pub anchor-no : {y : Bool} {m : Meter} → v ≡ Ver.Answer y m → y ≡ false → Anchors s c e l r j Tur.Passes
   unfolding asTurn anchorTurn choose

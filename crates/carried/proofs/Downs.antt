@@ -38,7 +38,7 @@ use Rattle.carried.specs.declared.Turn.the-variants as Tur
 use Rattle.carried.specs.declared.End.{End}
 use Rattle.carried.specs.declared.End.the-variants as Ends
 use Rattle.carried.specs.declared.Scan.{Scan}
-use Rattle.carried.specs.Shows.{asLook, asTurn, asEnd, asksAt, seenAt, turnIn, downFrom, downIn, scanIn, laid, Asks, Turns, Settled, Scanned, Precedes}
+use Rattle.carried.specs.Shows.{asLook, asTurn, asEnd, asksAt, seenAt, turnIn, downFrom, downIn, scanIn, laid, Asks, Turns, Scanned, Downed, Backed, Known, Precedes}
 use Rattle.carried.proofs.Laid.{laid-two}
 use Rattle.carried.proofs.Asked.{ready-next}
 
@@ -77,23 +77,25 @@ module _ {s : List ℕ} {c : Call} {e : Env} {look : Look} {within : Interval} {
   whole = downIn s c e (asLook look) within
 
   -- it ends here
-  ended : (x : ScanEnd) {y : End} → asEnd y ≡ x → downFrom s c e (asLook look) within n ≡ ending x → Scanned whole l₀ l (record { end = y; failed = failed })
+  ended : (x : ScanEnd) {y : End} → asEnd y ≡ x → downFrom s c e (asLook look) within n ≡ ending x → Downed s c e look within l₀ l (record { end = y; failed = failed })
   ended x {y} ey e′ =
       let w : whole ≡ on (g .so) (ending x) = g .is ∙ ap (on (g .so)) e′ in
       let f : whole .failed ≡ g .so = ap (λ (k : ScanOf). k .failed) w ∙ append-nil (g .so) in
       record {
-        settled = record { end = ey ∙ sym (ap (λ (k : ScanOf). k .end) w); failed = g .long ∙ sym (ap length f) };
-        lies = g .lies ∙ sym (ap (λ (so : List ℕ). laid so l₀) f);
+        scanned = record {
+          settled = record { end = ey ∙ sym (ap (λ (k : ScanOf). k .end) w); failed = g .long ∙ sym (ap length f) };
+          lies = g .lies ∙ sym (ap (λ (so : List ℕ). laid so l₀) f);
+        };
       }
 
-  pub downs-none : n ≤ 0 → Scanned whole l₀ l (record { end = Ends.Nowhere; failed = failed })
+  pub downs-none : n ≤ 0 → Downed s c e look within l₀ l (record { end = Ends.Nowhere; failed = failed })
   unfolding asEnd down
   downs-none z = let k : n ≡ 0 = omega arith in ended nowhere refl (ap (downFrom s c e (asLook look) within) k)
 
   pub downs-below : 0 < n → n - 1 ≤ c .asked
   downs-below lt = omega (arith, g .le)
 
-  module _ (some-left : 0 < n) {span here then : ℕ} (es : toZ w64 span ≡ seconds within) (eh : toZ w64 here ≡ pointAt s (c .asked) .time) (et : toZ w64 then ≡ pointAt s (n - 1) .time) {w : Window} (ew : w ≡ window (toZ w64 span) (toZ w64 here) (toZ w64 then)) where
+  module _ (some-left : 0 < n) (span here then : ℕ) (es : toZ w64 span ≡ seconds within) (eh : toZ w64 here ≡ pointAt s (c .asked) .time) (et : toZ w64 then ≡ pointAt s (n - 1) .time) {w : Window} (ew : w ≡ window (toZ w64 span) (toZ w64 here) (toZ w64 then)) where
     abbrev lower : ScanOf
     lower = downFrom s c e (asLook look) within (n - 1)
 
@@ -154,11 +156,11 @@ module _ {s : List ℕ} {c : Call} {e : Env} {look : Look} {within : Interval} {
         is = g .is ∙ ap (on (g .so)) (met-is h);
       }
 
-      pub downs-carries : t ≡ Tur.Carries → Scanned whole l₀ l (record { end = Ends.At (n - 1); failed = failed })
+      pub downs-carries : t ≡ Tur.Carries → Downed s c e look within l₀ l (record { end = Ends.At (n - 1); failed = failed })
       unfolding asTurn asEnd met
       downs-carries h = ended (at (n - 1)) refl (met-is h)
 
-      pub downs-refused : {k : Refusal} {m : Meter} → t ≡ Tur.Refused k m → Scanned whole l₀ l (record { end = Ends.Refused k m; failed = failed })
+      pub downs-refused : {k : Refusal} {m : Meter} → t ≡ Tur.Refused k m → Downed s c e look within l₀ l (record { end = Ends.Refused k m; failed = failed })
       unfolding asTurn asEnd met
       downs-refused {k} {m} h = ended (stopped k m) refl (met-is h)
 
@@ -170,14 +172,14 @@ module _ {s : List ℕ} {c : Call} {e : Env} {look : Look} {within : Interval} {
         same = len ∙ g .same;
         same-list = ap length e₂ ∙ length-set l₁ (failed + 1) k ∙ ap length e₁ ∙ length-set l failed (n - 1) ∙ g .same-list;
         ready = ready-next (g .ready) len;
-        so = g .so ++ (n - 1 ∷ k ∷ []);
-        long = omega (arith, g .long, length-append (g .so) (n - 1 ∷ k ∷ []));
+        so = g .so ++ ((n - 1) ∷ (k ∷ []));
+        long = omega (arith, g .long, length-append (g .so) ((n - 1) ∷ (k ∷ [])));
         lies =
             e₂ ∙ ap (λ (r : List ℕ). set r (failed + 1) k) (e₁ ∙ ap (λ (r : List ℕ). set r failed (n - 1)) (g .lies))
             ∙ laid-two (g .so) l₀ failed (n - 1) k (g .long);
         is =
             g .is ∙ ap (on (g .so)) (met-is h)
-            ∙ ap (λ (r : List ℕ). record { end = lower .end; failed = r }) (sym (append-assoc (g .so) (n - 1 ∷ k ∷ []) (lower .failed)));
+            ∙ ap (λ (r : List ℕ). record { end = lower .end; failed = r }) (sym (append-assoc (g .so) ((n - 1) ∷ (k ∷ [])) (lower .failed)));
       }
 
 -- ---- the point before
@@ -195,7 +197,7 @@ before-as s within turn (suc j) = go (inWindow (seconds within) (pointAt s (suc 
     go true = refl
     go false = refl
 
-module _ {s : List ℕ} {c : Call} {e : Env} {x : ℕ} {within : Interval} {p : Earlier} (ep : p ≡ pointBefore s within (c .asked)) where
+module _ (s : List ℕ) (c : Call) (e : Env) (x : ℕ) (within : Interval) {p : Earlier} (ep : p ≡ pointBefore s within (c .asked)) where
   earlier-is : {k : Earlier} → p ≡ k → scanIn s c e (some (previous within x)) ≡ atEarlier (λ j. bodyTurn (asksAt s c e x j)) k
   unfolding scanIn scanOf turnAt seenFrom
   earlier-is q = before-as s within (λ j. bodyTurn (asksAt s c e x j)) (c .asked) ∙ ap (atEarlier (λ j. bodyTurn (asksAt s c e x j))) (sym ep ∙ q)
@@ -230,39 +232,39 @@ before-low s within (suc k) {j} q = go (inWindow (seconds within) (pointAt s (su
     go true q = let z : k ≡ j = cc in omega arith
     go false q = let z : _≡_ {A = ℕ} 0 1 = cc in omega arith
 
-pub earlier-low : {s : List ℕ} {within : Interval} {i : ℕ} {p : Earlier} {j : ℕ} → p ≡ pointBefore s within i → p ≡ Ear.At j → i < 16384 → j < 16384
-earlier-low {s} {within} {i} h q lt = omega (arith, before-low s within i (sym h ∙ q))
+pub earlier-low : (s : List ℕ) (within : Interval) (i : ℕ) {p : Earlier} {j : ℕ} → p ≡ pointBefore s within i → p ≡ Ear.At j → i < 16384 → j < 16384
+earlier-low s within i h q lt = omega (arith, before-low s within i (sym h ∙ q))
 
 -- ---- a scan, by the node that looks back
 
 module _ {s : List ℕ} {c : Call} {e : Env} {look : Look} {l a : List ℕ} where
-  pub back-formerly : {within : Interval} {x : NodeNo} {r : Scan} → look ≡ Loo.Formerly within x → Scanned (downIn s c e (asLook look) within) l a r → Scanned (scanIn s c e (asLook look)) l a r
+  pub back-formerly : {within : Interval} {x : NodeNo} {r : Scan} → look ≡ Loo.Formerly within x → Downed s c e look within l a r → Backed s c e look l a r
   unfolding asLook scanIn scanOf turnIn
-  back-formerly {within} {x} {r} q d = subst (λ (k : ScanOf). Scanned k l a r) (ap (λ (k : Look). downIn s c e (asLook k) within) q ∙ sym (ap (λ (k : Look). scanIn s c e (asLook k)) q)) d
+  back-formerly {within} {x} {r} q d = record { scanned = subst (λ (k : ScanOf). Scanned k l a r) (ap (λ (k : Look). downIn s c e (asLook k) within) q ∙ sym (ap (λ (k : Look). scanIn s c e (asLook k)) q)) (d .scanned) }
 
-  pub back-since : {within : Interval} {x y : NodeNo} {r : Scan} → look ≡ Loo.Since x y within → Scanned (downIn s c e (asLook look) within) l a r → Scanned (scanIn s c e (asLook look)) l a r
+  pub back-since : {within : Interval} {x y : NodeNo} {r : Scan} → look ≡ Loo.Since x y within → Downed s c e look within l a r → Backed s c e look l a r
   unfolding asLook scanIn scanOf turnIn
-  back-since {within} {x} {y} {r} q d = subst (λ (k : ScanOf). Scanned k l a r) (ap (λ (k : Look). downIn s c e (asLook k) within) q ∙ sym (ap (λ (k : Look). scanIn s c e (asLook k)) q)) d
+  back-since {within} {x} {y} {r} q d = record { scanned = subst (λ (k : ScanOf). Scanned k l a r) (ap (λ (k : Look). downIn s c e (asLook k) within) q ∙ sym (ap (λ (k : Look). scanIn s c e (asLook k)) q)) (d .scanned) }
 
-nothing-failed : {scan : ScanOf} {l : List ℕ} (y : End) → scan ≡ ending (asEnd y) → Scanned scan l l (record { end = y; failed = 0 })
+nothing-failed : (scan : ScanOf) (l : List ℕ) (y : End) → scan ≡ ending (asEnd y) → Scanned scan l l (record { end = y; failed = 0 })
 unfolding laid
-nothing-failed {scan} {l} y h = record {
+nothing-failed scan l y h = record {
   settled = record { end = sym (ap (λ (k : ScanOf). k .end) h); failed = sym (ap (λ (k : ScanOf). length (k .failed)) h) };
   lies = sym (ap (λ (k : ScanOf). laid (k .failed) l) h);
 }
 
-pub back-previous : {s : List ℕ} {c : Call} {e : Env} {look : Look} {l : List ℕ} {within : Interval} {x : NodeNo} {y : End} → look ≡ Loo.Previous within x → Precedes s c e (x .0) within y → Scanned (scanIn s c e (asLook look)) l l (record { end = y; failed = 0 })
+pub back-previous : {s : List ℕ} {c : Call} {e : Env} {look : Look} {l : List ℕ} {within : Interval} {x : NodeNo} {y : End} → look ≡ Loo.Previous within x → Precedes s c e (x .0) within y → Backed s c e look l l (record { end = y; failed = 0 })
 unfolding asLook
-back-previous {s} {c} {e} {y = y} q p = nothing-failed y (ap (λ (k : Look). scanIn s c e (asLook k)) q ∙ p .is)
+back-previous {s} {c} {e} {look} {l} {y = y} q p = record { scanned = nothing-failed (scanIn s c e (asLook look)) l y (ap (λ (k : Look). scanIn s c e (asLook k)) q ∙ p .is) }
 
-pub back-other : {s : List ℕ} {c : Call} {e : Env} {look : Look} {l : List ℕ} → look ≡ Loo.Other → Scanned (scanIn s c e (asLook look)) l l (record { end = Ends.Nowhere; failed = 0 })
+pub back-other : {s : List ℕ} {c : Call} {e : Env} {look : Look} {l : List ℕ} → look ≡ Loo.Other → Backed s c e look l l (record { end = Ends.Nowhere; failed = 0 })
 unfolding asLook scanIn asEnd
-back-other {s} {c} {e} q = nothing-failed Ends.Nowhere (ap (λ (k : Look). scanIn s c e (asLook k)) q)
+back-other {s} {c} {e} {look} {l} q = record { scanned = nothing-failed (scanIn s c e (asLook look)) l Ends.Nowhere (ap (λ (k : Look). scanIn s c e (asLook k)) q) }
 
 -- ---- over no cell at all
 
-pub settle-is : {scan : ScanOf} {l p : List ℕ} {r : Scan} → Scanned scan (take 0 l) p r → length p ≡ length (take 0 l) → Settled scan r × (p ++ drop 0 l ≡ l)
-settle-is {scan} {l} {p} d len = (d .settled, go p len)
+pub settle-is : {s : List ℕ} {c : Call} {e : Env} {look : Look} (l p : List ℕ) {r : Scan} → Backed s c e look (take 0 l) p r → length p ≡ length (take 0 l) → Known s c e look l (p ++ drop 0 l) r
+settle-is l p d len = record { settled = d .scanned .settled; same = go p len }
   where
     go : (p : List ℕ) → length p ≡ 0 → p ++ l ≡ l
     go [] e = refl

@@ -1,6 +1,7 @@
 -- Cells laid over a list, one after the other
 use Prim.Native.Nat.{ℕ, zero, suc, _+_, _≤_, _<_}
 use mathlib.Core.Path.{_≡_, refl, ap, sym, _∙_}
+use mathlib.Core.Bool.{true, false}
 use mathlib.Core.List.{List, [], _∷_, _++_, append-assoc}
 use native.Mathlib.Omega.{arith}
 use native.Mathlib.Numerals.{add-one}
@@ -16,8 +17,8 @@ use Rattle.meaning.specs.Carried.{listed}
 use Rattle.carried.specs.declared.Carried.the-variants as Car
 use Rattle.carried.specs.Shows.{asCarried, laid, Lists}
 
-pub put-beyond : {l : List ℕ} {i a : ℕ} → length l ≤ i → l ≡ set l i a
-put-beyond {l} {i} {a} le = sym (set-out l i a le)
+pub put-beyond : (l : List ℕ) (i a : ℕ) → length l ≤ i → l ≡ set l i a
+put-beyond l i a le = sym (set-out l i a le)
 
 -- ---- laid
 
@@ -45,7 +46,7 @@ laid-fits (x ∷ xs) (y ∷ l) le = ap (λ (r : List ℕ). x ∷ r) (laid-fits x
 
 -- ---- points one after the other
 
-pub places-more : (j n : ℕ) → places j 1 n ++ (j + n ∷ []) ≡ places j 1 (suc n)
+pub places-more : (j n : ℕ) → places j 1 n ++ ((j + n) ∷ []) ≡ places j 1 (suc n)
 unfolding places
 places-more j zero = let z : j + 0 ≡ j = omega arith in ap (λ (k : ℕ). k ∷ []) z
 places-more j (suc n) =
@@ -84,16 +85,16 @@ put-all {j} {n} {k} {l₀} p ge = let z : k ≡ n = omega (arith, p .le) in p .i
 
 -- ---- a yes
 
-pub yes-short : {j n : ℕ} {l : List ℕ} → length l < n → Lists (places j 1 n) l l (Car.Refuses ListTooShort 0 0)
+pub yes-short : {j n : ℕ} {l : List ℕ} → length l < n → Lists j n l l (Car.Refuses ListTooShort 0 0)
 unfolding asCarried listed choose
 yes-short {j} {n} {l} lt =
-    let z : leb (length (places j 1 n)) (length l) ≡ _ = lt-leb (length (places j 1 n)) (length l) (omega (arith, places-long j n)) in
+    let z : leb (length (places j 1 n)) (length l) ≡ false = lt-leb (length (places j 1 n)) (length l) (omega (arith, places-long j n)) in
     record { is = rw z refl }
 
-pub yes-listed : {j n : ℕ} {l after : List ℕ} → n ≤ length l → after ≡ laid (places j 1 n) l → Lists (places j 1 n) l after (Car.Gives _ n)
+pub yes-listed : {j n : ℕ} {l after : List ℕ} → n ≤ length l → after ≡ laid (places j 1 n) l → Lists j n l after (Car.Gives true n)
 unfolding asCarried listed choose
 yes-listed {j} {n} {l} {after} le e =
     let fits : length (places j 1 n) ≤ length l = omega (arith, places-long j n) in
-    let z = le-leb (length (places j 1 n)) (length l) fits in
+    let z : leb (length (places j 1 n)) (length l) ≡ true = le-leb (length (places j 1 n)) (length l) fits in
     let w : after ≡ places j 1 n ++ drop (length (places j 1 n)) l = e ∙ laid-fits (places j 1 n) l fits in
     record { is = rw (z, w, places-long j n) refl }

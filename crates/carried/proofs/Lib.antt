@@ -1,5 +1,5 @@
 pub mod Laid
 pub mod Asked
-pub mod Looks
+pub mod Looking
 pub mod Downs
-pub mod Answers
+pub mod Showing

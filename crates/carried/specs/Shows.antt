@@ -112,6 +112,17 @@ pub record Scanned (scan : ScanOf) (list after : List ℕ) (r : Scan) : Type 0 w
   pub settled : Settled scan r
   pub lies : after ≡ laid (scan .failed) list
 
+-- a scan down, whatever looks back, over a window; the scan of a node; and the same with nothing listed
+pub record Downed (s : List ℕ) (c : Call) (e : Env) (look : Look) (within : Interval) (list after : List ℕ) (r : Scan) : Type 0 where
+  pub scanned : Scanned (downIn s c e (asLook look) within) list after r
+
+pub record Backed (s : List ℕ) (c : Call) (e : Env) (look : Look) (list after : List ℕ) (r : Scan) : Type 0 where
+  pub scanned : Scanned (scanIn s c e (asLook look)) list after r
+
+pub record Known (s : List ℕ) (c : Call) (e : Env) (look : Look) (list after : List ℕ) (r : Scan) : Type 0 where
+  pub settled : Settled (scanIn s c e (asLook look)) r
+  pub same : after ≡ list
+
 -- no anchor fails on the way
 pub record Precedes (s : List ℕ) (c : Call) (e : Env) (x : ℕ) (within : Interval) (r : End) : Type 0 where
   pub is : scanIn s c e (some (previous within x)) ≡ ending (asEnd r)
@@ -120,9 +131,9 @@ pub record Points (look : Look) (i j n : ℕ) : Type 0 where
   pub is : places j 1 n ≡ carriedIn (asLook look) i j
   pub few : j + n ≤ 16384
 
--- a yes that these points make
-pub record Lists (points list after : List ℕ) (r : Carried) : Type 0 where
-  pub is : _≡_ {A = Listed} (record { said = asCarried r; list = after }) (listed list (gives (record { verdict = true; points = points }) 0 0))
+-- a yes that n points from j on make
+pub record Lists (j n : ℕ) (list after : List ℕ) (r : Carried) : Type 0 where
+  pub is : _≡_ {A = Listed} (record { said = asCarried r; list = after }) (listed list (gives (record { verdict = true; points = places j 1 n }) 0 0))
 
 pub record Carries (s : List ℕ) (c : Call) (e : Env) (n : ℕ) (list after : List ℕ) (r : Carried) : Type 0 where
   pub is : _≡_ {A = Listed} (record { said = asCarried r; list = after }) (listed list (shownAt (caseOf s) (pointAt s) (c .asked) (rowOf e) (c .limits) (lookOf (nodeAt s n))))

@@ -32,7 +32,7 @@ fn put_points(list: &mut [u64], j: usize, n: usize)
 // a yes, made by n points from j on
 pub fn list_points(list: &mut [u64], j: usize, n: usize) -> Carried
     requires { ⌜ j + n ≤ 16384 ⌝ }
-    ensures { λ r. ⌜ Lists (places j 1 n) (now (list .entry)) (now (list .exit)) r ⌝ }
+    ensures { λ r. ⌜ Lists j n (now (list .entry)) (now (list .exit)) r ⌝ }
 {
     if list.len() < n {
         return Carried::Refuses(Refusal::ListTooShort, 0, 0);

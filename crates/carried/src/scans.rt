@@ -13,11 +13,10 @@ use meaning::Env;
 use meaning::Interval;
 use meaning::NodeNo;
 use meaning::Window;
-ghost use mathlib.Core.Path.{_≡_};
 ghost use Prim.Native.Nat.{_<_};
 ghost use Rattle.meaning.specs.Walk.{started};
 ghost use Rattle.evaluator.specs.Asks.{Ready};
-ghost use Rattle.carried.specs.Shows.{asLook, downIn, scanIn, Scanned, Settled, Precedes};
+ghost use Rattle.carried.specs.Shows.{Downed, Backed, Known, Precedes};
 
 // from the point asked about down to 0, to the first that carries; failed anchors go into the list, as many as fit
 fn scan_down(
@@ -31,7 +30,7 @@ fn scan_down(
 ) -> Scan
     requires { ⌜ Ready (now s) call env started (now work) ⌝ }
     requires { ⌜ call .asked < 16384 ⌝ }
-    ensures { λ r. ⌜ Scanned (downIn (now (s .entry)) call env (asLook look) within) (now (list .entry)) (now (list .exit)) r ⌝ }
+    ensures { λ r. ⌜ Downed (now (s .entry)) call env look within (now (list .entry)) (now (list .exit)) r ⌝ }
 {
     let i = call.asked;
     let span = equality::seconds(within);
@@ -103,7 +102,7 @@ pub fn scan_back(
 ) -> Scan
     requires { ⌜ Ready (now s) call env started (now work) ⌝ }
     requires { ⌜ call .asked < 16384 ⌝ }
-    ensures { λ r. ⌜ Scanned (scanIn (now (s .entry)) call env (asLook look)) (now (list .entry)) (now (list .exit)) r ⌝ }
+    ensures { λ r. ⌜ Backed (now (s .entry)) call env look (now (list .entry)) (now (list .exit)) r ⌝ }
 {
     match look {
         Look::Formerly(within, _) => scan_down(s, work, call, env, look, within, list),
@@ -130,7 +129,7 @@ pub fn settle(
 ) -> Scan
     requires { ⌜ Ready (now s) call env started (now work) ⌝ }
     requires { ⌜ call .asked < 16384 ⌝ }
-    ensures { λ r. ⌜ Settled (scanIn (now (s .entry)) call env (asLook look)) r × (now (list .exit) ≡ now (list .entry)) ⌝ }
+    ensures { λ r. ⌜ Known (now (s .entry)) call env look (now (list .entry)) (now (list .exit)) r ⌝ }
 {
     scan_back(s, work, call, env, look, &mut list[..0])
 }

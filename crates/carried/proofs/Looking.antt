@@ -21,7 +21,7 @@ use Rattle.carried.specs.declared.Look.{Look}
 use Rattle.carried.specs.declared.Look.the-variants as Loo
 use Rattle.carried.specs.Shows.{asLook, carriedIn, Points}
 
-module _ {nd : Node} where
+module _ (nd : Node) where
   pub look-formerly : {within : Interval} {x : NodeNo} → nd ≡ Formerly within x → asLook (Loo.Formerly within x) ≡ lookOf nd
   unfolding asLook lookOf
   look-formerly q = sym (ap lookOf q)
@@ -63,7 +63,7 @@ look-other Broken h = refl
 
 -- ---- whether it looks back
 
-module _ {nd : Node} {look : Look} (is : asLook look ≡ lookOf nd) where
+module _ (nd : Node) (look : Look) (is : asLook look ≡ lookOf nd) where
   looks-as : {k : Look} → look ≡ k → isSome (asLook k) ≡ looksBack nd
   unfolding looksBack
   looks-as q = ap (λ (k : Look). isSome (asLook k)) (sym q) ∙ ap isSome is

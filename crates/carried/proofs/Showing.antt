@@ -26,7 +26,7 @@ use Rattle.carried.specs.declared.End.the-variants as Ends
 use Rattle.carried.specs.declared.Scan.{Scan}
 use Rattle.carried.specs.declared.Carried.{Carried}
 use Rattle.carried.specs.declared.Carried.the-variants as Car
-use Rattle.carried.specs.Shows.{asLook, asEnd, asCarried, scanIn, carriedIn, laid, Settled, Scanned, Points, Lists, Carries}
+use Rattle.carried.specs.Shows.{asLook, asEnd, asCarried, scanIn, carriedIn, laid, Known, Backed, Points, Lists, Carries}
 use Rattle.carried.proofs.Laid.{laid-fits}
 
 -- ---- the point that carries is not above the one asked about
@@ -38,29 +38,22 @@ met-low n j carries rest h lt k e = let z : j ≡ k = cc in omega arith
 met-low n j (fails i) rest h lt k e = h k e
 met-low n j (halts r m) rest h lt k e = let z : _≡_ {A = ℕ} 0 1 = cc in omega arith
 
-down-low : (within : ℕ → Bool) (turn : ℕ → TurnOf) (n k : ℕ) → down within turn n .end ≡ at k → k < n
-unfolding down choose
-down-low within turn zero k e = let z : _≡_ {A = ℕ} 0 1 = cc in omega arith
-down-low within turn (suc j) k e = go (within j) k e
-  where
-    lower : (k : ℕ) → down within turn j .end ≡ at k → k < suc j
-    lower k e = omega (arith, down-low within turn j k e)
+point-low : (y : Bool) (j : ℕ) (t : TurnOf) (rest : ScanOf) → ((k : ℕ) → rest .end ≡ at k → k < suc j) → (k : ℕ) → choose y (met j t rest) rest .end ≡ at k → k < suc j
+unfolding choose
+point-low true j t rest h k e = met-low (suc j) j t rest h (omega arith) k e
+point-low false j t rest h k e = h k e
 
-    go : (y : Bool) (k : ℕ) → choose y (met j (turn j) (down within turn j)) (down within turn j) .end ≡ at k → k < suc j
-    go true k e = met-low (suc j) j (turn j) (down within turn j) lower (omega arith) k e
-    go false k e = lower k e
+down-low : (within : ℕ → Bool) (turn : ℕ → TurnOf) (n k : ℕ) → down within turn n .end ≡ at k → k < n
+unfolding down
+down-low within turn zero k e = let z : _≡_ {A = ℕ} 0 1 = cc in omega arith
+down-low within turn (suc j) k e =
+    point-low (within j) j (turn j) (down within turn j) (λ i h. omega (arith, down-low within turn j i h)) k e
 
 before-low : (within : ℕ → Bool) (turn : ℕ → TurnOf) (i k : ℕ) → before within turn i .end ≡ at k → k ≤ i
-unfolding before choose
+unfolding before
 before-low within turn zero k e = let z : _≡_ {A = ℕ} 0 1 = cc in omega arith
-before-low within turn (suc j) k e = go (within j) k e
-  where
-    none-lower : (k : ℕ) → ending nowhere .end ≡ at k → k < suc j
-    none-lower k e = let z : _≡_ {A = ℕ} 0 1 = cc in omega arith
-
-    go : (y : Bool) (k : ℕ) → choose y (met j (turn j) (ending nowhere)) (ending nowhere) .end ≡ at k → k ≤ suc j
-    go true k e = omega (arith, met-low (suc j) j (turn j) (ending nowhere) none-lower (omega arith) k e)
-    go false k e = omega (arith, none-lower k e)
+before-low within turn (suc j) k e =
+    omega (arith, point-low (within j) j (turn j) (ending nowhere) (λ i h. let z : _≡_ {A = ℕ} 0 1 = cc in omega arith) k e)
 
 scan-low : (s : List ℕ) (c : Call) (e : Env) (look : Option LookBack) (k : ℕ) → scanIn s c e look .end ≡ at k → k ≤ c .asked
 unfolding scanIn scanOf
@@ -69,9 +62,9 @@ scan-low s c e (some (formerly within n)) k h = omega (arith, down-low _ _ _ k h
 scan-low s c e (some (previous within n)) k h = before-low _ _ _ k h
 scan-low s c e (some (since l r within)) k h = omega (arith, down-low _ _ _ k h)
 
-pub at-low : {s : List ℕ} {c : Call} {e : Env} {look : Look} {r : Scan} {j : ℕ} → Settled (scanIn s c e (asLook look)) r → r .end ≡ Ends.At j → j ≤ c .asked
+pub at-low : {s : List ℕ} {c : Call} {e : Env} {look : Look} {l a : List ℕ} {r : Scan} {j : ℕ} → Known s c e look l a r → r .end ≡ Ends.At j → j ≤ c .asked
 unfolding asEnd
-at-low {s} {c} {e} {look} {r} {j} d q = scan-low s c e (asLook look) j (sym (d .end) ∙ ap asEnd q)
+at-low {s} {c} {e} {look} {r = r} {j} d q = scan-low s c e (asLook look) j (sym (d .settled .end) ∙ ap asEnd q)
 
 -- ---- what is shown
 
@@ -93,57 +86,57 @@ shown-is s c e (some look) = go (scanOf (caseOf s) (pointAt s) (c .asked) (rowOf
         by nowhere h = rw h refl
         by (stopped n m) h = rw h refl
 
-module _ {s : List ℕ} {c : Call} {e : Env} {n : ℕ} {nd : Node} {look : Look} {r : Scan} {l : List ℕ} (en : nd ≡ nodeAt s n) (el : asLook look ≡ lookOf nd) (d : Settled (scanIn s c e (asLook look)) r) where
-  abbrev failed : List ℕ
-  failed = scanIn s c e (asLook look) .failed
+abbrev failedIn : List ℕ → Call → Env → Look → List ℕ
+failedIn s c e look = scanIn s c e (asLook look) .failed
 
-  shown-as : {x : End} → r .end ≡ x → shownAt (caseOf s) (pointAt s) (c .asked) (rowOf e) (c .limits) (lookOf (nodeAt s n)) ≡ shows (c .asked) (asLook look) failed (asEnd x)
+module _ {s : List ℕ} {c : Call} {e : Env} (n : ℕ) {nd : Node} {look : Look} {r : Scan} {l l₁ : List ℕ} (en : nd ≡ nodeAt s n) (el : asLook look ≡ lookOf nd) (d : Known s c e look l l₁ r) where
+  shown-as : {x : End} → r .end ≡ x → shownAt (caseOf s) (pointAt s) (c .asked) (rowOf e) (c .limits) (lookOf (nodeAt s n)) ≡ shows (c .asked) (asLook look) (failedIn s c e look) (asEnd x)
   shown-as q =
       ap (shownAt (caseOf s) (pointAt s) (c .asked) (rowOf e) (c .limits)) (ap lookOf (sym en) ∙ sym el)
       ∙ shown-is s c e (asLook look)
-      ∙ ap (shows (c .asked) (asLook look) failed) (sym (d .end) ∙ ap asEnd q)
+      ∙ ap (shows (c .asked) (asLook look) (failedIn s c e look)) (sym (d .settled .end) ∙ ap asEnd q)
 
-  pub answer-yes : {j k : ℕ} {l₁ a : List ℕ} {v : Carried} → r .end ≡ Ends.At j → Points look (c .asked) j k → l₁ ≡ l → Lists (places j 1 k) l₁ a v → Carries s c e n l a v
+  pub answer-yes : {j k : ℕ} {a : List ℕ} {v : Carried} → r .end ≡ Ends.At j → Points look (c .asked) j k → Lists j k l₁ a v → Carries s c e n l a v
   unfolding shows asEnd
-  answer-yes {j} {k} {l₁} {a} {v} q p el₁ y = record {
+  answer-yes {j} {k} {a} {v} q p y = record {
     is =
         y .is
-        ∙ ap (λ (l : List ℕ). listed l (gives (record { verdict = true; points = places j 1 k }) 0 0)) el₁
+        ∙ ap (λ (l : List ℕ). listed l (gives (record { verdict = true; points = places j 1 k }) 0 0)) (d .same)
         ∙ ap (λ (ps : List ℕ). listed l (gives (record { verdict = true; points = ps }) 0 0)) (p .is)
         ∙ sym (ap (listed l) (shown-as q));
   }
 
-  pub answer-refused : {k : Refusal} {m : Meter} {l₁ : List ℕ} → r .end ≡ Ends.Refused k m → l₁ ≡ l → Carries s c e n l l₁ (Car.Refuses k (m .steps) (m .most))
+  pub answer-refused : {k : Refusal} {m : Meter} → r .end ≡ Ends.Refused k m → Carries s c e n l l₁ (Car.Refuses k (m .steps) (m .most))
   unfolding shows asEnd asCarried listed
-  answer-refused {k} {m} {l₁} q el₁ = record { is = ap (λ (l : List ℕ). record { said = refuses (numberOf k) (m .steps) (m .most); list = l }) el₁ ∙ sym (ap (listed l) (shown-as q)) }
+  answer-refused {k} {m} q = record { is = ap (λ (l : List ℕ). record { said = refuses (numberOf k) (m .steps) (m .most); list = l }) (d .same) ∙ sym (ap (listed l) (shown-as q)) }
 
-  module _ (q : r .end ≡ Ends.Nowhere) {l₁ : List ℕ} (el₁ : l₁ ≡ l) where
-    no-as : shownAt (caseOf s) (pointAt s) (c .asked) (rowOf e) (c .limits) (lookOf (nodeAt s n)) ≡ gives (record { verdict = false; points = failed }) 0 0
+  module _ (q : r .end ≡ Ends.Nowhere) where
+    no-as : shownAt (caseOf s) (pointAt s) (c .asked) (rowOf e) (c .limits) (lookOf (nodeAt s n)) ≡ gives (record { verdict = false; points = failedIn s c e look }) 0 0
     unfolding shows asEnd
     no-as = shown-as q
 
     pub answer-short : length l₁ < r .failed → Carries s c e n l l₁ (Car.Refuses ListTooShort 0 0)
     unfolding asCarried listed choose
     answer-short lt =
-        let z : leb (length failed) (length l) ≡ false = lt-leb (length failed) (length l) (omega (arith, d .failed, ap length el₁)) in
-        record { is = ap (λ (l : List ℕ). record { said = refuses (numberOf ListTooShort) 0 0; list = l }) el₁ ∙ sym (ap (listed l) no-as ∙ rw z refl) }
+        let z : leb (length (failedIn s c e look)) (length l) ≡ false = lt-leb (length (failedIn s c e look)) (length l) (omega (arith, d .settled .failed, ap length (d .same))) in
+        record { is = ap (λ (l : List ℕ). record { said = refuses (numberOf ListTooShort) 0 0; list = l }) (d .same) ∙ sym (ap (listed l) no-as ∙ rw z refl) }
 
-    filled-as : {a : List ℕ} {k : ℕ} → k ≡ length failed → length failed ≤ length l → a ≡ failed ++ drop (length failed) l → Carries s c e n l a (Car.Gives false k)
+    filled-as : {a : List ℕ} {k : ℕ} → k ≡ length (failedIn s c e look) → length (failedIn s c e look) ≤ length l → a ≡ failedIn s c e look ++ drop (length (failedIn s c e look)) l → Carries s c e n l a (Car.Gives false k)
     unfolding asCarried listed choose
     filled-as {a} {k} ek le ea =
-        let z : leb (length failed) (length l) ≡ true = le-leb (length failed) (length l) le in
+        let z : leb (length (failedIn s c e look)) (length l) ≡ true = le-leb (length (failedIn s c e look)) (length l) le in
         record { is = rw (ek, ea) (sym (ap (listed l) no-as ∙ rw z refl)) }
 
     pub answer-nothing : r .failed ≡ 0 → Carries s c e n l l₁ (Car.Gives false 0)
     answer-nothing z =
-        let none-failed : length failed ≡ 0 = omega (arith, d .failed) in
-        filled-as (sym none-failed) (omega arith) (el₁ ∙ sym (go failed none-failed))
+        let none-failed : length (failedIn s c e look) ≡ 0 = omega (arith, d .settled .failed) in
+        filled-as (sym none-failed) (omega arith) (d .same ∙ sym (go (failedIn s c e look) none-failed))
       where
         go : (xs : List ℕ) → length xs ≡ 0 → xs ++ drop (length xs) l ≡ l
         go [] e = refl
         go (x ∷ xs) e = absurd (omega arith)
 
-    pub answer-failed : {a : List ℕ} {r₂ : Scan} → r .failed ≤ length l₁ → Scanned (scanIn s c e (asLook look)) l₁ a r₂ → Carries s c e n l a (Car.Gives false (r .failed))
+    pub answer-failed : {a : List ℕ} {r₂ : Scan} → r .failed ≤ length l₁ → Backed s c e look l₁ a r₂ → Carries s c e n l a (Car.Gives false (r .failed))
     answer-failed {a} le d₂ =
-        let fits : length failed ≤ length l = omega (arith, d .failed, ap length el₁) in
-        filled-as (d .failed) fits (d₂ .lies ∙ ap (laid failed) el₁ ∙ laid-fits failed l fits)
+        let fits : length (failedIn s c e look) ≤ length l = omega (arith, d .settled .failed, ap length (d .same)) in
+        filled-as (d .settled .failed) fits (d₂ .scanned .lies ∙ ap (laid (failedIn s c e look)) (d .same) ∙ laid-fits (failedIn s c e look) l fits)

@@ -10,6 +10,8 @@ use lib.ListN.{length, take, drop, set, length-set, length-append}
 use lib.IntN.{ℤ}
 use mir.Val.{toZ}
 use mir.Syntax.{w64}
+use types.Run.{OneOf, miss}
+use denote.Enum.Declared.{tagOf}
 use Rattle.meaning.specs.declared.Env.{Env}
 use Rattle.meaning.specs.declared.Meter.{Meter}
 use Rattle.meaning.specs.declared.Refusal.{Refusal}
@@ -31,6 +33,7 @@ use Rattle.evaluator.specs.declared.Call.{Call}
 use Rattle.evaluator.specs.declared.Verdict.{Verdict}
 use Rattle.evaluator.specs.declared.Verdict.the-variants as Ver
 use Rattle.evaluator.specs.Asks.{saidVerdict, Ready}
+use Rattle.carried.proofs.Look.{the-type}
 use Rattle.carried.specs.declared.Look.{Look}
 use Rattle.carried.specs.declared.Look.the-variants as Loo
 use Rattle.carried.specs.declared.Turn.{Turn}
@@ -38,7 +41,7 @@ use Rattle.carried.specs.declared.Turn.the-variants as Tur
 use Rattle.carried.specs.declared.End.{End}
 use Rattle.carried.specs.declared.End.the-variants as Ends
 use Rattle.carried.specs.declared.Scan.{Scan}
-use Rattle.carried.specs.Shows.{asLook, asTurn, asEnd, asksAt, seenAt, turnIn, downFrom, downIn, scanIn, laid, Asks, Turns, Scanned, Downed, Backed, Known, Precedes}
+use Rattle.carried.specs.Shows.{asLook, asTurn, asEnd, windowIn, asksAt, turnIn, downIn, scanIn, laid, PutTwo, Asks, Turns, Scanned, Downed, Backed, Known, Precedes}
 use Rattle.carried.proofs.Laid.{laid-two}
 use Rattle.carried.proofs.Asked.{ready-next}
 
@@ -47,7 +50,17 @@ use Rattle.carried.proofs.Asked.{ready-next}
 abbrev on : List ℕ → ScanOf → ScanOf
 on so scan = record { end = scan .end; failed = so ++ scan .failed }
 
-pub record Downs (s : List ℕ) (c : Call) (e : Env) (look : Look) (within : Interval) (b₀ l₀ : List ℕ) (n failed : ℕ) (b l : List ℕ) : Type 0 where
+-- the window by its length in seconds
+abbrev downBy : List ℕ → Call → Env → Look → ℕ → ℕ → ScanOf
+downBy s c e look span n =
+    down (λ j. inWindow (toZ w64 span) (pointAt s (c .asked) .time) (pointAt s j .time)) (λ j. turnIn s c e (asLook look) j) n
+
+down-is : (s : List ℕ) (c : Call) (e : Env) (look : Look) (within : Interval) (span : ℕ) → within ≡ windowIn (asLook look) → toZ w64 span ≡ seconds within → downIn s c e (asLook look) ≡ downBy s c e look span (suc (c .asked))
+unfolding seenFrom
+down-is s c e look within span ew es =
+    ap (λ (z : ℤ). down (λ j. inWindow z (pointAt s (c .asked) .time) (pointAt s j .time)) (λ j. turnIn s c e (asLook look) j) (suc (c .asked))) (ap seconds (sym ew) ∙ sym es)
+
+pub record Downs (s : List ℕ) (c : Call) (e : Env) (look : Look) (span : ℕ) (b₀ l₀ : List ℕ) (n failed : ℕ) (b l : List ℕ) : Type 0 where
   pub le : n ≤ c .asked + 1
   pub room : failed + 2 * n ≤ 2 * c .asked + 2
   pub same : length b ≡ length b₀
@@ -56,11 +69,11 @@ pub record Downs (s : List ℕ) (c : Call) (e : Env) (look : Look) (within : Int
   pub so : List ℕ
   pub long : failed ≡ length so
   pub lies : l ≡ laid so l₀
-  pub is : downIn s c e (asLook look) within ≡ on so (downFrom s c e (asLook look) within n)
+  pub is : downBy s c e look span (suc (c .asked)) ≡ on so (downBy s c e look span n)
 
-pub downs-start : {s : List ℕ} {c : Call} {e : Env} {look : Look} {within : Interval} {b l : List ℕ} → Ready s c e started b → Downs s c e look within b l (c .asked + 1) 0 b l
+pub downs-start : {s : List ℕ} {c : Call} {e : Env} {look : Look} {span : ℕ} {b l : List ℕ} → Ready s c e started b → Downs s c e look span b l (c .asked + 1) 0 b l
 unfolding laid
-downs-start {s} {c} {e} {look} {within} ready = record {
+downs-start {s} {c} {e} {look} {span} ready = record {
   le = omega arith;
   room = omega arith;
   same = refl;
@@ -69,18 +82,15 @@ downs-start {s} {c} {e} {look} {within} ready = record {
   so = [];
   long = refl;
   lies = refl;
-  is = ap (downFrom s c e (asLook look) within) (sym (add-one (c .asked)));
+  is = ap (downBy s c e look span) (sym (add-one (c .asked)));
 }
 
-module _ {s : List ℕ} {c : Call} {e : Env} {look : Look} {within : Interval} {b₀ l₀ : List ℕ} {n failed : ℕ} {b l : List ℕ} (g : Downs s c e look within b₀ l₀ n failed b l) where
-  abbrev whole : ScanOf
-  whole = downIn s c e (asLook look) within
-
+module _ {s : List ℕ} {c : Call} {e : Env} {look : Look} {span : ℕ} {b₀ l₀ : List ℕ} {n failed : ℕ} {b l : List ℕ} (g : Downs s c e look span b₀ l₀ n failed b l) where
   -- it ends here
-  ended : (x : ScanEnd) {y : End} → asEnd y ≡ x → downFrom s c e (asLook look) within n ≡ ending x → Downed s c e look within l₀ l (record { end = y; failed = failed })
-  ended x {y} ey e′ =
-      let w : whole ≡ on (g .so) (ending x) = g .is ∙ ap (on (g .so)) e′ in
-      let f : whole .failed ≡ g .so = ap (λ (k : ScanOf). k .failed) w ∙ append-nil (g .so) in
+  ended : (within : Interval) → within ≡ windowIn (asLook look) → toZ w64 span ≡ seconds within → (x : ScanEnd) {y : End} → asEnd y ≡ x → downBy s c e look span n ≡ ending x → Downed s c e look l₀ l (record { end = y; failed = failed })
+  ended within ew es x {y} ey e′ =
+      let w : downIn s c e (asLook look) ≡ on (g .so) (ending x) = down-is s c e look within span ew es ∙ g .is ∙ ap (on (g .so)) e′ in
+      let f : downIn s c e (asLook look) .failed ≡ g .so = ap (λ (k : ScanOf). k .failed) w ∙ append-nil (g .so) in
       record {
         scanned = record {
           settled = record { end = ey ∙ sym (ap (λ (k : ScanOf). k .end) w); failed = g .long ∙ sym (ap length f) };
@@ -88,34 +98,35 @@ module _ {s : List ℕ} {c : Call} {e : Env} {look : Look} {within : Interval} {
         };
       }
 
-  pub downs-none : n ≤ 0 → Downed s c e look within l₀ l (record { end = Ends.Nowhere; failed = failed })
+  pub downs-none : (within : Interval) → within ≡ windowIn (asLook look) → toZ w64 span ≡ seconds within → n ≤ 0 → Downed s c e look l₀ l (record { end = Ends.Nowhere; failed = failed })
   unfolding asEnd down
-  downs-none z = let k : n ≡ 0 = omega arith in ended nowhere refl (ap (downFrom s c e (asLook look) within) k)
+  downs-none within ew es z = let k : n ≡ 0 = omega arith in ended within ew es nowhere refl (ap (downBy s c e look span) k)
+
+  pub downs-room : c .asked < 16384 → failed ≤ 65536
+  downs-room lt = omega (arith, g .room)
 
   pub downs-below : 0 < n → n - 1 ≤ c .asked
   downs-below lt = omega (arith, g .le)
 
-  module _ (some-left : 0 < n) (span here then : ℕ) (es : toZ w64 span ≡ seconds within) (eh : toZ w64 here ≡ pointAt s (c .asked) .time) (et : toZ w64 then ≡ pointAt s (n - 1) .time) {w : Window} (ew : w ≡ window (toZ w64 span) (toZ w64 here) (toZ w64 then)) where
+  module _ (some-left : 0 < n) (here then : ℕ) (eh : toZ w64 here ≡ pointAt s (c .asked) .time) (et : toZ w64 then ≡ pointAt s (n - 1) .time) {w : Window} (ew : w ≡ window (toZ w64 span) (toZ w64 here) (toZ w64 then)) where
     abbrev lower : ScanOf
-    lower = downFrom s c e (asLook look) within (n - 1)
+    lower = downBy s c e look span (n - 1)
 
-    seen-is : isInside w ≡ seenAt s c e within (n - 1)
-    unfolding seenFrom
+    seen-is : isInside w ≡ inWindow (toZ w64 span) (pointAt s (c .asked) .time) (pointAt s (n - 1) .time)
     seen-is =
         ap isInside ew
         ∙ inside-is (toZ w64 span) (toZ w64 here) (toZ w64 then)
-        ∙ ap (λ (a : ℤ). inWindow a (toZ w64 here) (toZ w64 then)) es
-        ∙ ap (λ (a : ℤ). inWindow (seconds within) a (toZ w64 then)) eh
-        ∙ ap (λ (a : ℤ). inWindow (seconds within) (pointAt s (c .asked) .time) a) et
+        ∙ ap (λ (a : ℤ). inWindow (toZ w64 span) a (toZ w64 then)) eh
+        ∙ ap (λ (a : ℤ). inWindow (toZ w64 span) (pointAt s (c .asked) .time) a) et
 
-    point-is : {y : Bool} → isInside w ≡ y → downFrom s c e (asLook look) within n ≡ choose y (met (n - 1) (turnIn s c e (asLook look) (n - 1)) lower) lower
+    point-is : {y : Bool} → isInside w ≡ y → downBy s c e look span n ≡ choose y (met (n - 1) (turnIn s c e (asLook look) (n - 1)) lower) lower
     unfolding down
     point-is {y} h =
         let k : n ≡ suc (n - 1) = omega arith in
-        ap (downFrom s c e (asLook look) within) k
+        ap (downBy s c e look span) k
         ∙ ap (λ (y : Bool). choose y (met (n - 1) (turnIn s c e (asLook look) (n - 1)) lower) lower) (sym seen-is ∙ h)
 
-    skipped : isInside w ≡ false → Downs s c e look within b₀ l₀ (n - 1) failed b l
+    skipped : isInside w ≡ false → Downs s c e look span b₀ l₀ (n - 1) failed b l
     unfolding choose
     skipped h = record {
       le = omega (arith, g .le);
@@ -129,20 +140,20 @@ module _ {s : List ℕ} {c : Call} {e : Env} {look : Look} {within : Interval} {
       is = g .is ∙ ap (on (g .so)) (point-is h);
     }
 
-    pub downs-old : w ≡ TooOld → Downs s c e look within b₀ l₀ (n - 1) failed b l
+    pub downs-old : w ≡ TooOld → Downs s c e look span b₀ l₀ (n - 1) failed b l
     unfolding isInside
     downs-old q = skipped (ap isInside q)
 
-    pub downs-later : w ≡ Later → Downs s c e look within b₀ l₀ (n - 1) failed b l
+    pub downs-later : w ≡ Later → Downs s c e look span b₀ l₀ (n - 1) failed b l
     unfolding isInside
     downs-later q = skipped (ap isInside q)
 
     module _ (q : w ≡ Inside) {t : Turn} (d : Turns s c e look (n - 1) t) where
-      met-is : {k : Turn} → t ≡ k → downFrom s c e (asLook look) within n ≡ met (n - 1) (asTurn k) lower
+      met-is : {k : Turn} → t ≡ k → downBy s c e look span n ≡ met (n - 1) (asTurn k) lower
       unfolding isInside choose
       met-is h = point-is (ap isInside q) ∙ ap (λ (k : TurnOf). met (n - 1) k lower) (sym (d .is) ∙ ap asTurn h)
 
-      pub downs-passes : {a : List ℕ} → t ≡ Tur.Passes → length a ≡ length b → Downs s c e look within b₀ l₀ (n - 1) failed a l
+      pub downs-passes : {a : List ℕ} → t ≡ Tur.Passes → length a ≡ length b → Downs s c e look span b₀ l₀ (n - 1) failed a l
       unfolding asTurn met
       downs-passes h len = record {
         le = omega (arith, g .le);
@@ -156,26 +167,26 @@ module _ {s : List ℕ} {c : Call} {e : Env} {look : Look} {within : Interval} {
         is = g .is ∙ ap (on (g .so)) (met-is h);
       }
 
-      pub downs-carries : t ≡ Tur.Carries → Downed s c e look within l₀ l (record { end = Ends.At (n - 1); failed = failed })
+      pub downs-carries : (within : Interval) → within ≡ windowIn (asLook look) → toZ w64 span ≡ seconds within → t ≡ Tur.Carries → Downed s c e look l₀ l (record { end = Ends.At (n - 1); failed = failed })
       unfolding asTurn asEnd met
-      downs-carries h = ended (at (n - 1)) refl (met-is h)
+      downs-carries within ew′ es h = ended within ew′ es (at (n - 1)) refl (met-is h)
 
-      pub downs-refused : {k : Refusal} {m : Meter} → t ≡ Tur.Refused k m → Downed s c e look within l₀ l (record { end = Ends.Refused k m; failed = failed })
+      pub downs-refused : {k : Refusal} {m : Meter} (within : Interval) → within ≡ windowIn (asLook look) → toZ w64 span ≡ seconds within → t ≡ Tur.Refused k m → Downed s c e look l₀ l (record { end = Ends.Refused k m; failed = failed })
       unfolding asTurn asEnd met
-      downs-refused {k} {m} h = ended (stopped k m) refl (met-is h)
+      downs-refused {k} {m} within ew′ es h = ended within ew′ es (stopped k m) refl (met-is h)
 
-      pub downs-fails : {k : ℕ} {a l₁ l₂ : List ℕ} → t ≡ Tur.Fails k → length a ≡ length b → l₁ ≡ set l failed (n - 1) → l₂ ≡ set l₁ (failed + 1) k → Downs s c e look within b₀ l₀ (n - 1) (failed + 2) a l₂
+      pub downs-fails : {k : ℕ} {a l₂ : List ℕ} → t ≡ Tur.Fails k → length a ≡ length b → PutTwo l failed (n - 1) k l₂ → Downs s c e look span b₀ l₀ (n - 1) (failed + 2) a l₂
       unfolding asTurn met
-      downs-fails {k} {a} {l₁} {l₂} h len e₁ e₂ = record {
+      downs-fails {k} {a} {l₂} h len put = record {
         le = omega (arith, g .le);
         room = omega (arith, g .room);
         same = len ∙ g .same;
-        same-list = ap length e₂ ∙ length-set l₁ (failed + 1) k ∙ ap length e₁ ∙ length-set l failed (n - 1) ∙ g .same-list;
+        same-list = ap length (put .is) ∙ length-set (set l failed (n - 1)) (failed + 1) k ∙ length-set l failed (n - 1) ∙ g .same-list;
         ready = ready-next (g .ready) len;
         so = g .so ++ ((n - 1) ∷ (k ∷ []));
         long = omega (arith, g .long, length-append (g .so) ((n - 1) ∷ (k ∷ [])));
         lies =
-            e₂ ∙ ap (λ (r : List ℕ). set r (failed + 1) k) (e₁ ∙ ap (λ (r : List ℕ). set r failed (n - 1)) (g .lies))
+            put .is ∙ ap (λ (r : List ℕ). set (set r failed (n - 1)) (failed + 1) k) (g .lies)
             ∙ laid-two (g .so) l₀ failed (n - 1) k (g .long);
         is =
             g .is ∙ ap (on (g .so)) (met-is h)
@@ -237,14 +248,29 @@ earlier-low s within i h q lt = omega (arith, before-low s within i (sym h ∙ q
 
 -- ---- a scan, by the node that looks back
 
-module _ {s : List ℕ} {c : Call} {e : Env} {look : Look} {l a : List ℕ} where
-  pub back-formerly : {within : Interval} {x : NodeNo} {r : Scan} → look ≡ Loo.Formerly within x → Downed s c e look within l a r → Backed s c e look l a r
-  unfolding asLook scanIn scanOf turnIn
-  back-formerly {within} {x} {r} q d = record { scanned = subst (λ (k : ScanOf). Scanned k l a r) (ap (λ (k : Look). downIn s c e (asLook k) within) q ∙ sym (ap (λ (k : Look). scanIn s c e (asLook k)) q)) (d .scanned) }
+-- with no turn that carries, fails or halts
+all-pass : (within : ℕ → Bool) (n : ℕ) → down within (λ j. passes) n ≡ ending nowhere
+unfolding down met
+all-pass within zero = refl
+all-pass within (suc j) = go (within j) ∙ all-pass within j
+  where
+    rest : ScanOf
+    rest = down within (λ j. passes) j
 
-  pub back-since : {within : Interval} {x y : NodeNo} {r : Scan} → look ≡ Loo.Since x y within → Downed s c e look within l a r → Backed s c e look l a r
-  unfolding asLook scanIn scanOf turnIn
-  back-since {within} {x} {y} {r} q d = record { scanned = subst (λ (k : ScanOf). Scanned k l a r) (ap (λ (k : Look). downIn s c e (asLook k) within) q ∙ sym (ap (λ (k : Look). scanIn s c e (asLook k)) q)) (d .scanned) }
+    go : (b : Bool) → choose b rest rest ≡ rest
+    go b = unfold choose in by b
+      where
+        by : (b : Bool) → choose b rest rest ≡ rest
+        by true = refl
+        by false = refl
+
+-- whatever is no Previous scans down
+pub back-down : {s : List ℕ} {c : Call} {e : Env} (look : Look) {l a : List ℕ} {r : Scan} → OneOf (0 ∷ 2 ∷ 3 ∷ []) (tagOf the-type look) → Downed s c e look l a r → Backed s c e look l a r
+unfolding asLook windowIn scanIn scanOf turnIn
+back-down (Loo.Formerly within x) h d = record { scanned = d .scanned }
+back-down (Loo.Previous within x) h d = absurd (miss (0 ∷ 2 ∷ 3 ∷ []) 1 tt h)
+back-down (Loo.Since x y within) h d = record { scanned = d .scanned }
+back-down {s} {c} {e} Loo.Other {l} {a} {r} h d = record { scanned = subst (λ (k : ScanOf). Scanned k l a r) (all-pass _ _) (d .scanned) }
 
 nothing-failed : (scan : ScanOf) (l : List ℕ) (y : End) → scan ≡ ending (asEnd y) → Scanned scan l l (record { end = y; failed = 0 })
 unfolding laid
@@ -256,10 +282,6 @@ nothing-failed scan l y h = record {
 pub back-previous : {s : List ℕ} {c : Call} {e : Env} {look : Look} {l : List ℕ} {within : Interval} {x : NodeNo} {y : End} → look ≡ Loo.Previous within x → Precedes s c e (x .0) within y → Backed s c e look l l (record { end = y; failed = 0 })
 unfolding asLook
 back-previous {s} {c} {e} {look} {l} {y = y} q p = record { scanned = nothing-failed (scanIn s c e (asLook look)) l y (ap (λ (k : Look). scanIn s c e (asLook k)) q ∙ p .is) }
-
-pub back-other : {s : List ℕ} {c : Call} {e : Env} {look : Look} {l : List ℕ} → look ≡ Loo.Other → Backed s c e look l l (record { end = Ends.Nowhere; failed = 0 })
-unfolding asLook scanIn asEnd
-back-other {s} {c} {e} {look} {l} q = record { scanned = nothing-failed (scanIn s c e (asLook look)) l Ends.Nowhere (ap (λ (k : Look). scanIn s c e (asLook k)) q) }
 
 -- ---- over no cell at all
 

@@ -13,13 +13,14 @@ use Rattle.meaning.specs.declared.NodeNo.{NodeNo}
 use Rattle.meaning.proofs.Node.{the-type}
 use Rattle.meaning.specs.declared.Node.{Node}
 use Rattle.meaning.specs.declared.Node.the-variants.{And, Or, Not, Formerly, Previous, Since, Predicate, Comparison, Exists, Tp, Literal, Context, Scope, Variable, Wildcard, Aggregate, Arithmetic, Sum, Count, Broken}
+use Rattle.meaning.specs.declared.TimeUnit.the-variants.{Seconds}
 use Rattle.meaning.specs.Tests.{isSome}
 use Rattle.meaning.specs.Case.{places}
 use Rattle.meaning.specs.Carried.{lookOf, looksBack, carriedBy}
 use Rattle.meaning.specs.Carried.{Look as LookBack}
 use Rattle.carried.specs.declared.Look.{Look}
 use Rattle.carried.specs.declared.Look.the-variants as Loo
-use Rattle.carried.specs.Shows.{asLook, carriedIn, Points}
+use Rattle.carried.specs.Shows.{asLook, windowIn, carriedIn, Points}
 
 module _ (nd : Node) where
   pub look-formerly : {within : Interval} {x : NodeNo} → nd ≡ Formerly within x → asLook (Loo.Formerly within x) ≡ lookOf nd
@@ -60,6 +61,25 @@ look-other (Arithmetic op l r) h = refl
 look-other (Sum x binders n) h = refl
 look-other (Count binders n) h = refl
 look-other Broken h = refl
+
+-- ---- its window
+
+module _ {look : Look} where
+  pub window-formerly : {within : Interval} {x : NodeNo} → look ≡ Loo.Formerly within x → within ≡ windowIn (asLook look)
+  unfolding asLook windowIn
+  window-formerly q = sym (ap (λ (k : Look). windowIn (asLook k)) q)
+
+  pub window-previous : {within : Interval} {x : NodeNo} → look ≡ Loo.Previous within x → within ≡ windowIn (asLook look)
+  unfolding asLook windowIn
+  window-previous q = sym (ap (λ (k : Look). windowIn (asLook k)) q)
+
+  pub window-since : {within : Interval} {l r : NodeNo} → look ≡ Loo.Since l r within → within ≡ windowIn (asLook look)
+  unfolding asLook windowIn
+  window-since q = sym (ap (λ (k : Look). windowIn (asLook k)) q)
+
+  pub window-other : look ≡ Loo.Other → record { amount = 0; unit = Seconds } ≡ windowIn (asLook look)
+  unfolding asLook windowIn
+  window-other q = sym (ap (λ (k : Look). windowIn (asLook k)) q)
 
 -- ---- whether it looks back
 

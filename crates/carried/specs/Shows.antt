@@ -4,9 +4,10 @@ use mathlib.Core.Bool.{Bool, true}
 use mathlib.Core.List.{List, [], _∷_}
 use mathlib.Core.Option.{Option, none, some}
 use Prim.Native.Nat.{ℕ, suc, _+_, _-_, _≤_}
-use lib.ListN.{length}
+use lib.ListN.{length, set}
 use Rattle.meaning.specs.declared.Env.{Env}
 use Rattle.meaning.specs.declared.Interval.{Interval}
+use Rattle.meaning.specs.declared.TimeUnit.the-variants.{Seconds}
 use Rattle.meaning.specs.Walk.{Outcome}
 use Rattle.meaning.specs.Case.{places, pointAt, nodeAt, caseOf}
 use Rattle.meaning.specs.Rows.{rowOf}
@@ -49,6 +50,13 @@ unfoldable pub asCarried : Carried → Said CarriedOf
 asCarried (Car.Gives b n) = gives (record { verdict = b; filled = n }) 0 0
 asCarried (Car.Refuses n steps most) = refuses (numberOf n) steps most
 
+-- what looks back over nothing has an empty window
+unfoldable pub windowIn : Option LookBack → Interval
+windowIn none = record { amount = 0; unit = Seconds }
+windowIn (some (formerly within n)) = within
+windowIn (some (previous within n)) = within
+windowIn (some (since left right within)) = within
+
 -- ---- the definition's scan, as a call of a file and an environment asks it
 
 module _ (s : List ℕ) (c : Call) (e : Env) where
@@ -63,11 +71,9 @@ module _ (s : List ℕ) (c : Call) (e : Env) where
   turnIn none j = passes
   turnIn (some look) j = turnAt (caseOf s) (pointAt s) (c .asked) (rowOf e) (c .limits) look j
 
-  abbrev pub downFrom : Option LookBack → Interval → ℕ → ScanOf
-  downFrom look within n = down (λ j. seenAt within j) (λ j. turnIn look j) n
-
-  abbrev pub downIn : Option LookBack → Interval → ScanOf
-  downIn look within = downFrom look within (suc (c .asked))
+  -- from the point asked about down, over its window
+  abbrev pub downIn : Option LookBack → ScanOf
+  downIn look = down (λ j. seenAt (windowIn look) j) (λ j. turnIn look j) (suc (c .asked))
 
   unfoldable pub scanIn : Option LookBack → ScanOf
   scanIn none = ending nowhere
@@ -86,6 +92,9 @@ laid (x ∷ xs) [] = []
 laid (x ∷ xs) (y ∷ list) = x ∷ laid xs list
 
 -- ---- promises
+
+pub record PutTwo (list : List ℕ) (at first second : ℕ) (after : List ℕ) : Type 0 where
+  pub is : after ≡ set (set list at first) (at + 1) second
 
 pub record Asks (s : List ℕ) (c : Call) (e : Env) (n j : ℕ) (v : Verdict) : Type 0 where
   pub is : saidVerdict v ≡ asksAt s c e n j
@@ -112,9 +121,9 @@ pub record Scanned (scan : ScanOf) (list after : List ℕ) (r : Scan) : Type 0 w
   pub settled : Settled scan r
   pub lies : after ≡ laid (scan .failed) list
 
--- a scan down, whatever looks back, over a window; the scan of a node; and the same with nothing listed
-pub record Downed (s : List ℕ) (c : Call) (e : Env) (look : Look) (within : Interval) (list after : List ℕ) (r : Scan) : Type 0 where
-  pub scanned : Scanned (downIn s c e (asLook look) within) list after r
+-- a scan down, whatever looks back; the scan of a node; and the same with nothing listed
+pub record Downed (s : List ℕ) (c : Call) (e : Env) (look : Look) (list after : List ℕ) (r : Scan) : Type 0 where
+  pub scanned : Scanned (downIn s c e (asLook look)) list after r
 
 pub record Backed (s : List ℕ) (c : Call) (e : Env) (look : Look) (list after : List ℕ) (r : Scan) : Type 0 where
   pub scanned : Scanned (scanIn s c e (asLook look)) list after r

@@ -5,16 +5,25 @@ ghost use mathlib.Core.Path.{_≡_};
 ghost use Prim.Native.Nat.{_+_, _≤_};
 ghost use lib.ListN.{set};
 ghost use Rattle.meaning.specs.Case.{places};
-ghost use Rattle.carried.specs.Shows.{laid, Lists};
+ghost use Rattle.carried.specs.Shows.{laid, PutTwo, Lists};
 
 // a cell, if the list is so long
-pub fn put(list: &mut [u64], at: usize, point: usize)
+fn put(list: &mut [u64], at: usize, point: usize)
     ensures { λ _. ⌜ now (list .exit) ≡ set (now (list .entry)) at point ⌝ }
 {
     if list.len() <= at {
         return;
     }
     list[at] = point as u64;
+}
+
+// two cells, as far as the list goes
+pub fn put_two(list: &mut [u64], at: usize, first: usize, second: usize)
+    requires { ⌜ at ≤ 65536 ⌝ }
+    ensures { λ _. ⌜ PutTwo (now (list .entry)) at first second (now (list .exit)) ⌝ }
+{
+    put(list, at, first);
+    put(list, at + 1, second);
 }
 
 // n points from j on, as many as fit

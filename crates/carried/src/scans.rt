@@ -3,7 +3,8 @@ use super::End;
 use super::Look;
 use super::Scan;
 use super::Turn;
-use super::list::put;
+use super::list::put_two;
+use super::looks::window_of;
 use super::turns::ask;
 use super::turns::turn_at;
 use evaluator::Call;
@@ -19,20 +20,13 @@ ghost use Rattle.evaluator.specs.Asks.{Ready};
 ghost use Rattle.carried.specs.Shows.{Downed, Backed, Known, Precedes};
 
 // from the point asked about down to 0, to the first that carries; failed anchors go into the list, as many as fit
-fn scan_down(
-    s: &[u8],
-    work: &mut [u64],
-    call: Call,
-    env: Env,
-    look: Look,
-    within: Interval,
-    list: &mut [u64],
-) -> Scan
+fn scan_down(s: &[u8], work: &mut [u64], call: Call, env: Env, look: Look, list: &mut [u64]) -> Scan
     requires { ⌜ Ready (now s) call env started (now work) ⌝ }
     requires { ⌜ call .asked < 16384 ⌝ }
-    ensures { λ r. ⌜ Downed (now (s .entry)) call env look within (now (list .entry)) (now (list .exit)) r ⌝ }
+    ensures { λ r. ⌜ Downed (now (s .entry)) call env look (now (list .entry)) (now (list .exit)) r ⌝ }
 {
     let i = call.asked;
+    let within = window_of(look);
     let span = equality::seconds(within);
     let here = tables::time_at(s, i);
     let mut n = i + 1;
@@ -50,8 +44,7 @@ fn scan_down(
                     return Scan { end, failed };
                 }
                 Turn::Fails(k) => {
-                    put(list, failed, j);
-                    put(list, failed + 1, k);
+                    put_two(list, failed, j, k);
                     failed += 2;
                     n = j;
                 }
@@ -104,18 +97,11 @@ pub fn scan_back(
     requires { ⌜ call .asked < 16384 ⌝ }
     ensures { λ r. ⌜ Backed (now (s .entry)) call env look (now (list .entry)) (now (list .exit)) r ⌝ }
 {
-    match look {
-        Look::Formerly(within, _) => scan_down(s, work, call, env, look, within, list),
-        Look::Previous(within, x) => {
-            let end = one_before(s, work, call, env, x, within);
-            Scan { end, failed: 0 }
-        }
-        Look::Since(_, _, within) => scan_down(s, work, call, env, look, within, list),
-        Look::Other => {
-            let end = End::Nowhere;
-            Scan { end, failed: 0 }
-        }
+    if let Look::Previous(within, x) = look {
+        let end = one_before(s, work, call, env, x, within);
+        return Scan { end, failed: 0 };
     }
+    scan_down(s, work, call, env, look, list)
 }
 
 // a scan that lists nothing

@@ -248,21 +248,16 @@ earlier-low s within i h q lt = omega (arith, before-low s within i (sym h ∙ q
 
 -- ---- a scan, by the node that looks back
 
+choose-same : {A : Type 0} (b : Bool) (x : A) → choose b x x ≡ x
+unfolding choose
+choose-same true x = refl
+choose-same false x = refl
+
 -- with no turn that carries, fails or halts
 all-pass : (within : ℕ → Bool) (n : ℕ) → down within (λ j. passes) n ≡ ending nowhere
 unfolding down met
 all-pass within zero = refl
-all-pass within (suc j) = go (within j) ∙ all-pass within j
-  where
-    rest : ScanOf
-    rest = down within (λ j. passes) j
-
-    go : (b : Bool) → choose b rest rest ≡ rest
-    go b = unfold choose in by b
-      where
-        by : (b : Bool) → choose b rest rest ≡ rest
-        by true = refl
-        by false = refl
+all-pass within (suc j) = choose-same (within j) (down within (λ j. passes) j) ∙ all-pass within j
 
 -- whatever is no Previous scans down
 pub back-down : {s : List ℕ} {c : Call} {e : Env} (look : Look) {l a : List ℕ} {r : Scan} → OneOf (0 ∷ 2 ∷ 3 ∷ []) (tagOf the-type look) → Downed s c e look l a r → Backed s c e look l a r

@@ -15,10 +15,13 @@ use Rattle.meaning.specs.Case.{places}
 use Rattle.meaning.specs.Calls.{numberOf, gives}
 use Rattle.meaning.specs.Carried.{listed}
 use Rattle.carried.specs.declared.Carried.the-variants as Car
-use Rattle.carried.specs.Shows.{asCarried, laid, Lists}
+use Rattle.carried.specs.Shows.{asCarried, laid, PutTwo, Lists}
 
 pub put-beyond : (l : List ℕ) (i a : ℕ) → length l ≤ i → l ≡ set l i a
 put-beyond l i a le = sym (set-out l i a le)
+
+pub two-put : {l l₁ l₂ : List ℕ} {at a b : ℕ} → l₁ ≡ set l at a → l₂ ≡ set l₁ (at + 1) b → PutTwo l at a b l₂
+two-put {at = at} {b = b} e₁ e₂ = record { is = e₂ ∙ ap (λ (r : List ℕ). set r (at + 1) b) e₁ }
 
 -- ---- laid
 

@@ -107,7 +107,7 @@ static void test_verdict(ask *verdict, const uint8_t *file, size_t length) {
     CHECK(verdict(file, length, 1, PREDICATE, unbound, 2, 9, 2, work, 5, told, 5) == GALIVODERN_NO_SUCH_POINT);
     CHECK(same(told, 0, 0, 0) && told[GALIVODERN_SORT] == 0 && work[0] == 8);
     CHECK(verdict(file, length, 0, VARIABLE, unbound, 2, 9, 2, work, 5, told, 5) == GALIVODERN_NO_SUCH_NODE);
-    CHECK(verdict(file, length, 0, COUNT + 1, unbound, 2, 9, 2, work, 5, told, 5) == GALIVODERN_NO_SUCH_NODE);
+    CHECK(verdict(file, length, 0, SINCE + 1, unbound, 2, 9, 2, work, 5, told, 5) == GALIVODERN_NO_SUCH_NODE);
     CHECK(verdict(file, length, 0, PREDICATE, unbound, 1, 9, 2, work, 5, told, 5) == GALIVODERN_BAD_START);
     CHECK(verdict(file, length, 0, PREDICATE, unbound, 2, 9, 3, work, 5, told, 5) == GALIVODERN_BAD_LIMITS);
     CHECK(verdict(file, length, 0, PREDICATE, unbound, 2, GALIVODERN_MOST_STEPS + 1, 2, work, 5, told, 5) ==

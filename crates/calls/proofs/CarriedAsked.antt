@@ -10,7 +10,7 @@ use Rattle.meaning.specs.declared.Refusal.{Refusal}
 use Rattle.meaning.specs.Case.{caseOf, pointAt, nodeAt, vars}
 use Rattle.meaning.specs.Check.{Checked}
 use Rattle.meaning.specs.Rows.{Row, rowOf}
-use Rattle.meaning.specs.Calls.{Call, Said, startRow, startOr, cleared, workspaceAfter, result}
+use Rattle.meaning.specs.Calls.{Call, Said, Result, startRow, startOr, cleared, workspaceAfter, result}
 use Rattle.meaning.specs.Carried.{lookOf, looksBack, Shown, shownAt, Listed, listed, carriedCall}
 use Rattle.meaning.specs.Carried.{Carried as CarriedOf}
 use Rattle.evaluator.specs.declared.Call.{Call as WalkCall}
@@ -42,7 +42,7 @@ module _ {s : List ℕ} {c : WalkCall} {e : Env} {n : ℕ} {list after : List �
 
 -- ---- the call
 
-abbrev putOut : Call → List ℕ → Said Shown → _
+abbrev putOut : Call → List ℕ → Said Shown → Result CarriedOf
 putOut c list said = result c (listed list said .said) (listed list said .list)
 
 pub carried-refused : {s : List ℕ} {point n : ℕ} {start : List ℕ} {limits : Limits} {work list : List ℕ} {o : Opening} {k : Refusal} → Checked s → Opens (wantedFor LooksBack) (callOf s point n start limits work) o → o .against ≡ Refused k → Carrying (callOf s point n start limits work) list work list (Car.Refuses k 0 0)
@@ -53,11 +53,16 @@ carried-refused {s} {point} {n} {start} {limits} {work} {list} {k = k} checked o
 
 pub carried-told : {s : List ℕ} {point n : ℕ} {start : List ℕ} {limits : Limits} {work list : List ℕ} {o : Opening} (part : List ℕ) {after filled : List ℕ} {r : SaidCarried} → Checked s → Opens (wantedFor LooksBack) (callOf s point n start limits work) o → o .against ≡ Nothing → TellsCarried s (o .call) (o .env) n list filled r → length part ≡ length (take (o .cells) work) → after ≡ cleared (o .cells) (part ++ drop (o .cells) work) → Carrying (callOf s point n start limits work) list after filled r
 unfolding carriedCall result wantedFor
-carried-told {s} {point} {n} {start} {limits} {work} {list} {o} part checked opens is tells long after =
+carried-told {s} {point} {n} {start} {limits} {work} {list} {o} part {after} {filled} {r} checked opens is tells long cleared-is =
     let c : Call = callOf s point n start limits work in
     let row : Row = startOr (startRow s (vars s) start) in
-    let asked : shownAt (caseOf s) (pointAt s) (o .call .asked) (rowOf (o .env)) (o .call .limits) (lookOf (nodeAt s n)) ≡ shownAt (caseOf s) (pointAt s) point row limits (lookOf (nodeAt s n)) = rw (opened opens is .call, opened opens is .bindings) refl in
-    let said = said-as checked opens is (shownAt (caseOf s) (pointAt s) point row limits (lookOf (nodeAt s n))) in
-    let clears = listed-clears c list (caseOf s) (pointAt s) point row limits (lookOf (nodeAt s n)) in
-    let w = workspace-as checked opens is part long after in
-    record { is = cc (tells .is, asked, said, clears, w) }
+    let says : Said Shown = shownAt (caseOf s) (pointAt s) point row limits (lookOf (nodeAt s n)) in
+    let asked : shownAt (caseOf s) (pointAt s) (o .call .asked) (rowOf (o .env)) (o .call .limits) (lookOf (nodeAt s n)) ≡ says = rw (opened opens is .call, opened opens is .bindings) refl in
+    let shows : _≡_ {A = Listed} (record { said = asCarried r; list = filled }) (listed list says) = tells .is ∙ ap (listed list) asked in
+    let clears : after ≡ workspaceAfter c (listed list says .said) = workspace-as checked opens is part long cleared-is ∙ sym (listed-clears c list (caseOf s) (pointAt s) point row limits (lookOf (nodeAt s n))) in
+    record {
+      is =
+          ap (λ (k : Listed). record { said = k .said; workspace = after; output = k .list }) shows
+          ∙ ap (λ (w : List ℕ). record { said = listed list says .said; workspace = w; output = listed list says .list }) clears
+          ∙ sym (ap (putOut c list) (said-as checked opens is says));
+    }

@@ -4,7 +4,7 @@ use Rattle.calls.proofs.checked.walk_carried.Statement.{statement}
 use Rattle.calls.proofs.checked.walk_carried.Tie as tie
 use Rattle.calls.proofs.checked.walk_carried.Reads as reads
 use Rattle.calls.proofs.checked.walk_carried.Lts as lts
-use Rattle.carried.proofs.answers.answer.Reads as answer-reads
+use Rattle.carried.proofs.answer.Reads as answer-reads
 
 answer-requires : tie.Need-answer-requires
 answer-requires c κs = search needs

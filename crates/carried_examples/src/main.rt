@@ -18,8 +18,8 @@ fn print_points(list: &[u64], filled: usize) {
     }
 }
 
-// a node asked at a point under limits, with a list of so many cells
-fn show(s: &[u8], label: &[u8], node: u32, point: usize, limits: Limits, list: &mut [u64]) {
+// a node asked at a point under limits, with a list of the caller's
+fn show_in(s: &[u8], label: &[u8], node: u32, point: usize, limits: Limits, list: &mut [u64]) {
     io::write_all(STDOUT_FILENO, label);
     let start = [0u64; 2];
     let mut work = [0u64; 64];
@@ -44,19 +44,24 @@ fn show(s: &[u8], label: &[u8], node: u32, point: usize, limits: Limits, list: &
     io::write_all(STDOUT_FILENO, b"\n");
 }
 
+// with a list long enough
+fn show(s: &[u8], label: &[u8], node: u32, point: usize, limits: Limits) {
+    let mut list = [0u64; 8];
+    show_in(s, label, node, point, limits, &mut list);
+}
+
 fn steps_of(steps: u64, room: usize) -> Limits {
     Limits { steps, room }
 }
 
-fn formerly(s: &[u8], list: &mut [u64]) {
-    show(s, b"formerly Review at 3", 1, 3, steps_of(9, 1), list);
+fn formerly(s: &[u8]) {
+    show(s, b"formerly Review at 3", 1, 3, steps_of(9, 1));
     show(
         s,
         b"formerly Review(b1) at 3, a step a question",
         4,
         3,
         steps_of(1, 0),
-        list,
     );
     show(
         s,
@@ -64,7 +69,6 @@ fn formerly(s: &[u8], list: &mut [u64]) {
         4,
         3,
         steps_of(0, 0),
-        list,
     );
     show(
         s,
@@ -72,27 +76,18 @@ fn formerly(s: &[u8], list: &mut [u64]) {
         8,
         3,
         steps_of(9, 0),
-        list,
     );
-    show(s, b"previous Review at 3", 10, 3, steps_of(1, 0), list);
-    show(
-        s,
-        b"previous Review at 0, no step",
-        10,
-        0,
-        steps_of(0, 0),
-        list,
-    );
+    show(s, b"previous Review at 3", 10, 3, steps_of(1, 0));
+    show(s, b"previous Review at 0, no step", 10, 0, steps_of(0, 0));
 }
 
-fn since(s: &[u8], list: &mut [u64]) {
+fn since(s: &[u8]) {
     show(
         s,
         b"not Review(b1) since within 20s Review(b1) at 3",
         16,
         3,
         steps_of(9, 0),
-        list,
     );
     show(
         s,
@@ -100,19 +95,11 @@ fn since(s: &[u8], list: &mut [u64]) {
         22,
         3,
         steps_of(9, 0),
-        list,
     );
-    show(
-        s,
-        b"Review(b1) since Review at 3",
-        26,
-        3,
-        steps_of(9, 0),
-        list,
-    );
-    show(s, b"Flash since Review at 3", 29, 3, steps_of(9, 0), list);
-    show(s, b"Review since Flash at 3", 32, 3, steps_of(9, 0), list);
-    show(s, b"Review(b1) at 3", 3, 3, steps_of(9, 0), list);
+    show(s, b"Review(b1) since Review at 3", 26, 3, steps_of(9, 0));
+    show(s, b"Flash since Review at 3", 29, 3, steps_of(9, 0));
+    show(s, b"Review since Flash at 3", 32, 3, steps_of(9, 0));
+    show(s, b"Review(b1) at 3", 3, 3, steps_of(9, 0));
 }
 
 // as much of a file as there is room for: how many bytes
@@ -132,11 +119,10 @@ fn load(path: &[u8], bytes: &mut [u8]) -> usize
 fn main() {
     let mut bytes = [0u8; 4096];
     let n = load(b"carried.bin", &mut bytes);
-    let mut list = [0u64; 8];
-    formerly(&bytes[..n], &mut list);
-    since(&bytes[..n], &mut list);
+    formerly(&bytes[..n]);
+    since(&bytes[..n]);
     let mut short = [0u64; 3];
-    show(
+    show_in(
         &bytes[..n],
         b"Review(b1) since Review at 3, three cells",
         26,

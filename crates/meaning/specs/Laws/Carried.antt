@@ -137,11 +137,11 @@ look-answer {s} checked n i row look e =
 
 -- ---- an answered question is the single verdict
 
-abbrev OutTells : Bool → Outcome Bool → Type 0
+abbrev pub OutTells : Bool → Outcome Bool → Type 0
 OutTells y (answered b m) = b ≡ y
 OutTells y (refused n m) = Unit {0}
 
-out-tells : (l : Limits) (w : W Bool) → OutTells (w .answer) (outcome l started w)
+pub out-tells : (l : Limits) (w : W Bool) → OutTells (w .answer) (outcome l started w)
 out-tells l w = go (outcome l started w) (tells l w)
   where
     go : (o : Outcome Bool) → Told l w o → OutTells (w .answer) o
@@ -149,7 +149,7 @@ out-tells l w = go (outcome l started w) (tells l w)
     go (refused n m) h = tt
 
 -- what a turn tells of a point: right held there, left held after it, and else where it failed first
-abbrev TurnTells : Bool → Bool → ℕ → Turn → Type 0
+abbrev pub TurnTells : Bool → Bool → ℕ → Turn → Type 0
 TurnTells r a f passes = r ≡ false
 TurnTells r a f carries = (r ≡ true) × (a ≡ true)
 TurnTells r a f (fails k) = (r ≡ true) × (a ≡ false) × (k ≡ f)
@@ -196,11 +196,11 @@ anchor-tells y (answered false m) a f t h ht = sym h
 anchor-tells y (refused n m) a f t h ht = tt
 
 module _ (c : Case) (log : ℕ → Point) (i : ℕ) (row : Row) (l : Limits) where
-  asked-tells : (n j : ℕ) → OutTells (holdsAt c log i row n j) (askedAt c log i row l n j)
+  pub asked-tells : (n j : ℕ) → OutTells (holdsAt c log i row n j) (askedAt c log i row l n j)
   unfolding holdsAt askedAt
   asked-tells n j = out-tells l _
 
-  turn-tells : (look : Look) (j : ℕ) → TurnTells (rightOf c log i row look j) (leftOf c log i row look j) (failsOf c log i row look j) (turnAt c log i row l look j)
+  pub turn-tells : (look : Look) (j : ℕ) → TurnTells (rightOf c log i row look j) (leftOf c log i row look j) (failsOf c log i row look j) (turnAt c log i row l look j)
   unfolding rightOf leftOf failsOf turnAt
   turn-tells (formerly within n) j = body-tells _ j _ (asked-tells n j)
   turn-tells (previous within n) j = body-tells _ j _ (asked-tells n j)

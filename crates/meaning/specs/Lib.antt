@@ -12,6 +12,7 @@ pub mod Walk
 pub mod Meaning
 pub mod Calls
 pub mod Carried
+pub mod Single
 pub mod Demands
 pub mod Laws
 pub mod Examples

@@ -1,5 +1,5 @@
 -- What the promise of the carried call comes to: one outcome; the definition's verdict and the points that single verdicts show, whatever the limits; later points change nothing
-use mathlib.Core.Path.{_≡_, refl, ap, sym, _∙_}
+use mathlib.Core.Path.{_≡_, refl, ap, sym, subst, _∙_}
 use mathlib.Core.Bool.{Bool}
 use mathlib.Core.List.{List, _++_}
 use mathlib.Core.Option.{some}
@@ -56,7 +56,8 @@ module _ {c : Call} {list after filled : List ℕ} {r : SaidCarried} (ok : Askab
   listed-is =
       let e = p .is in
       let z : carriedCall list c ≡ result c (listed list says .said) (listed list says .list) = rw (ok .checked .passes, nothing-against ok, is) refl in
-      cc (ap (λ (x : Result CarriedOf). x .said) (e ∙ z), ap (λ (x : Result CarriedOf). x .output) (e ∙ z))
+      ap (λ (x : Said CarriedOf). record { said = x; list = filled }) (ap (λ (x : Result CarriedOf). x .said) (e ∙ z))
+      ∙ ap (λ (x : List ℕ). record { said = listed list says .said; list = x }) (ap (λ (x : Result CarriedOf). x .output) (e ∙ z))
 
   module _ {b : Bool} {k steps most : ℕ} (gave : r ≡ Car.Gives b k steps most) where
     shows : (sh : Shown) × (says ≡ gives sh steps most) × Fills list filled sh b k
@@ -68,7 +69,7 @@ module _ {c : Call} {list after filled : List ℕ} {r : SaidCarried} (ok : Askab
 
     -- the points listed, and how the verdict and they are made
     pub carried-lists : (points : List ℕ) × Made (caseOf (c .file)) (pointAt (c .file)) (c .point) row look b points × (length points ≡ k) × (filled ≡ points ++ drop (length points) list)
-    carried-lists = (shows .0 .points, rw (← shows .2 .verdict) made, shows .2 .many, shows .2 .is)
+    carried-lists = (shows .0 .points, subst (λ (b : Bool). Made (caseOf (c .file)) (pointAt (c .file)) (c .point) row look b (shows .0 .points)) (shows .2 .verdict) made, shows .2 .many, shows .2 .is)
 
     pub carried-agrees : b ≡ walkOf (λ m q. m .verdict q) (c .file) (c .point) (c .node) (c .start) .answer
     unfolding walkOf

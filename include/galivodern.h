@@ -46,6 +46,7 @@ enum galivodern_refusal {
     GALIVODERN_STEPS_EXHAUSTED = 11, /* the answer takes more steps than allowed */
     GALIVODERN_ROOM_EXHAUSTED = 12,  /* the answer takes more rows than allowed */
     GALIVODERN_BAD_OUTPUT = 13,      /* output too short, or a binder that is no variable */
+    GALIVODERN_LIST_TOO_SHORT = 15,  /* the list is too short for the points that decided the answer */
     /* of this layer alone: `contents` or `told` too short, and nothing was done */
     GALIVODERN_TOO_FEW_CELLS = 100
 };
@@ -182,6 +183,8 @@ static inline const char *galivodern_refusal_text(uint64_t returned) {
         return "the answer takes more rows than allowed";
     case GALIVODERN_BAD_OUTPUT:
         return "rows are asked for a variable that the case does not have, or the output is too short";
+    case GALIVODERN_LIST_TOO_SHORT:
+        return "the list is too short for the points that decided the answer";
     case GALIVODERN_TOO_FEW_CELLS:
         return "`contents` or `told` has too few cells: nothing was done";
     default:

@@ -32,6 +32,8 @@ pub enum Refusal {
     RoomExhausted = 12,
     /// A binder is no variable of the case.
     BadOutput = 13,
+    /// The list lent for points is too short; the crate lends one that is not.
+    ListTooShort = 15,
 }
 
 impl Refusal {
@@ -50,9 +52,10 @@ impl Refusal {
         Refusal::StepsExhausted,
         Refusal::RoomExhausted,
         Refusal::BadOutput,
+        Refusal::ListTooShort,
     ];
 
-    /// Its number, from 1 to 13.
+    /// Its number, from 1 to 15; none has 14.
     #[must_use]
     pub fn number(self) -> u8 {
         self as u8
@@ -94,6 +97,7 @@ impl fmt::Display for Refusal {
             Refusal::StepsExhausted => "the answer takes more steps than allowed",
             Refusal::RoomExhausted => "the answer takes more rows than allowed",
             Refusal::BadOutput => "rows are asked for a variable that the case does not have",
+            Refusal::ListTooShort => "the list is too short for the points that decided the answer",
         })
     }
 }
@@ -123,7 +127,7 @@ impl fmt::Display for Refused {
     fn fmt(&self, f: &mut fmt::Formatter) -> fmt::Result {
         let Refused { refusal, steps, held } = self;
         write!(f, "{refusal}")?;
-        if *refusal > Refusal::BadLimits {
+        if *refusal > Refusal::BadLimits && *refusal != Refusal::ListTooShort {
             write!(f, " ({steps} spent, at most {held} rows held)", steps = counted(*steps, "step"))?;
         }
         Ok(())

@@ -81,7 +81,7 @@ impl Model {
     }
 
     /// The refusals in order, then the walk, then the clearing of the workspace.
-    fn call(
+    pub(crate) fn call(
         self,
         question: &Question,
         kinds: std::ops::RangeInclusive<u32>,
@@ -157,7 +157,7 @@ impl Model {
     }
 }
 
-enum Said {
+pub(crate) enum Said {
     Answer(u64),
     Refusal(u32),
 }

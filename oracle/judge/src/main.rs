@@ -13,7 +13,7 @@ use model::{Model, Variant};
 const USAGE: &str = "usage: oracle compare N SEED    put N questions to the model and to the Rust
        oracle carried N SEED     the same of request #106, beside single verdicts of the Rust
        oracle examples           ask E1 to E12, the sample and the counted examples of both
-       oracle variants SEED      catch every wrong variant of the model
+       oracle variants SEED [X]  catch every wrong variant of the model whose name begins with X
        oracle lists              write data/*.bin again, byte for byte";
 
 fn main() -> ExitCode {
@@ -24,7 +24,8 @@ fn main() -> ExitCode {
         ["compare", questions, seed] => number(questions).and_then(|n| compare(n, number(seed)?)),
         ["carried", questions, seed] => number(questions).and_then(|n| carried(n, number(seed)?)),
         ["examples"] => examples(),
-        ["variants", seed] => number(seed).and_then(variants),
+        ["variants", seed] => number(seed).and_then(|seed| variants(seed, "")),
+        ["variants", seed, named] => number(seed).and_then(|seed| variants(seed, named)),
         ["lists"] => write_lists(),
         _ => Err(USAGE.to_string()),
     };
@@ -89,11 +90,12 @@ fn write_lists() -> Result<bool, String> {
     Ok(true)
 }
 
-fn variants(seed: u64) -> Result<bool, String> {
+fn variants(seed: u64, named: &str) -> Result<bool, String> {
     let mut missed = 0;
     let all = Variant::WRONG.iter().map(|variant| (variant, caught as fn(_, _) -> _));
     let carried = Variant::WRONG_CARRIED.iter().map(|variant| (variant, judge::carried::caught as fn(_, _) -> _));
-    let all: Vec<_> = all.chain(carried).collect();
+    let wanted = |(variant, _): &(&Variant, _)| format!("{variant:?}").starts_with(named);
+    let all: Vec<_> = all.chain(carried).filter(wanted).collect();
     for &(&variant, caught) in &all {
         let by: Vec<String> = caught(variant, seed)?;
         missed += by.is_empty() as usize;

@@ -1,9 +1,11 @@
 //! `why --svg`: the timelines as a picture. It needs no network and no fonts of its own: texts stand in whatever font
 //! of even width the reader has, and are cut to the room that they have.
 
+use std::collections::BTreeSet;
+
 use super::timeline::{seconds, Did, Line, Moment, Seen, Timeline};
 use super::told::{action, before, bound_words, clock, fields_words, window_words, yes_or_no, Told};
-use super::words::{edge, line_seen};
+use super::words::{at, Edges};
 use crate::ask::Question;
 use crate::opened::Opened;
 
@@ -21,11 +23,13 @@ const MOST_SAYS: usize = 72;
 const GAP: f64 = 16.0;
 /// From the left end of a table to its first column: the axis stands there.
 const AXIS: f64 = 34.0;
-const STRIP: f64 = 62.0;
+/// Signs on an axis stand at least so far apart.
+const SIGN: f64 = 18.0;
 
 const INK: &str = "#1b1f24";
 const GREY: &str = "#667080";
 const PALE: &str = "#c3cad3";
+const TICK: &str = "#7d8a9c";
 const BAND: &str = "#dbe9fb";
 const YES: &str = "#1a7f37";
 const NO: &str = "#c62828";
@@ -37,7 +41,7 @@ pub fn drawn(question: &Question, told: &Told) -> String {
     let width = wanted_width(opened, told, 0.0).max(LEAST_WIDTH);
     let mut drawing = Drawing { opened, width, y: MARGIN, body: String::new() };
     drawing.title(question, told);
-    drawing.part(told, MARGIN);
+    drawing.part(told, MARGIN, true);
     let height = drawing.y + MARGIN / 2.0;
     let title = format!("{}: {} at point {}", yes_or_no(told.verdict), question.asked.shown(), question.point);
     format!(
@@ -67,13 +71,9 @@ enum Row {
 }
 
 fn rows(opened: &Opened, timeline: &Timeline) -> Vec<Row> {
-    let mut rows = Vec::new();
-    let mut seen = None;
+    let (mut rows, mut edges) = (Vec::new(), Edges::default());
     for &line in &timeline.lines {
-        let now = line_seen(line);
-        let between = seen.zip(now).and_then(|(was, is)| edge(opened, timeline, was, is));
-        rows.extend(between.map(Row::Edge));
-        seen = now;
+        rows.extend(edges.next(opened, timeline, line).map(Row::Edge));
         let says = timeline.says_folded(line);
         rows.push(match line {
             Line::One(moment) => {
@@ -84,9 +84,8 @@ fn rows(opened: &Opened, timeline: &Timeline) -> Vec<Row> {
                 let time = clock(opened.time(point).0);
                 Row::Point(moment, [point.to_string(), time, before, event, fields, cut(&says, MOST_SAYS)])
             }
-            Line::Alike(Moment { point: from, .. }, to) | Line::Mixed { from, to, .. } => {
-                Row::Folded(now, cut(&format!("{from} to {to}: {says}"), MOST_FIELDS + MOST_SAYS))
-            }
+            Line::Alike(first, to) => Row::Folded(Some(first.seen), format!("{} to {to}: {says}", first.point)),
+            Line::Mixed { from, to, .. } => Row::Folded(None, format!("{from} to {to}: {says}")),
         });
     }
     rows
@@ -170,8 +169,8 @@ impl Drawing<'_> {
     }
 
     fn title(&mut self, question: &Question, told: &Told) {
-        let time = clock(self.opened.time(question.point).0);
-        let title = format!("{} at point {}, {time}", question.asked.shown(), question.point);
+        let title =
+            format!("{} at point {}, {}", question.asked.shown(), question.point, at(self.opened, question.point));
         self.y += 12.0;
         self.badge(MARGIN, told.verdict);
         let most = self.characters(MARGIN + 52.0);
@@ -189,12 +188,14 @@ impl Drawing<'_> {
         self.text(x + 20.0, self.y, style, yes_or_no(verdict));
     }
 
-    /// A part, its timeline, and the parts that decided it.
-    fn part(&mut self, told: &Told, x: f64) {
+    /// A part, its timeline, and the parts that decided it. The verdict of the whole stands in the title.
+    fn part(&mut self, told: &Told, x: f64, whole: bool) {
         self.y += 16.0;
-        self.y += 18.0;
-        self.badge(x, told.verdict);
-        self.y -= 18.0;
+        if !whole {
+            self.y += 18.0;
+            self.badge(x, told.verdict);
+            self.y -= 18.0;
+        }
         let text = format!("{}{}", told.text, bound_words(self.opened, &told.bound));
         self.wrapped(x + 52.0, &format!("fill=\"{INK}\""), &text);
         self.y += 2.0;
@@ -209,13 +210,14 @@ impl Drawing<'_> {
             self.strip(timeline, x);
             self.table(timeline, x);
         }
-        told.parts.iter().for_each(|part| self.part(part, x + INDENT));
+        told.parts.iter().for_each(|part| self.part(part, x + INDENT, false));
     }
 
     /// All points on one axis of time, with the window behind them.
     fn strip(&mut self, timeline: &Timeline, x: f64) {
         let scale = Scale::of(self.opened, timeline, x + 12.0, self.width - MARGIN - 12.0);
-        let axis = self.y + 32.0;
+        // What carried the yes is named above the axis.
+        let axis = self.y + if timeline.verdict { 46.0 } else { 32.0 };
         if let Some((from, to)) = scale.window {
             self.rect([from, axis - 11.0, (to - from).max(2.0), 22.0], &format!("fill=\"{BAND}\""));
             if scale.begins {
@@ -226,26 +228,43 @@ impl Drawing<'_> {
             }
         }
         self.line([scale.left, axis, scale.right, axis], &format!("stroke=\"{PALE}\""));
-        let mut last = [None; 3];
-        for moment in &timeline.moments {
-            let at = scale.at(self.opened.time(moment.point).0);
-            // One tick a pixel, and one mark where marks would cover each other.
-            let (sort, wide) = match moment.did {
-                Did::Carried | Did::InVain(_) => (0, 6.0),
-                Did::Failed | Did::FailedInVain(_) => (1, 6.0),
-                _ => (2, 1.0),
-            };
-            let column = (at / wide).round() as i64;
-            if last[sort] == Some(column) && moment.did != Did::Carried && moment.point != timeline.asked {
-                continue;
-            }
-            last[sort] = Some(column);
-            let colour = if moment.seen == Seen::Inside { INK } else { PALE };
-            self.line([at, axis - 5.0, at, axis + 5.0], &format!("stroke=\"{colour}\""));
-            self.mark(moment.did, at, axis);
-        }
+        self.ticks(timeline, &scale, axis);
+        self.strip_marks(timeline, &scale, axis);
         self.strip_labels(timeline, &scale, axis);
-        self.y += STRIP + 8.0;
+        self.y = axis + 38.0;
+    }
+
+    /// A tick for each point, one a pixel.
+    fn ticks(&mut self, timeline: &Timeline, scale: &Scale, axis: f64) {
+        let mut drawn = BTreeSet::new();
+        for moment in &timeline.moments {
+            let at = scale.at(self.opened.time(moment.point).0).round();
+            if drawn.insert(at as i64) {
+                let colour = if moment.seen == Seen::Inside { TICK } else { PALE };
+                self.line([at, axis - 4.0, at, axis + 4.0], &format!("stroke=\"{colour}\""));
+            }
+        }
+    }
+
+    /// What decided, over the ticks: as signs, and as mere ticks where signs would cover each other.
+    fn strip_marks(&mut self, timeline: &Timeline, scale: &Scale, axis: f64) {
+        let mut signs: Vec<f64> = Vec::new();
+        let mut ticks = BTreeSet::new();
+        let (carried, others): (Vec<&Moment>, Vec<&Moment>) =
+            timeline.moments.iter().rev().partition(|moment| moment.did == Did::Carried);
+        for moment in carried.into_iter().chain(others) {
+            let Some(colour) = colour(moment.did) else { continue };
+            let at = scale.at(self.opened.time(moment.point).0);
+            if signs.iter().all(|sign| (sign - at).abs() >= SIGN) {
+                self.mark(moment.did, at, axis);
+                signs.push(at);
+            } else if signs.iter().all(|sign| (sign - at).abs() >= SIGN / 2.0) && ticks.insert(at.round() as i64) {
+                self.line([at, axis - 8.0, at, axis + 8.0], &format!("stroke=\"{colour}\""));
+            }
+        }
+        let at = scale.at(self.opened.time(timeline.asked).0);
+        let (left, right, top, tip) = (at - 5.0, at + 5.0, axis - 19.0, axis - 10.0);
+        self.push(format!("<path d=\"M{left:.1} {top:.1} L{right:.1} {top:.1} L{at:.1} {tip:.1} Z\" fill=\"{INK}\"/>"));
     }
 
     fn strip_labels(&mut self, timeline: &Timeline, scale: &Scale, axis: f64) {
@@ -260,7 +279,7 @@ impl Drawing<'_> {
             let half = length(&label) / 2.0;
             let at = scale.at(self.opened.time(*by).0).clamp(scale.left + half, scale.right - half);
             let style = format!("fill=\"{YES}\" font-size=\"11\" text-anchor=\"middle\"");
-            self.text(at, axis - 18.0, &style, &label);
+            self.text(at, axis - 24.0, &style, &label);
         }
     }
 
@@ -321,26 +340,36 @@ impl Drawing<'_> {
 
     fn point(&mut self, timeline: &Timeline, moment: Moment, cells: &[String; 6], columns: &Columns, x: f64, y: f64) {
         self.line([x + 12.0, y - ROW / 2.0, x + 12.0, y + ROW / 2.0], &format!("stroke=\"{PALE}\""));
-        let colour = if moment.seen == Seen::Inside { INK } else { PALE };
-        self.circle(x + 12.0, y, 3.0, &format!("fill=\"{colour}\""));
-        self.mark(moment.did, x + 12.0, y);
-        let ink = match moment.did {
-            Did::Carried => YES,
-            Did::Failed | Did::FailedInVain(_) => NO,
-            Did::InVain(_) => VAIN,
-            _ if moment.seen == Seen::Inside || moment.point == timeline.asked => INK,
-            _ => GREY,
-        };
+        let dot = if moment.seen == Seen::Inside { TICK } else { PALE };
+        match colour(moment.did) {
+            Some(_) => self.mark(moment.did, x + 12.0, y),
+            None if moment.point == timeline.asked => {
+                self.circle(x + 12.0, y, 4.5, &format!("fill=\"#ffffff\" stroke=\"{INK}\" stroke-width=\"2\""));
+            }
+            None => self.circle(x + 12.0, y, 3.0, &format!("fill=\"{dot}\"")),
+        }
+        let plain = if moment.seen == Seen::Inside || moment.point == timeline.asked { INK } else { GREY };
+        let ink = colour(moment.did).unwrap_or(plain);
         for (k, cell) in cells.iter().enumerate() {
             // Numbers stand at the right of their column.
             let (at, anchor) = match k {
                 0 | 1 => (columns.starts[k] + columns.widths[k], " text-anchor=\"end\""),
                 _ => (columns.starts[k], ""),
             };
-            let weight = if k == 5 && ink != INK && ink != GREY { " font-weight=\"bold\"" } else { "" };
-            let fill = if k == 5 || ink == GREY { ink } else { INK };
+            let weight = if k == 5 && colour(moment.did).is_some() { " font-weight=\"bold\"" } else { "" };
+            let fill = if k == 5 { ink } else { plain };
             self.text(x + AXIS + at, y + 4.5, &format!("fill=\"{fill}\"{anchor}{weight}"), cell);
         }
+    }
+}
+
+/// The colour of what decided.
+fn colour(did: Did) -> Option<&'static str> {
+    match did {
+        Did::Carried => Some(YES),
+        Did::InVain(_) => Some(VAIN),
+        Did::Failed | Did::FailedInVain(_) => Some(NO),
+        _ => None,
     }
 }
 

@@ -82,7 +82,7 @@ pub struct Timeline {
     pub verdict: bool,
     /// What the call listed.
     pub listed: Vec<usize>,
-    /// Every point up to the one asked about.
+    /// Every point up to the one asked about; of Previous the last two.
     pub moments: Vec<Moment>,
     pub lines: Vec<Line>,
 }
@@ -105,16 +105,20 @@ impl Timeline {
         let did = Done { scan, asked, carried }.each();
         let moment = |(point, did): (usize, Option<Did>)| {
             let seen = seen(point);
-            let (in_reach, inside) = (scan != Scan::Previous || point + 1 == asked, seen == Seen::Inside);
-            let rest = match (inside, in_reach) {
-                (true, true) if !carried.verdict || carried.by().is_some_and(|by| point > by.0) => Did::No,
-                (true, _) => Did::NotAsked,
-                (false, _) => Did::Outside,
+            // Of Previous the point asked about is asked nothing, and the one before it all there is.
+            let in_reach = scan != Scan::Previous || point != asked;
+            let passed = carried.by().is_none_or(|by| point > by.0);
+            let rest = match seen {
+                Seen::Inside if in_reach && passed => Did::No,
+                Seen::Inside => Did::NotAsked,
+                _ => Did::Outside,
             };
             Moment { point, seen, did: did.unwrap_or(rest) }
         };
-        let moments: Vec<Moment> = did.into_iter().enumerate().map(moment).collect();
-        let lines = folded(&moments, asked);
+        let first = if scan == Scan::Previous { asked.saturating_sub(1) } else { 0 };
+        let moments: Vec<Moment> = did.into_iter().enumerate().skip(first).map(moment).collect();
+        let earlier = (first > 0).then(|| Line::Mixed { from: 0, to: first - 1, in_vain: 0 });
+        let lines = earlier.into_iter().chain(folded(&moments, asked)).collect();
         let listed = carried.points.iter().map(|point| point.0).collect();
         Timeline { scan, within, asked, verdict: carried.verdict, listed, moments, lines }
     }
@@ -137,7 +141,7 @@ impl Timeline {
             (Did::LeftHeld, _) => "left held".to_string(),
             (Did::No, Scan::Since) => "right did not hold".to_string(),
             (Did::No, _) => "did not hold".to_string(),
-            (Did::NotAsked, Scan::Previous) => String::new(),
+            (Did::NotAsked, _) if moment.point == self.asked => String::new(),
             (Did::NotAsked, _) => "not asked".to_string(),
             (Did::Outside, _) if moment.point == self.asked => String::new(),
             (Did::Outside, _) if moment.seen == Seen::TooOld => "too old".to_string(),
@@ -155,23 +159,22 @@ impl Timeline {
         match line {
             Line::One(moment) => self.says(moment),
             Line::Alike(first, to) => {
-                let says = self.says(Moment { point: first.point, ..first });
-                let count = to - first.point + 1;
-                if says.is_empty() {
-                    format!("{count} points")
-                } else {
-                    format!("{count} points, each: {says}")
-                }
+                format!("{}, each: {}", counted(to - first.point + 1), self.says(first))
             }
             Line::Mixed { from, to, in_vain } => {
                 let count = to - from + 1;
                 match in_vain {
-                    0 => format!("{count} points that did not decide"),
-                    _ => format!("{count} points; at {in_vain} of them right held, but left failed later"),
+                    0 if self.scan == Scan::Previous => counted(count) + ", not asked",
+                    0 => counted(count) + ", none of which decided it",
+                    _ => format!("{}; at {in_vain} of them right held, but left failed later", counted(count)),
                 }
             }
         }
     }
+}
+
+fn counted(points: usize) -> String {
+    format!("{points} point{}", if points == 1 { "" } else { "s" })
 }
 
 /// Reads the call's list.

@@ -4,7 +4,7 @@ use casefile::text::NodeTexts;
 use casefile::{time, Within};
 use galivodern::{Bound, PointNo, Value};
 
-use super::timeline::{seconds, Timeline};
+use super::timeline::{seconds, Scan, Timeline};
 use super::walk::{By, Part};
 use crate::ask::Question;
 use crate::failure::Failure;
@@ -127,8 +127,12 @@ pub fn window_words(opened: &Opened, timeline: &Timeline) -> String {
         return format!("{within}: no point lies in a negative window");
     }
     let from = now.checked_sub(span).map_or("the beginning of time".to_string(), clock);
+    let times = format!("{within}: from {from} to {}", clock(now));
+    if timeline.scan == Scan::Previous {
+        return times;
+    }
     let (inside, all) = (timeline.inside(), timeline.moments.len());
-    format!("{within}: from {from} to {}, {inside} of {all} points up to point {}", clock(now), timeline.asked)
+    format!("{times}; {inside} of the {all} points up to point {} lie in it", timeline.asked)
 }
 
 /// What happened at a point: the action with its namespace and kind.

@@ -12,6 +12,9 @@ use crate::ask::Question;
 /// No more parts of one rule are looked at than this: rules may share their parts many times over.
 const MOST_PARTS: usize = 200;
 
+const BOTH: &str = "all of its parts hold";
+const NEITHER: &str = "none of its parts holds";
+
 /// A part of a rule, the verdict that it has in it, and what decided that.
 pub struct Part {
     pub node: u32,
@@ -103,7 +106,7 @@ impl<'a> Walk<'a> {
         let under = lent.iter().fold(start.clone(), |under, &(v, bound)| under.with(VariableNo(v as u16), bound));
         let second = Part { bound: lent, ..self.part(right, &under)? };
         Ok(if second.verdict {
-            (true, By::Parts("both of its sides hold", vec![first, second]))
+            (true, By::Parts(BOTH, chained(BOTH, first, second)))
         } else {
             (false, By::Parts("its left side holds, its right side does not", vec![second]))
         })
@@ -136,7 +139,7 @@ impl<'a> Walk<'a> {
         Ok(if second.verdict {
             (true, By::Parts("its left side does not hold, its right side does", vec![second]))
         } else {
-            (false, By::Parts("neither of its sides holds", vec![first, second]))
+            (false, By::Parts(NEITHER, chained(NEITHER, first, second)))
         })
     }
 
@@ -160,6 +163,15 @@ impl<'a> Walk<'a> {
             By::Whole("what it asks for is put together from several events; list it with `rows`")
         })
     }
+}
+
+/// Both parts; those of a part that is decided in the same way stand in its place.
+fn chained(how: &str, first: Part, second: Part) -> Vec<Part> {
+    let parts = |part: Part| match part {
+        Part { by: By::Parts(same, parts), bound, .. } if same == how && bound.is_empty() => parts,
+        part => vec![part],
+    };
+    parts(first).into_iter().chain(parts(second)).collect()
 }
 
 /// The bindings but for one variable.

@@ -1,9 +1,7 @@
 //! `why` in words: the verdict, and under it a timeline for each part that decided.
 
 use super::timeline::{Did, Line, Moment, Seen, Timeline};
-use super::told::{
-    action, before, bound_words, clock, cut, fields_words, lasting, window_words, within, yes_or_no, Told,
-};
+use super::told::{action, before, bound_words, clock, cut, fields_words, lasting, window_words, yes_or_no, Told};
 use crate::ask::Question;
 use crate::help::wrapped;
 use crate::opened::Opened;
@@ -14,11 +12,12 @@ pub fn words(question: &Question, told: &Told) -> String {
     let (opened, point) = (&question.opened, question.point);
     let asked = question.asked.shown();
     let mut text = format!("{}: {asked} at point {point}, {}\n", yes_or_no(told.verdict), at(opened, point));
-    push(opened, told, "", &mut text);
+    push(opened, told, "", &told.text, &mut text);
     text
 }
 
-fn at(opened: &Opened, point: usize) -> String {
+/// When a point was.
+pub fn at(opened: &Opened, point: usize) -> String {
     let time = clock(opened.time(point).0);
     if time.contains('T') {
         time
@@ -28,10 +27,9 @@ fn at(opened: &Opened, point: usize) -> String {
 }
 
 /// A part, those that decided it below it and further in.
-fn push(opened: &Opened, told: &Told, indent: &str, text: &mut String) {
-    let bound = bound_words(opened, &told.bound);
+fn push(opened: &Opened, told: &Told, indent: &str, head: &str, text: &mut String) {
     text.push('\n');
-    text.push_str(&wrapped(&format!("{}: {}{bound}", yes_or_no(told.verdict), told.text), indent));
+    text.push_str(&wrapped(head, indent));
     let inner = format!("{indent}  ");
     if !told.how.is_empty() {
         text.push_str(&wrapped(&format!("{}{}", told.how, if told.parts.is_empty() { "" } else { ":" }), &inner));
@@ -44,7 +42,10 @@ fn push(opened: &Opened, told: &Told, indent: &str, text: &mut String) {
         text.push_str(&wrapped(&window_words(opened, timeline), &inner));
         text.push_str(&table(opened, timeline, &inner));
     }
-    told.parts.iter().for_each(|part| push(opened, part, &inner, text));
+    for part in &told.parts {
+        let head = format!("{}: {}{}", yes_or_no(part.verdict), part.text, bound_words(opened, &part.bound));
+        push(opened, part, &inner, &head, text);
+    }
 }
 
 /// A row of the table, before it is laid out; a row with nothing but a remark is an edge of the window.
@@ -60,15 +61,10 @@ fn table(opened: &Opened, timeline: &Timeline, indent: &str) -> String {
         cells: ["point", "time", "", "event", "logged"].map(str::to_string),
         says: "what it did".to_string(),
     }];
-    let mut seen = None;
+    let mut edges = Edges::default();
     for &line in &timeline.lines {
-        let now = line_seen(line);
-        if let (Some(was), Some(is)) = (seen, now) {
-            if let Some(edge) = edge(opened, timeline, was, is) {
-                rows.push(Row { mark: "-", cells: Default::default(), says: edge });
-            }
-        }
-        seen = now;
+        let edge = edges.next(opened, timeline, line);
+        rows.extend(edge.map(|says| Row { mark: "-", cells: Default::default(), says }));
         rows.push(row(opened, timeline, line));
     }
     let width = |k: usize| {
@@ -125,26 +121,33 @@ fn mark(moment: Moment) -> &'static str {
     }
 }
 
-/// Where all points of a line lie, if they lie alike.
-pub fn line_seen(line: Line) -> Option<Seen> {
-    match line {
-        Line::One(moment) | Line::Alike(moment, _) => Some(moment.seen),
-        Line::Mixed { .. } => None,
-    }
+/// What is written between two lines of which one lies in the window and the other outside, or on its other side.
+#[derive(Default)]
+pub struct Edges {
+    before: Option<Seen>,
+    begun: bool,
 }
 
-/// What is written between two lines of which one lies in the window and the other outside.
-pub fn edge(opened: &Opened, timeline: &Timeline, was: Seen, is: Seen) -> Option<String> {
-    let (span, now) = (super::timeline::seconds(timeline.within), opened.time(timeline.asked).0);
-    let within = within(timeline.within);
-    let oldest = now.checked_sub(span).map_or(String::new(), |from| format!(" {}", clock(from)));
-    match (was, is) {
-        (Seen::TooOld, Seen::Inside) => Some(format!("the window begins:{oldest}, {} back", lasting(span))),
-        (Seen::Inside, Seen::TooOld) => Some(format!("older than {within} again")),
-        (Seen::Inside, Seen::Later) => Some(format!("stamped later than point {}", timeline.asked)),
-        (Seen::Later, Seen::Inside) => Some("in the window again".to_string()),
-        (Seen::TooOld, Seen::Later) => Some(format!("stamped later than point {}", timeline.asked)),
-        (Seen::Later, Seen::TooOld) => Some(format!("older than {within}")),
-        _ => None,
+impl Edges {
+    /// What stands before the next line.
+    pub fn next(&mut self, opened: &Opened, timeline: &Timeline, line: Line) -> Option<String> {
+        let is = match line {
+            Line::One(moment) | Line::Alike(moment, _) => Some(moment.seen),
+            Line::Mixed { .. } => None,
+        };
+        let was = std::mem::replace(&mut self.before, is);
+        let (span, now) = (super::timeline::seconds(timeline.within), opened.time(timeline.asked).0);
+        let edge = match (was?, is?) {
+            (was, is) if was == is => return None,
+            (Seen::TooOld, Seen::Inside) if !self.begun => {
+                self.begun = true;
+                let from = now.checked_sub(span).map_or(String::new(), |from| format!(" at {}", clock(from)));
+                format!("the window begins{from}, {} back", lasting(span))
+            }
+            (_, Seen::Inside) => "in the window again".to_string(),
+            (_, Seen::TooOld) => format!("more than {} back", lasting(span)),
+            (_, Seen::Later) => format!("stamped later than point {}", timeline.asked),
+        };
+        Some(edge)
     }
 }

@@ -1,8 +1,8 @@
 /* Galivodern: rules over a board's log, checked by proved code.
  *
  * A case is one file: a log of points, and rules over it as numbered nodes.
- * You check a case once, then ask for the verdict of a condition at a point,
- * for the number of an aggregate, or for the rows that a condition finds.
+ * You check a case once, then ask a condition or an aggregate at a point, and
+ * get yes or no or a number; or you ask for the rows that a condition finds.
  *
  * Every call keeps to what you lend it. It allocates nothing, keeps nothing
  * from one call to the next, and reads and writes only the arrays passed to
@@ -40,7 +40,7 @@ enum galivodern_refusal {
     GALIVODERN_BAD_POINTS = 5,       /* a point or entity rule is broken */
     GALIVODERN_BAD_NODES = 6,        /* a node rule is broken, or a node is too high */
     GALIVODERN_NO_SUCH_POINT = 7,    /* the case has no such point */
-    GALIVODERN_NO_SUCH_NODE = 8,     /* no such node, or none of the sort that the call answers */
+    GALIVODERN_NO_SUCH_NODE = 8,     /* no such node, or a term; for rows an aggregate too */
     GALIVODERN_BAD_START = 9,        /* the starting bindings are malformed */
     GALIVODERN_BAD_LIMITS = 10,      /* a limit above its most, or a workspace too small */
     GALIVODERN_STEPS_EXHAUSTED = 11, /* the answer takes more steps than allowed */
@@ -57,7 +57,7 @@ enum galivodern_refusal {
 
 /* Cells of `contents` and of `told` that a call needs. */
 #define GALIVODERN_CONTENTS_CELLS 5
-#define GALIVODERN_TOLD_CELLS 3
+#define GALIVODERN_TOLD_CELLS 4
 
 /* What `contents` holds after a check that passes. */
 enum galivodern_contents {
@@ -68,11 +68,19 @@ enum galivodern_contents {
     GALIVODERN_NODES = 4
 };
 
-/* What `told` holds after a call that returned 0 to 13, a refusal too. */
+/* What `told` holds after a call that returned 0 to 15, a refusal too. */
 enum galivodern_told {
     GALIVODERN_ANSWER = 0, /* see each call; 0 where it refused */
-    GALIVODERN_STEPS = 1,  /* steps spent; 0 for refusals 1 to 10 */
-    GALIVODERN_HELD = 2    /* greatest number of rows held at once; 0 for refusals 1 to 10 */
+    GALIVODERN_STEPS = 1,  /* steps spent; 0 for refusals 1 to 10 and 15 */
+    GALIVODERN_HELD = 2,   /* greatest number of rows held at once; 0 for refusals 1 to 10 and 15 */
+    GALIVODERN_SORT = 3,   /* of galivodern_ask: one of those below; 0 where it refused, and for rows */
+    GALIVODERN_FILLED = 3  /* of galivodern_carried: the cells of `list` that were filled; 0 where it refused */
+};
+
+/* What the answer of galivodern_ask is. */
+enum galivodern_sort {
+    GALIVODERN_VERDICT = 0, /* a condition's: 1 for yes, 0 for no */
+    GALIVODERN_NUMBER = 1   /* an aggregate's: its 64 bits, to be read as int64_t */
 };
 
 /* Checks a case. Returns 0, or a refusal from 1 to 6: the lowest that applies.
@@ -95,9 +103,9 @@ uint64_t galivodern_window(int64_t span, int64_t from, int64_t to);
  * negative exactly for a later `to`. */
 int64_t galivodern_difference(int64_t from, int64_t to);
 
-/* The three questions take:
+/* The questions take:
  *
- *   point, node   where to ask, and what: a condition, or for `number` an aggregate;
+ *   point, node   where to ask, and what: a condition or, of galivodern_ask, an aggregate;
  *   start         starting bindings, exactly 2 * V cells, two for each variable:
  *                   0, 0   unbound
  *                   1, n   the integer with the 64 bits n
@@ -105,23 +113,19 @@ int64_t galivodern_difference(int64_t from, int64_t to);
  *                   3, s   string number s of the case, as an entity's own id or type;
  *   steps, room   the most steps that may be spent and the most rows that may be held;
  *   work          a workspace of at least 2 * V * room cells. Whatever is in it
- *                 counts for nothing. After 0, 11, 12 or 13 its first
+ *                 counts for nothing. After 0, 11, 12, 13 or 15 its first
  *                 2 * V * room cells are 0; later ones never change;
- *   told          at least three cells for the answer, steps and rows.
+ *   told          at least four cells for the answer, steps, rows and the answer's sort.
  *
  * They return 0 for an answer, else the lowest refusal that applies, save that
  * of 11 and 12 the one that is met first is given. Refusals 1 to 10 write
  * nothing but `told`; 100 writes nothing at all. */
 
-/* Whether a condition holds: the answer is 1 for yes, 0 for no. */
-uint64_t galivodern_verdict(const uint8_t *file, size_t file_len, size_t point, uint32_t node,
-                            const uint64_t *start, size_t start_len, uint64_t steps, size_t room,
-                            uint64_t *work, size_t work_len, uint64_t *told, size_t told_len);
-
-/* The number of an aggregate: the answer is its 64 bits, to be read as int64_t. */
-uint64_t galivodern_number(const uint8_t *file, size_t file_len, size_t point, uint32_t node,
-                           const uint64_t *start, size_t start_len, uint64_t steps, size_t room,
-                           uint64_t *work, size_t work_len, uint64_t *told, size_t told_len);
+/* Asks a node, be it a condition or an aggregate: GALIVODERN_SORT tells which
+ * the answer is. */
+uint64_t galivodern_ask(const uint8_t *file, size_t file_len, size_t point, uint32_t node,
+                        const uint64_t *start, size_t start_len, uint64_t steps, size_t room,
+                        uint64_t *work, size_t work_len, uint64_t *told, size_t told_len);
 
 /* The rows of a condition, on the variables in `binders`, each row once: the
  * answer is their number. On 0 the first 2 * binders_len cells for each row are
@@ -132,21 +136,41 @@ uint64_t galivodern_rows(const uint8_t *file, size_t file_len, size_t point, uin
                          uint64_t *work, size_t work_len, const uint32_t *binders, size_t binders_len,
                          uint64_t *output, size_t output_len, uint64_t *told, size_t told_len);
 
+/* Which event carried the yes: whether a node that is itself a Formerly, Previous
+ * or Since holds, 1 for yes, 0 for no, and the points that decided it. The limits
+ * hold for each verdict that it asks of its parts at one point; an answer tells 0
+ * steps and 0 rows. On 0 as many cells of `list` are filled as GALIVODERN_FILLED
+ * says, one a point:
+ *
+ *   yes           the latest point that carries it; for Since all later ones up to
+ *                 `point` behind it, at which left held;
+ *   no of Since   for each point of the window at which right held, the latest
+ *                 first: that point, and the first one after it at which left failed;
+ *   any other no  none.
+ *
+ * 2 * (point + 1) cells are always enough. Else, and beyond the cells filled,
+ * `list` is unchanged. Any other node is refused, 8. */
+uint64_t galivodern_carried(const uint8_t *file, size_t file_len, size_t point, uint32_t node,
+                            const uint64_t *start, size_t start_len, uint64_t steps, size_t room,
+                            uint64_t *work, size_t work_len, uint64_t *list, size_t list_len,
+                            uint64_t *told, size_t told_len);
+
 /* The same on a case that has passed galivodern_check, for those who ask many
  * questions of one case: what the calls above give, without checking again.
  * With a case that has not passed, what happens is undefined. */
-uint64_t galivodern_checked_verdict(const uint8_t *file, size_t file_len, size_t point, uint32_t node,
-                                    const uint64_t *start, size_t start_len, uint64_t steps, size_t room,
-                                    uint64_t *work, size_t work_len, uint64_t *told, size_t told_len);
-
-uint64_t galivodern_checked_number(const uint8_t *file, size_t file_len, size_t point, uint32_t node,
-                                   const uint64_t *start, size_t start_len, uint64_t steps, size_t room,
-                                   uint64_t *work, size_t work_len, uint64_t *told, size_t told_len);
+uint64_t galivodern_checked_ask(const uint8_t *file, size_t file_len, size_t point, uint32_t node,
+                                const uint64_t *start, size_t start_len, uint64_t steps, size_t room,
+                                uint64_t *work, size_t work_len, uint64_t *told, size_t told_len);
 
 uint64_t galivodern_checked_rows(const uint8_t *file, size_t file_len, size_t point, uint32_t node,
                                  const uint64_t *start, size_t start_len, uint64_t steps, size_t room,
                                  uint64_t *work, size_t work_len, const uint32_t *binders, size_t binders_len,
                                  uint64_t *output, size_t output_len, uint64_t *told, size_t told_len);
+
+uint64_t galivodern_checked_carried(const uint8_t *file, size_t file_len, size_t point, uint32_t node,
+                                    const uint64_t *start, size_t start_len, uint64_t steps, size_t room,
+                                    uint64_t *work, size_t work_len, uint64_t *list, size_t list_len,
+                                    uint64_t *told, size_t told_len);
 
 /* What a call's return means, in a sentence without a full stop; never NULL.
  * A number that no call returns is told as such. */
@@ -169,8 +193,7 @@ static inline const char *galivodern_refusal_text(uint64_t returned) {
     case GALIVODERN_NO_SUCH_POINT:
         return "the case has no such point";
     case GALIVODERN_NO_SUCH_NODE:
-        return "the case has no such node, or it is of another sort: verdicts and rows are asked of conditions, "
-               "numbers of counts and sums";
+        return "the case has no such node, or it cannot be asked: a term, or for rows a count or a sum";
     case GALIVODERN_BAD_START:
         return "a starting binding is malformed: no such variable, no such value or string, or an integer given as a "
                "value's number";

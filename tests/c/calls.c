@@ -6,6 +6,7 @@
 #include "galivodern.h"
 
 #define NONE 4294967295u
+#define VARIABLE 0u
 #define PREDICATE 1u
 #define COUNT 2u
 
@@ -94,53 +95,55 @@ static void test_window(void) {
 }
 
 static void test_verdict(ask *verdict, const uint8_t *file, size_t length) {
-    uint64_t work[5] = {8, 8, 8, 8, 8}, told[4] = {8, 8, 8, 8};
-    CHECK(verdict(file, length, 0, PREDICATE, unbound, 2, 9, 2, work, 5, told, 2) == GALIVODERN_TOO_FEW_CELLS);
-    CHECK(same(told, 8, 8, 8) && work[0] == 8);
-    CHECK(verdict(file, length, 1, PREDICATE, unbound, 2, 9, 2, work, 5, told, 4) == GALIVODERN_NO_SUCH_POINT);
-    CHECK(same(told, 0, 0, 0) && work[0] == 8);
-    CHECK(verdict(file, length, 0, COUNT, unbound, 2, 9, 2, work, 5, told, 4) == GALIVODERN_NO_SUCH_NODE);
-    CHECK(verdict(file, length, 0, PREDICATE, unbound, 1, 9, 2, work, 5, told, 4) == GALIVODERN_BAD_START);
-    CHECK(verdict(file, length, 0, PREDICATE, unbound, 2, 9, 3, work, 5, told, 4) == GALIVODERN_BAD_LIMITS);
-    CHECK(verdict(file, length, 0, PREDICATE, unbound, 2, GALIVODERN_MOST_STEPS + 1, 2, work, 5, told, 4) ==
+    uint64_t work[5] = {8, 8, 8, 8, 8}, told[5] = {8, 8, 8, 8, 8};
+    CHECK(verdict(file, length, 0, PREDICATE, unbound, 2, 9, 2, work, 5, told, 3) == GALIVODERN_TOO_FEW_CELLS);
+    CHECK(same(told, 8, 8, 8) && told[3] == 8 && work[0] == 8);
+    CHECK(verdict(file, length, 1, PREDICATE, unbound, 2, 9, 2, work, 5, told, 5) == GALIVODERN_NO_SUCH_POINT);
+    CHECK(same(told, 0, 0, 0) && told[GALIVODERN_SORT] == 0 && work[0] == 8);
+    CHECK(verdict(file, length, 0, VARIABLE, unbound, 2, 9, 2, work, 5, told, 5) == GALIVODERN_NO_SUCH_NODE);
+    CHECK(verdict(file, length, 0, COUNT + 1, unbound, 2, 9, 2, work, 5, told, 5) == GALIVODERN_NO_SUCH_NODE);
+    CHECK(verdict(file, length, 0, PREDICATE, unbound, 1, 9, 2, work, 5, told, 5) == GALIVODERN_BAD_START);
+    CHECK(verdict(file, length, 0, PREDICATE, unbound, 2, 9, 3, work, 5, told, 5) == GALIVODERN_BAD_LIMITS);
+    CHECK(verdict(file, length, 0, PREDICATE, unbound, 2, GALIVODERN_MOST_STEPS + 1, 2, work, 5, told, 5) ==
           GALIVODERN_BAD_LIMITS);
     CHECK(same(told, 0, 0, 0) && work[0] == 8);
-    CHECK(verdict(file, length, 0, PREDICATE, unbound, 2, 0, 0, work, 5, told, 4) == GALIVODERN_STEPS_EXHAUSTED);
+    CHECK(verdict(file, length, 0, PREDICATE, unbound, 2, 0, 0, work, 5, told, 5) == GALIVODERN_STEPS_EXHAUSTED);
     CHECK(same(told, 0, 0, 0) && work[0] == 8);
-    CHECK(verdict(file, length, 0, PREDICATE, unbound, 2, 9, 2, work, 5, told, 4) == GALIVODERN_ANSWERED);
-    CHECK(same(told, 1, 1, 0) && told[3] == 8);
+    CHECK(verdict(file, length, 0, PREDICATE, unbound, 2, 9, 2, work, 5, told, 5) == GALIVODERN_ANSWERED);
+    CHECK(same(told, 1, 1, 0) && told[GALIVODERN_SORT] == GALIVODERN_VERDICT && told[4] == 8);
     CHECK(work[0] == 0 && work[3] == 0 && work[4] == 8);
     CHECK(verdict(file, length, 0, PREDICATE, nine, 2, 9, 2, work, 5, told, 4) == GALIVODERN_ANSWERED);
-    CHECK(same(told, 0, 1, 0));
+    CHECK(same(told, 0, 1, 0) && told[GALIVODERN_SORT] == GALIVODERN_VERDICT);
 }
 
 static void test_number(ask *number, const uint8_t *file, size_t length) {
-    uint64_t work[4] = {8, 8, 8, 8}, told[3] = {8, 8, 8};
-    CHECK(number(file, length, 0, PREDICATE, unbound, 2, 9, 2, work, 4, told, 3) == GALIVODERN_NO_SUCH_NODE);
-    CHECK(number(file, length, 0, COUNT, unbound, 2, 9, 0, work, 4, told, 3) == GALIVODERN_ROOM_EXHAUSTED);
-    CHECK(same(told, 0, 2, 0) && work[0] == 8);
-    CHECK(number(file, length, 0, COUNT, unbound, 2, 9, 2, work, 4, told, 3) == GALIVODERN_ANSWERED);
-    CHECK(same(told, 1, 2, 1) && work[3] == 0);
-    CHECK(number(file, length, 0, COUNT, nine, 2, 9, 2, work, 4, told, 3) == GALIVODERN_ANSWERED);
-    CHECK(same(told, 1, 2, 1));
-    CHECK(number(file, length, 0, COUNT, unbound, 2, 9, 2, work, 4, told, 2) == GALIVODERN_TOO_FEW_CELLS);
+    uint64_t work[4] = {8, 8, 8, 8}, told[4] = {8, 8, 8, 8};
+    CHECK(number(file, length, 0, COUNT, unbound, 2, 9, 0, work, 4, told, 4) == GALIVODERN_ROOM_EXHAUSTED);
+    CHECK(same(told, 0, 2, 0) && told[GALIVODERN_SORT] == 0 && work[0] == 8);
+    CHECK(number(file, length, 0, COUNT, unbound, 2, 9, 2, work, 4, told, 4) == GALIVODERN_ANSWERED);
+    CHECK(same(told, 1, 2, 1) && told[GALIVODERN_SORT] == GALIVODERN_NUMBER && work[3] == 0);
+    CHECK(number(file, length, 0, COUNT, nine, 2, 9, 2, work, 4, told, 4) == GALIVODERN_ANSWERED);
+    CHECK(same(told, 1, 2, 1) && told[GALIVODERN_SORT] == GALIVODERN_NUMBER);
+    CHECK(number(file, length, 0, COUNT, unbound, 2, 9, 2, work, 4, told, 3) == GALIVODERN_TOO_FEW_CELLS);
 }
 
 static void test_rows(list *rows, const uint8_t *file, size_t length) {
     const uint32_t binders[2] = {0, 1};
-    uint64_t work[4], output[3] = {8, 8, 8}, told[3] = {8, 8, 8};
-    CHECK(rows(file, length, 0, PREDICATE, unbound, 2, 9, 2, work, 4, binders, 1, output, 3, told, 0) ==
+    uint64_t work[4], output[3] = {8, 8, 8}, told[4] = {8, 8, 8, 8};
+    CHECK(rows(file, length, 0, PREDICATE, unbound, 2, 9, 2, work, 4, binders, 1, output, 3, told, 3) ==
           GALIVODERN_TOO_FEW_CELLS);
-    CHECK(rows(file, length, 0, PREDICATE, unbound, 2, 9, 2, work, 4, binders, 1, output, 1, told, 3) ==
+    CHECK(rows(file, length, 0, PREDICATE, unbound, 2, 9, 2, work, 4, binders, 1, output, 1, told, 4) ==
           GALIVODERN_BAD_OUTPUT);
     CHECK(same(told, 0, 1, 1));
-    CHECK(rows(file, length, 0, PREDICATE, unbound, 2, 9, 2, work, 4, binders, 2, output, 3, told, 3) ==
+    CHECK(rows(file, length, 0, PREDICATE, unbound, 2, 9, 2, work, 4, binders, 2, output, 3, told, 4) ==
           GALIVODERN_BAD_OUTPUT);
+    CHECK(rows(file, length, 0, COUNT, unbound, 2, 9, 2, work, 4, binders, 1, output, 3, told, 4) ==
+          GALIVODERN_NO_SUCH_NODE);
     CHECK(same(output, 8, 8, 8));
-    CHECK(rows(file, length, 0, PREDICATE, unbound, 2, 9, 2, work, 4, binders, 1, output, 3, told, 3) ==
+    CHECK(rows(file, length, 0, PREDICATE, unbound, 2, 9, 2, work, 4, binders, 1, output, 3, told, 4) ==
           GALIVODERN_ANSWERED);
-    CHECK(same(told, 1, 1, 1) && same(output, 1, 7, 8));
-    CHECK(rows(file, length, 0, PREDICATE, nine, 2, 9, 2, work, 4, binders, 1, output, 3, told, 3) ==
+    CHECK(same(told, 1, 1, 1) && told[GALIVODERN_SORT] == 0 && same(output, 1, 7, 8));
+    CHECK(rows(file, length, 0, PREDICATE, nine, 2, 9, 2, work, 4, binders, 1, output, 3, told, 4) ==
           GALIVODERN_ANSWERED);
     CHECK(same(told, 0, 1, 0) && same(output, 1, 7, 8));
 }
@@ -168,19 +171,18 @@ static void test_refusal_text(void) {
 int main(void) {
     static uint8_t file[512];
     size_t length = write_case(file);
-    uint64_t told[3], work[4];
+    uint64_t told[4], work[4];
     test_refusal_text();
     test_check(file, length);
-    test_verdict(galivodern_verdict, file, length);
-    test_verdict(galivodern_checked_verdict, file, length);
-    test_number(galivodern_number, file, length);
-    test_number(galivodern_checked_number, file, length);
+    test_verdict(galivodern_ask, file, length);
+    test_verdict(galivodern_checked_ask, file, length);
+    test_number(galivodern_ask, file, length);
+    test_number(galivodern_checked_ask, file, length);
     test_rows(galivodern_rows, file, length);
     test_rows(galivodern_checked_rows, file, length);
     /* A damaged case is refused by each call that has not seen it checked. */
     file[64 + 24 + 48] = 7;
-    CHECK(galivodern_verdict(file, length, 0, PREDICATE, unbound, 2, 9, 2, work, 4, told, 3) ==
-          GALIVODERN_BAD_VALUES);
+    CHECK(galivodern_ask(file, length, 0, PREDICATE, unbound, 2, 9, 2, work, 4, told, 4) == GALIVODERN_BAD_VALUES);
     CHECK(same(told, 0, 0, 0));
     test_window();
     printf("%d checks, %d failed\n", checked, failed);

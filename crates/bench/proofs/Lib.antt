@@ -1,2 +1,2 @@
-pub mod Conditions
+pub mod Last
 pub mod Plans

@@ -13,11 +13,11 @@ use Rattle.meaning.specs.declared.Refusal.the-variants.{TooLarge, NoSuchNode}
 use Rattle.meaning.specs.Tests.{choose}
 use Rattle.meaning.specs.Laws.Tests.{yes, no}
 use Rattle.meaning.specs.Laws.Checked.{vars-most}
-use Rattle.meaning.specs.Case.{isSort, nodes, vars, conditions, sortOf, nodeAt}
+use Rattle.meaning.specs.Case.{nodes, vars, nodeAt}
 use Rattle.meaning.specs.Check.{check, Checked}
-use Rattle.meaning.specs.Calls.{verdictCall}
-use Rattle.calls.specs.declared.SaidVerdict.{SaidVerdict}
-use Rattle.calls.specs.Promises.{callOf, Verdicts}
+use Rattle.meaning.specs.Calls.{answerable, askCall}
+use Rattle.calls.specs.declared.SaidAnswer.{SaidAnswer}
+use Rattle.calls.specs.Promises.{callOf, Answers}
 use Rattle.casecheck.specs.declared.Contents.{Contents}
 use Rattle.casecheck.specs.declared.Checking.the-variants.{Refused}
 use Rattle.casecheck.specs.Answer.{contentsOf, answer, asChecking}
@@ -31,17 +31,17 @@ module _ (s : List ℕ) (k : Contents) (same : k ≡ contentsOf s) where
   unfolding planChecked
   no-last h = sym (yes _ (eq-eqb (nodes s) 0 (sym (ap (λ (k : Contents). k .nodes) same) ∙ h)))
 
-  kept : {r b : Bool} → r ≡ isSort conditions (sortOf (nodeAt s (k .nodes - 1))) → r ≡ b → isSort conditions (sortOf (nodeAt s (nodes s - 1))) ≡ b
-  kept e q = ap (λ (k : Contents). isSort conditions (sortOf (nodeAt s (k .nodes - 1)))) (sym same) ∙ sym e ∙ q
+  kept : {r b : Bool} → r ≡ answerable (nodeAt s (k .nodes - 1)) → r ≡ b → answerable (nodeAt s (nodes s - 1)) ≡ b
+  kept e q = ap (λ (k : Contents). answerable (nodeAt s (k .nodes - 1))) (sym same) ∙ sym e ∙ q
 
   some-node : (k .nodes ≡ 0 → ⊥) → eqb (nodes s) 0 ≡ false
   some-node h = ne-eqb (nodes s) 0 (λ q. h (ap (λ (k : Contents). k .nodes) same ∙ q))
 
-  pub wrong-last : (r : Bool) → (k .nodes ≡ 0 → ⊥) → r ≡ isSort conditions (sortOf (nodeAt s (k .nodes - 1))) → not r ≡ true → Refuse NoSuchNode ≡ planChecked s
+  pub wrong-last : (r : Bool) → (k .nodes ≡ 0 → ⊥) → r ≡ answerable (nodeAt s (k .nodes - 1)) → not r ≡ true → Refuse NoSuchNode ≡ planChecked s
   unfolding planChecked
   wrong-last r h e q = sym (no _ (some-node h) (no _ (kept e (not-true r q)) refl))
 
-  pub right-last : (r : Bool) → (k .nodes ≡ 0 → ⊥) → r ≡ isSort conditions (sortOf (nodeAt s (k .nodes - 1))) → not r ≡ false → Ask (record { node = record { 0 = k .nodes - 1 }; points = k .points; vars = k .vars }) ≡ planChecked s
+  pub right-last : (r : Bool) → (k .nodes ≡ 0 → ⊥) → r ≡ answerable (nodeAt s (k .nodes - 1)) → not r ≡ false → Ask (record { node = record { 0 = k .nodes - 1 }; points = k .points; vars = k .vars }) ≡ planChecked s
   unfolding planChecked
   right-last r h e q = sym (no _ (some-node h) (yes _ (kept e (not-false r q)) ∙ ap (λ (k : Contents). Ask (record { node = record { 0 = k .nodes - 1 }; points = k .points; vars = k .vars })) (sym same)))
 
@@ -82,7 +82,7 @@ module _ (s : List ℕ) where
     unfolding choose planAfter planChecked
     asked-by true o q e = absurd (not-refused _ e)
     asked-by false (some r) q e = absurd (not-refused _ e)
-    asked-by false none q e = (record { passes = q }, asked-last (eqb (nodes s) 0) (isSort conditions (sortOf (nodeAt s (nodes s - 1)))) e)
+    asked-by false none q e = (record { passes = q }, asked-last (eqb (nodes s) 0) (answerable (nodeAt s (nodes s - 1))) e)
 
     pub asked : Ask a ≡ planOf s → Checked s × (a ≡ askingOf s)
     asked e = asked-by (ltb 65536 (length s)) (check s) refl (unfold planOf in e)
@@ -101,7 +101,7 @@ module _ (s : List ℕ) (a : Asking) (c : Checked s) (same : a ≡ askingOf s) w
   unbound : take {A = ℕ} (2 * a .vars) (replicate 32 0) ≡ replicate (2 * vars s) 0
   unbound = zeros (2 * a .vars) 32 (omega (arith, few)) ∙ ap (λ (a : Asking). replicate (2 * a .vars) 0) same
 
-  pub asked-at : (point : ℕ) (work after : List ℕ) (r : SaidVerdict) → Verdicts (callOf s point (a .node .0) (take (2 * a .vars) (replicate 32 0)) (record { steps = 1000000; room = 256 }) work) after r → Verdicts (questionAt s point work) after r
+  pub asked-at : (point : ℕ) (work after : List ℕ) (r : SaidAnswer) → Answers (callOf s point (a .node .0) (take (2 * a .vars) (replicate 32 0)) (record { steps = 1000000; room = 256 }) work) after r → Answers (questionAt s point work) after r
   asked-at point work after r v = record {
-    is = v .is ∙ ap (λ (l : List ℕ). verdictCall (callOf s point (a .node .0) l (record { steps = 1000000; room = 256 }) work)) unbound ∙ ap (λ (a : Asking). verdictCall (callOf s point (a .node .0) (replicate (2 * vars s) 0) (record { steps = 1000000; room = 256 }) work)) same;
+    is = v .is ∙ ap (λ (l : List ℕ). askCall (callOf s point (a .node .0) l (record { steps = 1000000; room = 256 }) work)) unbound ∙ ap (λ (a : Asking). askCall (callOf s point (a .node .0) (replicate (2 * vars s) 0) (record { steps = 1000000; room = 256 }) work)) same;
   }

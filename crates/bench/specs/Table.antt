@@ -7,9 +7,9 @@ use lib.ListN.{length, replicate}
 use Rattle.meaning.specs.declared.Refusal.{Refusal}
 use Rattle.meaning.specs.declared.Refusal.the-variants.{TooLarge, NoSuchNode}
 use Rattle.meaning.specs.Tests.{choose}
-use Rattle.meaning.specs.Case.{nodes, points, vars, conditions, isSort, sortOf, nodeAt}
+use Rattle.meaning.specs.Case.{nodes, points, vars, nodeAt}
 use Rattle.meaning.specs.Check.{check}
-use Rattle.meaning.specs.Calls.{Call}
+use Rattle.meaning.specs.Calls.{Call, answerable}
 use Rattle.calls.specs.Promises.{callOf}
 use Rattle.bench.specs.declared.plan.Asking.{Asking}
 use Rattle.bench.specs.declared.plan.Plan.{Plan}
@@ -19,11 +19,11 @@ use Rattle.bench.specs.declared.plan.Plan.the-variants.{Ask, Refuse}
 abbrev pub askingOf : List ℕ → Asking
 askingOf s = record { node = record { 0 = nodes s - 1 }; points = points s; vars = vars s }
 
--- no last node, or one that is no condition, is refused
+-- no last node, or a term, is refused
 unfoldable pub planChecked : List ℕ → Plan
 planChecked s =
     choose (eqb (nodes s) 0) (Refuse NoSuchNode)
-    (choose (isSort conditions (sortOf (nodeAt s (nodes s - 1)))) (Ask (askingOf s)) (Refuse NoSuchNode))
+    (choose (answerable (nodeAt s (nodes s - 1))) (Ask (askingOf s)) (Refuse NoSuchNode))
 
 unfoldable pub planAfter : Option Refusal → List ℕ → Plan
 planAfter none s = planChecked s

@@ -1,4 +1,4 @@
-// Asks a case's last node at every point, and prints each verdict with its steps and the greatest number of rows held.
+// Asks a case's last node at every point, and prints each verdict or number with its steps and the greatest number of rows held.
 mod input;
 mod plan;
 mod print;

@@ -6,8 +6,9 @@ use meaning::Refusal;
 use stringcheck::both;
 ghost use mathlib.Core.Path.{_≡_};
 ghost use mathlib.Core.Bool.{Bool};
-ghost use Rattle.meaning.specs.Case.{conditions, isSort, sortOf, nodeAt};
+ghost use Rattle.meaning.specs.Case.{nodeAt};
 ghost use Rattle.meaning.specs.Check.{Checked};
+ghost use Rattle.meaning.specs.Calls.{answerable};
 ghost use Rattle.casecheck.specs.Answer.{contentsOf};
 ghost use Rattle.bench.specs.Table.{planChecked, planOf};
 
@@ -23,12 +24,16 @@ pub enum Plan {
     Refuse(Refusal),
 }
 
-fn is_condition(case: &[u8], node: NodeNo) -> bool
+// a condition or an aggregate, by its kind
+fn is_answerable(case: &[u8], node: NodeNo) -> bool
     requires { ⌜ Checked (now case) ⌝ }
-    ensures { λ r. ⌜ _≡_ {A = Bool} r (isSort conditions (sortOf (nodeAt (now (case .entry)) (node .0)))) ⌝ }
+    ensures { λ r. ⌜ _≡_ {A = Bool} r (answerable (nodeAt (now (case .entry)) (node .0))) ⌝ }
 {
     let kind = tables::node_word(case, node, 0);
-    both(1 <= kind, kind <= 10)
+    if both(1 <= kind, kind <= 10) {
+        return true;
+    }
+    both(30 <= kind, kind <= 31)
 }
 
 fn plan_checked(case: &[u8], contents: Contents) -> Plan
@@ -40,7 +45,7 @@ fn plan_checked(case: &[u8], contents: Contents) -> Plan
         return Plan::Refuse(Refusal::NoSuchNode);
     }
     let node = NodeNo(contents.nodes - 1);
-    if !is_condition(case, node) {
+    if !is_answerable(case, node) {
         return Plan::Refuse(Refusal::NoSuchNode);
     }
     Plan::Ask(Asking {

@@ -6,14 +6,14 @@ use crate::print;
 use meaning::Limits;
 ghost use mathlib.Core.Path.{_≡_};
 ghost use Rattle.meaning.specs.Check.{Checked};
-ghost use Rattle.calls.specs.Promises.{Verdicts};
+ghost use Rattle.calls.specs.Promises.{Answers};
 ghost use Rattle.bench.specs.Table.{askingOf, questionAt};
 
 // the last node at a point, all variables unbound
-fn at_point(case: &[u8], asking: Asking, point: usize, work: &mut [u64]) -> calls::SaidVerdict
+fn at_point(case: &[u8], asking: Asking, point: usize, work: &mut [u64]) -> calls::SaidAnswer
     requires { ⌜ Checked (now case) ⌝ }
     requires { ⌜ asking ≡ askingOf (now case) ⌝ }
-    ensures { λ r. ⌜ Verdicts (questionAt (now (case .entry)) point (now (work .entry))) (now (work .exit)) r ⌝ }
+    ensures { λ r. ⌜ Answers (questionAt (now (case .entry)) point (now (work .entry))) (now (work .exit)) r ⌝ }
 {
     let unbound = [0u64; 32];
     let cells = 2 * asking.vars;
@@ -21,7 +21,7 @@ fn at_point(case: &[u8], asking: Asking, point: usize, work: &mut [u64]) -> call
         steps: 1000000,
         room: 256,
     };
-    calls::checked::verdict(case, point, asking.node, &unbound[..cells], limits, work)
+    calls::checked::ask(case, point, asking.node, &unbound[..cells], limits, work)
 }
 
 // the workspace has 2 cells for each of 16 variables in 256 rows

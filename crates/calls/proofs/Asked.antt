@@ -1,152 +1,144 @@
--- An asking call put together: refused before its walk, or walked and its workspace cleared
+-- An asking call put together: refused before its walk, or walked and its workspace cleared; then the ask call
 use mathlib.Core.Path.{_≡_, refl, ap, sym, subst, _∙_}
-use mathlib.Core.Bool.{Bool}
+use mathlib.Core.Bool.{Bool, true, false}
 use mathlib.Core.List.{List, [], _++_}
 use mathlib.Core.Option.{none, some}
 use Prim.Native.Nat.{ℕ, _+_, _*_, _≤_, _<_}
-use native.Mathlib.Nat.{mul-comm, mul-le-mul-right}
 use native.Mathlib.Omega.{arith}
-use mir.Val.{Fits}
-use mir.Syntax.{w64}
-use lib.IntN.{ℤ}
 use lib.ListN.{length, take, drop, replicate, length-append}
 use lib.Seq.{length-take-le, drop-at}
 use Rattle.meaning.specs.declared.Env.{Env}
 use Rattle.meaning.specs.declared.Limits.{Limits}
 use Rattle.meaning.specs.declared.Meter.{Meter}
+use Rattle.meaning.specs.declared.Node.{Node}
 use Rattle.meaning.specs.declared.Refusal.{Refusal}
-use Rattle.meaning.specs.Walk.{W, started, outcome}
-use Rattle.meaning.specs.Case.{Sort, caseOf, vars}
+use Rattle.meaning.specs.Tests.{choose}
+use Rattle.meaning.specs.Walk.{W, started, Outcome, outcome}
+use Rattle.meaning.specs.Case.{caseOf, nodeAt, vars}
 use Rattle.meaning.specs.Check.{Checked}
 use Rattle.meaning.specs.Meaning.{Meaning, Question, meaning, question}
-use Rattle.meaning.specs.Calls.{numberOf, Call, Said, refuses, against, walkOf, unlessRefused, told, cleared, result, verdictCall, inBits, numberCall}
+use Rattle.meaning.specs.Calls.{numberOf, Call, Said, refuses, isAggregate, against, walkOf, unlessRefused, unlessAgainst, told, cleared, workspaceAfter, result, Answer, verdict, number, saying, askCall}
 use Rattle.meaning.specs.Calls.{asking as askingOf}
-use Rattle.meaning.specs.Laws.Calls.{against-early, refused-early, walk-clears, bits-clear}
+use Rattle.meaning.specs.Laws.Calls.{against-early, refused-early, walk-clears, saying-clears}
 use Rattle.matching.specs.Asking.{asking}
 use Rattle.evaluator.specs.declared.Call.{Call as WalkCall}
 use Rattle.evaluator.specs.declared.Verdict.{Verdict}
 use Rattle.evaluator.specs.declared.Number.{Number}
-use Rattle.evaluator.specs.Asks.{Ready, Decides, Numbers as NumbersOf, node, walkFor, numberFor}
-use Rattle.calls.specs.declared.opening.Sort.the-variants.{Condition, Aggregate}
+use Rattle.evaluator.specs.Asks.{Ready, Decides, Numbers, node, walkFor, numberFor}
+use Rattle.calls.specs.declared.opening.Wanted.the-variants.{Answerable}
 use Rattle.calls.specs.declared.opening.Against.the-variants.{Nothing, Refused}
 use Rattle.calls.specs.declared.opening.Opening.{Opening}
-use Rattle.calls.specs.declared.SaidVerdict.{SaidVerdict}
-use Rattle.calls.specs.declared.SaidVerdict.the-variants as Ver
-use Rattle.calls.specs.declared.SaidNumber.{SaidNumber}
-use Rattle.calls.specs.declared.SaidNumber.the-variants as Num
-use Rattle.calls.specs.Promises.{callOf, asVerdict, asNumber, Verdicts, Numbers}
-use Rattle.calls.specs.Opening.{sortFor, refusalIn, Opened, OpenedBy, Opens}
-use Rattle.calls.specs.Given.{TellsVerdict, TellsNumber}
+use Rattle.calls.specs.declared.SaidAnswer.{SaidAnswer}
+use Rattle.calls.specs.declared.SaidAnswer.the-variants as Ans
+use Rattle.calls.specs.Promises.{callOf, asAnswer, Answers}
+use Rattle.calls.specs.Opening.{wantedFor, refusalIn, Opened, OpenedBy, Opens}
+use Rattle.calls.specs.Given.{inBits, TellsVerdict, TellsNumber, answerFrom, TellsAnswer}
 
--- ---- where nothing is against a call
+-- ---- the opening and the ending of every asking call
 
-pub opened : {sort : Sort} {c : Call} {o : Opening} → Opens sort c o → o .against ≡ Nothing → Opened c (o .env)
-opened {sort} {c} {o} opens is = subst (OpenedBy c (o .env)) is (opens .opened)
+pub opened : {wanted : Node → Bool} {c : Call} {o : Opening} → Opens wanted c o → o .against ≡ Nothing → Opened c o
+opened {wanted} {c} {o} opens is = subst (OpenedBy c o) is (opens .opened)
 
--- the cells that the rows of a call take
-abbrev pub cellsFor : Env → Limits → ℕ
-cellsFor env limits = 2 * env .count * limits .room
-
--- what stays the same during a call
-abbrev pub walking : Limits → Env → ℕ → WalkCall
-walking limits env point = record { limits = limits; vars = env .count; asked = point }
-
-abbrev pub atStart : Meter
-atStart = record { steps = 0; held = 0; most = 0 }
-
-module _ {s : List ℕ} {point n : ℕ} {start : List ℕ} {limits : Limits} {work : List ℕ} {sort : Sort} {o : Opening} (checked : Checked s) (opens : Opens sort (callOf s point n start limits work) o) where
+module _ {s : List ℕ} {point n : ℕ} {start : List ℕ} {limits : Limits} {work : List ℕ} {wanted : Node → Bool} {o : Opening} (checked : Checked s) (opens : Opens wanted (callOf s point n start limits work) o) where
   -- refused by what is against it
-  pub asked-not : {A : Type 0} (manner : Meaning → Question → W A) (k : Refusal) → o .against ≡ Refused k → askingOf sort manner (callOf s point n start limits work) ≡ refuses (numberOf k) 0 0
-  unfolding askingOf unlessRefused refusalIn
-  asked-not manner k is =
-      let e : against sort (callOf s point n start limits work) ≡ some k = sym (opens .is) ∙ ap refusalIn is in rw (checked .passes, e) refl
+  pub said-not : {A : Type 0} (said : Said A) (k : Refusal) → o .against ≡ Refused k → unlessAgainst wanted (callOf s point n start limits work) said ≡ refuses (numberOf k) 0 0
+  unfolding unlessAgainst unlessRefused refusalIn
+  said-not said k is =
+      let e : against wanted (callOf s point n start limits work) ≡ some k = sym (opens .is) ∙ ap refusalIn is in rw (checked .passes, e) refl
+
+  pub asked-not : {A : Type 0} (manner : Meaning → Question → W A) (k : Refusal) → o .against ≡ Refused k → askingOf wanted manner (callOf s point n start limits work) ≡ refuses (numberOf k) 0 0
+  unfolding askingOf
+  asked-not manner k is = said-not _ k is
 
   pub unwritten : (A : Type 0) (output : List ℕ) (k : Refusal) → o .against ≡ Refused k → result {A = A} (callOf s point n start limits work) (refuses (numberOf k) 0 0) output ≡ record { said = refuses (numberOf k) 0 0; workspace = work; output = output }
   unfolding refusalIn
   unwritten A output k is =
-      refused-early A (callOf s point n start limits work) k output (against-early sort (callOf s point n start limits work) k (sym (opens .is) ∙ ap refusalIn is))
+      refused-early A (callOf s point n start limits work) k output (against-early wanted (callOf s point n start limits work) k (sym (opens .is) ∙ ap refusalIn is))
 
   module _ (is : o .against ≡ Nothing) where
-    pub few-cells : cellsFor (o .env) limits ≤ length work
-    few-cells = opened opens is .cells
+    pub few-cells : o .cells ≤ length work
+    few-cells = opened opens is .fits
 
-    pub few-vars : Fits w64 (2 * o .env .count)
-    few-vars = omega (arith, opened opens is .sized .few)
-
-    pub many-cells : Fits w64 (cellsFor (o .env) limits)
-    many-cells =
-        let h : 2 * o .env .count * limits .room ≤ 32 * limits .room = mul-le-mul-right (limits .room) (omega (arith, opened opens is .sized .few)) in
-        omega (arith, opened opens is .room)
-
-    pub point-in : point < 16384
+    pub point-in : o .call .asked < 16384
     point-in = opened opens is .point
 
-    pub part-long : length (take (cellsFor (o .env) limits) work) ≡ cellsFor (o .env) limits
-    part-long = length-take-le (cellsFor (o .env) limits) work few-cells
+    pub part-long : length (take (o .cells) work) ≡ o .cells
+    part-long = length-take-le (o .cells) work few-cells
 
-    pub ready : Ready s (walking limits (o .env) point) (o .env) atStart (take (cellsFor (o .env) limits) work)
-    ready =
-        let begun : Opened (callOf s point n start limits work) (o .env) = opened opens is in
-        record {
-          checked = checked;
-          vars = begun .count;
-          sized = begun .sized;
-          count = refl;
-          fit = record {
-            vars = begun .sized .few;
-            room = begun .room;
-            wide = omega (arith, part-long, mul-comm (limits .room) (2 * o .env .count));
-          };
-          held = omega arith;
-        }
+    pub ready : Ready s (o .call) (o .env) started (take (o .cells) work)
+    ready = opened opens is .ready
 
-    pub ready-started : Ready s (walking limits (o .env) point) (o .env) started (take (cellsFor (o .env) limits) work)
-    unfolding started
-    ready-started = ready
+    pub clear-in : (part : List ℕ) → length part ≡ length (take (o .cells) work) → o .cells ≤ length (part ++ drop (o .cells) work)
+    clear-in part long = omega (arith, length-append part (drop (o .cells) work), part-long)
 
-    pub clear-in : (part : List ℕ) → length part ≡ length (take (cellsFor (o .env) limits) work) → cellsFor (o .env) limits ≤ length (part ++ drop (cellsFor (o .env) limits) work)
-    clear-in part long = omega (arith, length-append part (drop (cellsFor (o .env) limits) work), part-long)
+    pub said-as : {A : Type 0} (said : Said A) → unlessAgainst wanted (callOf s point n start limits work) said ≡ said
+    unfolding unlessAgainst unlessRefused refusalIn
+    said-as said =
+        let e : against wanted (callOf s point n start limits work) ≡ none = sym (opens .is) ∙ ap refusalIn is in rw (checked .passes, e) refl
 
-    pub walked-as : {A : Type 0} (manner : Meaning → Question → W A) → askingOf sort manner (callOf s point n start limits work) ≡ told (outcome limits started (manner (meaning (caseOf s) n) (asking s point (o .env) point)))
-    unfolding askingOf unlessRefused refusalIn walkOf question asking
-    walked-as manner =
-        let e : against sort (callOf s point n start limits work) ≡ none = sym (opens .is) ∙ ap refusalIn is in
-        rw (checked .passes, e, opened opens is .bindings) refl
+    pub walked-as : {A : Type 0} (manner : Meaning → Question → W A) → askingOf wanted manner (callOf s point n start limits work) ≡ told (outcome (o .call .limits) started (manner (meaning (caseOf s) n) (asking s (o .call .asked) (o .env) (o .call .asked))))
+    unfolding askingOf walkOf question asking
+    walked-as manner = said-as _ ∙ rw (opened opens is .call, opened opens is .bindings) refl
 
-    pub workspace-as : (part : List ℕ) {after : List ℕ} → length part ≡ length (take (cellsFor (o .env) limits) work) → after ≡ cleared (cellsFor (o .env) limits) (part ++ drop (cellsFor (o .env) limits) work) → after ≡ cleared (2 * vars s * limits .room) work
+    -- cleared as the definition has it, whatever the walk left there
+    pub workspace-as : (part : List ℕ) {after : List ℕ} → length part ≡ length (take (o .cells) work) → after ≡ cleared (o .cells) (part ++ drop (o .cells) work) → after ≡ cleared (2 * vars s * limits .room) work
     unfolding cleared
     workspace-as part long is′ =
         is′
-        ∙ ap (λ (l : List ℕ). replicate (cellsFor (o .env) limits) 0 ++ l) (drop-at part (drop (cellsFor (o .env) limits) work) (cellsFor (o .env) limits) (long ∙ part-long))
-        ∙ ap (λ (v : ℕ). replicate (2 * v * limits .room) 0 ++ drop (2 * v * limits .room) work) (opened opens is .count)
+        ∙ ap (λ (l : List ℕ). replicate (o .cells) 0 ++ l) (drop-at part (drop (o .cells) work) (o .cells) (long ∙ part-long))
+        ∙ ap (λ (k : ℕ). replicate k 0 ++ drop k work) (opened opens is .cells)
 
--- ---- verdicts
+-- ---- the walk for an answer
 
-pub verdict-refused : {s : List ℕ} {point n : ℕ} {start : List ℕ} {limits : Limits} {work : List ℕ} {o : Opening} {k : Refusal} → Checked s → Opens (sortFor Condition) (callOf s point n start limits work) o → o .against ≡ Refused k → Verdicts (callOf s point n start limits work) work (Ver.Refuses k 0 0)
-unfolding verdictCall asVerdict sortFor
-verdict-refused {s} {point} {n} {start} {limits} {work} {k = k} checked opens is =
-    record { is = sym (ap (λ (said : Said Bool). result (callOf s point n start limits work) said []) (asked-not checked opens (λ m q. m .verdict q) k is) ∙ unwritten checked opens Bool [] k is) }
+module _ {s : List ℕ} {c : WalkCall} {e : Env} {n : ℕ} {before after : List ℕ} {r : SaidAnswer} {nd : Node} (is : nd ≡ nodeAt s n) where
+  pub answer-number : {v : Number} {b : Bool} → b ≡ isAggregate nd → b ≡ true → Numbers s c e n (c .asked) (record { steps = 0; held = 0; most = 0 }) before after v → TellsNumber v r → TellsAnswer s c e n r
+  unfolding answerFrom choose started
+  answer-number sort is-one comes tells =
+      let e : isAggregate (nodeAt s n) ≡ true = ap isAggregate (sym is) ∙ sym sort ∙ is-one in
+      record { is = rw e (tells .is ∙ ap (λ o. saying inBits (told o)) (comes .comes .is)) }
 
-pub verdict-told : {s : List ℕ} {point n : ℕ} {start : List ℕ} {limits : Limits} {work : List ℕ} {o : Opening} {v : Verdict} {part : List ℕ} {after : List ℕ} {r : SaidVerdict} → Checked s → Opens (sortFor Condition) (callOf s point n start limits work) o → o .against ≡ Nothing → Decides s (walking limits (o .env) point) (o .env) (node n point) atStart (take (cellsFor (o .env) limits) work) part v → length part ≡ length (take (cellsFor (o .env) limits) work) → after ≡ cleared (cellsFor (o .env) limits) (part ++ drop (cellsFor (o .env) limits) work) → TellsVerdict v r → Verdicts (callOf s point n start limits work) after r
-unfolding verdictCall result walkFor started sortFor
-verdict-told {s} {point} {n} {start} {limits} {work} {o} {part = part} checked opens is decides long after tells =
-    let a = walked-as checked opens is (λ m q. m .verdict q) in
+  pub answer-verdict : {v : Verdict} {b : Bool} → b ≡ isAggregate nd → b ≡ false → Decides s c e (node n (c .asked)) (record { steps = 0; held = 0; most = 0 }) before after v → TellsVerdict v r → TellsAnswer s c e n r
+  unfolding answerFrom choose started
+  answer-verdict sort is-none comes tells =
+      let e : isAggregate (nodeAt s n) ≡ false = ap isAggregate (sym is) ∙ sym sort ∙ is-none in
+      record { is = rw e (tells .is ∙ ap (λ o. saying verdict (told o)) (comes .comes .is)) }
+
+-- ---- the ask call
+
+pub saying-refuses : {A B : Type 0} (f : A → B) {said : Said A} {k : ℕ} → said ≡ refuses k 0 0 → saying f said ≡ refuses k 0 0
+unfolding saying
+saying-refuses f e = rw e refl
+
+pub chosen : {A : Type 0} (b : Bool) {x y z : A} → x ≡ z → y ≡ z → choose b x y ≡ z
+unfolding choose
+chosen true e e′ = e
+chosen false e e′ = e′
+
+pub ask-refused : {s : List ℕ} {point n : ℕ} {start : List ℕ} {limits : Limits} {work : List ℕ} {o : Opening} {k : Refusal} → Checked s → Opens (wantedFor Answerable) (callOf s point n start limits work) o → o .against ≡ Refused k → Answers (callOf s point n start limits work) work (Ans.Refuses k 0 0)
+unfolding askCall asAnswer wantedFor
+ask-refused {s} {point} {n} {start} {limits} {work} {k = k} checked opens is =
     let c : Call = callOf s point n start limits work in
-    let clears = walk-clears c limits (meaning (caseOf s) n .verdict (asking s point (o .env) point)) in
-    record { is = cc (a, decides .comes .is, tells .is, workspace-as checked opens is part long after, clears) }
+    record {
+      is = sym (
+          ap (λ (said : Said Answer). result c said []) (chosen (isAggregate (nodeAt s n)) (saying-refuses _ (asked-not checked opens (λ m q. m .number q) k is)) (saying-refuses _ (asked-not checked opens (λ m q. m .verdict q) k is)))
+          ∙ unwritten checked opens Answer [] k is
+          );
+    }
 
--- ---- numbers
+-- what a walk tells clears the workspace, in either manner
+answer-clears : (c : Call) (s : List ℕ) (w : WalkCall) (e : Env) (n : ℕ) → workspaceAfter c (answerFrom s w e n) ≡ cleared (2 * vars (c .file) * c .limits .room) (c .workspace)
+unfolding answerFrom choose
+answer-clears c s w e n = go (isAggregate (nodeAt s n))
+  where
+    go : (b : Bool) → workspaceAfter c (choose b (saying inBits (told (outcome (w .limits) started (numberFor s w e n (w .asked))))) (saying verdict (told (outcome (w .limits) started (walkFor s w e (node n (w .asked))))))) ≡ cleared (2 * vars (c .file) * c .limits .room) (c .workspace)
+    go true = saying-clears inBits c _ ∙ walk-clears c (w .limits) (numberFor s w e n (w .asked))
+    go false = saying-clears verdict c _ ∙ walk-clears c (w .limits) (walkFor s w e (node n (w .asked)))
 
-pub number-refused : {s : List ℕ} {point n : ℕ} {start : List ℕ} {limits : Limits} {work : List ℕ} {o : Opening} {k : Refusal} → Checked s → Opens (sortFor Aggregate) (callOf s point n start limits work) o → o .against ≡ Refused k → Numbers (callOf s point n start limits work) work (Num.Refuses k 0 0)
-unfolding numberCall asNumber inBits sortFor
-number-refused {s} {point} {n} {start} {limits} {work} {k = k} checked opens is =
-    record { is = sym (ap (λ (said : Said ℤ). result (callOf s point n start limits work) (inBits said) []) (asked-not checked opens (λ m q. m .number q) k is) ∙ unwritten checked opens ℕ [] k is) }
-
-pub number-told : {s : List ℕ} {point n : ℕ} {start : List ℕ} {limits : Limits} {work : List ℕ} {o : Opening} {v : Number} {part : List ℕ} {after : List ℕ} {r : SaidNumber} → Checked s → Opens (sortFor Aggregate) (callOf s point n start limits work) o → o .against ≡ Nothing → NumbersOf s (walking limits (o .env) point) (o .env) n point atStart (take (cellsFor (o .env) limits) work) part v → length part ≡ length (take (cellsFor (o .env) limits) work) → after ≡ cleared (cellsFor (o .env) limits) (part ++ drop (cellsFor (o .env) limits) work) → TellsNumber v r → Numbers (callOf s point n start limits work) after r
-unfolding numberCall result numberFor started sortFor
-number-told {s} {point} {n} {start} {limits} {work} {o} {part = part} checked opens is decides long after tells =
+pub ask-told : {s : List ℕ} {point n : ℕ} {start : List ℕ} {limits : Limits} {work : List ℕ} {o : Opening} (part : List ℕ) {after : List ℕ} {r : SaidAnswer} → Checked s → Opens (wantedFor Answerable) (callOf s point n start limits work) o → o .against ≡ Nothing → TellsAnswer s (o .call) (o .env) n r → length part ≡ length (take (o .cells) work) → after ≡ cleared (o .cells) (part ++ drop (o .cells) work) → Answers (callOf s point n start limits work) after r
+unfolding askCall result answerFrom walkFor numberFor wantedFor choose
+ask-told {s} {point} {n} {start} {limits} {work} {o} part checked opens is tells long after =
+    let c : Call = callOf s point n start limits work in
     let a = walked-as checked opens is (λ m q. m .number q) in
-    let c : Call = callOf s point n start limits work in
-    let w : W ℤ = meaning (caseOf s) n .number (asking s point (o .env) point) in
-    let clears = bits-clear c (told (outcome limits started w)) ∙ walk-clears c limits w in
-    record { is = cc (a, decides .comes .is, tells .is, workspace-as checked opens is part long after, clears) }
+    let b = walked-as checked opens is (λ m q. m .verdict q) in
+    let clears = answer-clears c s (o .call) (o .env) n in
+    record { is = cc (a, b, tells .is, workspace-as checked opens is part long after, clears) }

@@ -6,7 +6,10 @@ use mathlib.Core.Option.{Option, some}
 use Prim.Native.Nat.{ℕ, _*_, _≤_, _<_}
 use mathlib.Core.Logic.{inl, inr}
 use native.Mathlib.Omega.{arith}
-use native.Mathlib.Nat.{mul-le-mul, mul-le-mul-left}
+use native.Mathlib.Nat.{mul-comm, mul-le-mul, mul-le-mul-left}
+use lib.Seq.{length-take-le}
+use Rattle.evaluator.specs.declared.Call.{Call as WalkCall}
+use Rattle.rows.specs.Slots.{Sized}
 use lib.Dec.{leb, ltb}
 use lib.ListN.{length}
 use mir.Val.{Fits}
@@ -15,26 +18,28 @@ use types.Run.{OneOf}
 use denote.Enum.Declared.{tagOf}
 use borrow.Author.Tests.{leb-true, le-leb, lt-leb, lt-ltb, le-ltb, ltb-true, ltb-false, not-true, not-false}
 use Rattle.meaning.proofs.Node.{the-type}
+use Rattle.meaning.specs.declared.Env.{Env}
 use Rattle.meaning.specs.declared.Limits.{Limits}
 use Rattle.meaning.specs.declared.Node.{Node}
 use Rattle.meaning.specs.declared.Node.the-variants.{And, Or, Not, Formerly, Previous, Since, Predicate, Comparison, Exists, Tp, Literal, Context, Scope, Variable, Wildcard, Aggregate, Arithmetic, Sum, Count, Broken}
 use Rattle.meaning.specs.declared.Refusal.{Refusal}
 use Rattle.meaning.specs.declared.Refusal.the-variants.{NoSuchPoint, NoSuchNode, BadStart, BadLimits}
-use Rattle.meaning.specs.Tests.{_and_, firstBroken, onlyIf, isSome, pick}
+use Rattle.meaning.specs.Tests.{_and_, _or_, firstBroken, onlyIf, isSome, pick}
 use Rattle.meaning.specs.Case.{Sort, conditions, terms, aggregates, broken, isSort, sortOf, points, nodes, vars, nodeAt}
+use Rattle.meaning.specs.Walk.{started}
 use Rattle.meaning.specs.Check.{Checked, bodies}
 use Rattle.meaning.specs.Rows.{rowOf}
-use Rattle.meaning.specs.Calls.{Call, against, startRow, startOr}
+use Rattle.meaning.specs.Calls.{Call, isCondition, isAggregate, answerable, against, startRow, startOr}
 use Rattle.meaning.specs.Laws.Tests.{both, yes, no}
 use Rattle.meaning.specs.Laws.Checked.{checked-bodies, points-most}
 use Rattle.meaning.specs.Laws.Nodes.{node-beyond}
-use Rattle.calls.specs.declared.opening.Sort.{Sort as Wanted}
-use Rattle.calls.specs.declared.opening.Sort.the-variants.{Condition, Aggregate as Aggregates}
+use Rattle.calls.specs.declared.opening.Wanted.{Wanted}
+use Rattle.calls.specs.declared.opening.Wanted.the-variants.{Answerable, Condition}
 use Rattle.calls.specs.declared.opening.Opening.{Opening}
 use Rattle.calls.specs.declared.opening.Against.the-variants.{Nothing}
 use Rattle.calls.specs.declared.start.Start.{Start}
 use Rattle.calls.specs.Start.{Starts}
-use Rattle.calls.specs.Opening.{sortFor, inLimits, refusalIn, turnedDown, Opens}
+use Rattle.calls.specs.Opening.{wantedFor, inLimits, refusalIn, turnedDown, Opens}
 
 -- ---- sorts, by the number of a node's variant
 
@@ -86,45 +91,54 @@ module _ (sort : Sort) (ks : List ℕ) (nd : Node) (h : OneOf ks (tagOf the-type
   is-not-of all = sym (rw (sort-is nd) (not-true _ (one-of (λ k. not (isSort sort (pick sorts k broken))) ks (tagOf the-type nd) all h)))
 
 module _ (nd : Node) where
-  pub condition : OneOf (0 ∷ 1 ∷ 2 ∷ 3 ∷ 4 ∷ 5 ∷ 6 ∷ 7 ∷ 8 ∷ 9 ∷ []) (tagOf the-type nd) → true ≡ isSort conditions (sortOf nd)
-  unfolding allOf isSort pick sorts _and_
+  pub condition : OneOf (0 ∷ 1 ∷ 2 ∷ 3 ∷ 4 ∷ 5 ∷ 6 ∷ 7 ∷ 8 ∷ 9 ∷ []) (tagOf the-type nd) → true ≡ isCondition nd
+  unfolding isCondition allOf isSort pick sorts _and_
   condition h = is-of conditions (0 ∷ 1 ∷ 2 ∷ 3 ∷ 4 ∷ 5 ∷ 6 ∷ 7 ∷ 8 ∷ 9 ∷ []) nd h refl
 
-  pub no-condition : OneOf (10 ∷ 11 ∷ 12 ∷ 13 ∷ 14 ∷ 15 ∷ 16 ∷ 17 ∷ 18 ∷ 19 ∷ []) (tagOf the-type nd) → false ≡ isSort conditions (sortOf nd)
-  unfolding allOf isSort pick sorts _and_
+  pub no-condition : OneOf (10 ∷ 11 ∷ 12 ∷ 13 ∷ 14 ∷ 15 ∷ 16 ∷ 17 ∷ 18 ∷ 19 ∷ []) (tagOf the-type nd) → false ≡ isCondition nd
+  unfolding isCondition allOf isSort pick sorts _and_
   no-condition h = is-not-of conditions (10 ∷ 11 ∷ 12 ∷ 13 ∷ 14 ∷ 15 ∷ 16 ∷ 17 ∷ 18 ∷ 19 ∷ []) nd h refl
 
-  pub aggregate : OneOf (17 ∷ 18 ∷ []) (tagOf the-type nd) → true ≡ isSort aggregates (sortOf nd)
-  unfolding allOf isSort pick sorts _and_
+  pub aggregate : OneOf (17 ∷ 18 ∷ []) (tagOf the-type nd) → true ≡ isAggregate nd
+  unfolding isAggregate allOf isSort pick sorts _and_
   aggregate h = is-of aggregates (17 ∷ 18 ∷ []) nd h refl
 
-  pub no-aggregate : OneOf (0 ∷ 1 ∷ 2 ∷ 3 ∷ 4 ∷ 5 ∷ 6 ∷ 7 ∷ 8 ∷ 9 ∷ 10 ∷ 11 ∷ 12 ∷ 13 ∷ 14 ∷ 15 ∷ 16 ∷ 19 ∷ []) (tagOf the-type nd) → false ≡ isSort aggregates (sortOf nd)
-  unfolding allOf isSort pick sorts _and_
+  pub no-aggregate : OneOf (0 ∷ 1 ∷ 2 ∷ 3 ∷ 4 ∷ 5 ∷ 6 ∷ 7 ∷ 8 ∷ 9 ∷ 10 ∷ 11 ∷ 12 ∷ 13 ∷ 14 ∷ 15 ∷ 16 ∷ 19 ∷ []) (tagOf the-type nd) → false ≡ isAggregate nd
+  unfolding isAggregate allOf isSort pick sorts _and_
   no-aggregate h = is-not-of aggregates (0 ∷ 1 ∷ 2 ∷ 3 ∷ 4 ∷ 5 ∷ 6 ∷ 7 ∷ 8 ∷ 9 ∷ 10 ∷ 11 ∷ 12 ∷ 13 ∷ 14 ∷ 15 ∷ 16 ∷ 19 ∷ []) nd h refl
 
-module _ (sort : Wanted) (nd : Node) (r : Bool) where
-  pub sort-condition : sort ≡ Condition → r ≡ isSort conditions (sortOf nd) → r ≡ isSort (sortFor sort) (sortOf nd)
-  unfolding sortFor
-  sort-condition e is = rw e is
+module _ (nd : Node) {r : Bool} (is : r ≡ isCondition nd) where
+  pub answerable-first : r ≡ true → true ≡ answerable nd
+  unfolding answerable _or_
+  answerable-first e = rw (← is, e) refl
 
-  pub sort-aggregate : sort ≡ Aggregates → r ≡ isSort aggregates (sortOf nd) → r ≡ isSort (sortFor sort) (sortOf nd)
-  unfolding sortFor
-  sort-aggregate e is = rw e is
+  pub answerable-second : {r′ : Bool} → r ≡ false → r′ ≡ isAggregate nd → r′ ≡ answerable nd
+  unfolding answerable _or_
+  answerable-second e is′ = rw (← is, e) is′
 
--- beyond the table no node is of a sort that is asked for
-broken-none : (sort : Wanted) → isSort (sortFor sort) (sortOf Broken) ≡ false
-unfolding isSort sortOf sortFor
+module _ (wanted : Wanted) (nd : Node) {r : Bool} where
+  pub wants-answerable : wanted ≡ Answerable → r ≡ answerable nd → r ≡ wantedFor wanted nd
+  unfolding wantedFor
+  wants-answerable e is = rw e is
+
+  pub wants-condition : wanted ≡ Condition → r ≡ isCondition nd → r ≡ wantedFor wanted nd
+  unfolding wantedFor
+  wants-condition e is = rw e is
+
+-- beyond the table stands no node that a call is about
+broken-none : (wanted : Wanted) → wantedFor wanted Broken ≡ false
+unfolding wantedFor answerable isCondition isAggregate isSort sortOf _or_
+broken-none Answerable = refl
 broken-none Condition = refl
-broken-none Aggregates = refl
 
-no-sort-beyond : (sort : Wanted) (s : List ℕ) (n : ℕ) → bodies s ≡ true → (ltb n (nodes s) and isSort (sortFor sort) (sortOf (nodeAt s n))) ≡ isSort (sortFor sort) (sortOf (nodeAt s n))
+none-beyond : (wanted : Wanted) (s : List ℕ) (n : ℕ) → bodies s ≡ true → (ltb n (nodes s) and wantedFor wanted (nodeAt s n)) ≡ wantedFor wanted (nodeAt s n)
 unfolding _and_
-no-sort-beyond sort s n h =
+none-beyond wanted s n h =
     go (ltb n (nodes s)) refl
   where
-    go : (b : Bool) → ltb n (nodes s) ≡ b → (b and isSort (sortFor sort) (sortOf (nodeAt s n))) ≡ isSort (sortFor sort) (sortOf (nodeAt s n))
+    go : (b : Bool) → ltb n (nodes s) ≡ b → (b and wantedFor wanted (nodeAt s n)) ≡ wantedFor wanted (nodeAt s n)
     go true e = refl
-    go false e = sym (rw (node-beyond s h n (ltb-false n (nodes s) e)) (broken-none sort))
+    go false e = sym (rw (node-beyond s h n (ltb-false n (nodes s) e)) (broken-none wanted))
 
 -- ---- limits
 
@@ -157,6 +171,13 @@ module _ (vars : ℕ) (limits : Limits) (cells : ℕ) where
 pub room-fits : {v n : ℕ} → v ≤ 16 → n ≤ 16384 → Fits w64 (2 * v * n)
 room-fits {v} {n} few small = record { fits = omega (arith, mul-le-mul (mul-le-mul-left 2 few) small) }
 
+-- where nothing is beyond its limit, the cells of the rows can be counted
+pub few-vars : {env : Env} → Sized env → Fits w64 (2 * env .count)
+few-vars sized = record { fits = omega (arith, sized .few) }
+
+pub many-cells : {env : Env} (limits : Limits) (cells : ℕ) {over : Bool} → Sized env → over ≡ not (inLimits (env .count) limits cells) → over ≡ false → Fits w64 (2 * env .count * limits .room)
+many-cells {env} limits cells sized over-is fits = room-fits (sized .few) (limits-are (env .count) limits cells (not-false _ (sym over-is ∙ fits)) .0)
+
 some-if : {A : Type 0} (b : Bool) (x : A) → isSome (onlyIf b x) ≡ b
 unfolding isSome onlyIf
 some-if true x = refl
@@ -164,7 +185,7 @@ some-if false x = refl
 
 -- ---- a call, refused or opened
 
-module _ (sort : Wanted) (c : Call) (first : Start) where
+module _ (wanted : Wanted) (c : Call) (first : Start) (call : WalkCall) where
   abbrev limits-last : List (Bool × Refusal)
   limits-last = (inLimits (vars (c .file)) (c .limits) (length (c .workspace)), BadLimits) ∷ []
 
@@ -172,62 +193,74 @@ module _ (sort : Wanted) (c : Call) (first : Start) where
   start-next = (isSome (startRow (c .file) (vars (c .file)) (c .start)), BadStart) ∷ limits-last
 
   abbrev node-next : List (Bool × Refusal)
-  node-next = (ltb (c .node) (nodes (c .file)) and isSort (sortFor sort) (sortOf (nodeAt (c .file) (c .node))), NoSuchNode) ∷ start-next
+  node-next = (ltb (c .node) (nodes (c .file)) and wantedFor wanted (nodeAt (c .file) (c .node)), NoSuchNode) ∷ start-next
 
-  refused-with : (n : Refusal) {r : Opening} → against (sortFor sort) c ≡ some n → r ≡ turnedDown n (first .env) → Opens (sortFor sort) c r
+  refused-with : (n : Refusal) {r : Opening} → against (wantedFor wanted) c ≡ some n → r ≡ turnedDown n (first .env) call → Opens (wantedFor wanted) c r
   unfolding refusalIn
   refused-with n e is = rw is (record { is = sym e; opened = tt })
 
   module _ (many : ℕ) (points-are : many ≡ points (c .file)) where
-    pub no-such-point : {r : Opening} → many ≤ c .point → r ≡ turnedDown NoSuchPoint (first .env) → Opens (sortFor sort) c r
+    pub no-such-point : {r : Opening} → many ≤ c .point → r ≡ turnedDown NoSuchPoint (first .env) call → Opens (wantedFor wanted) c r
     unfolding against
     no-such-point le is = refused-with NoSuchPoint (no _ (le-ltb (c .point) (points (c .file)) (omega arith)) refl) is
 
-    module _ (there : c .point < many) (passed : Checked (c .file)) (nd : Node) (node-is : nd ≡ nodeAt (c .file) (c .node)) (right : Bool) (sorted : right ≡ isSort (sortFor sort) (sortOf nd)) where
-      past-point : {x : Option Refusal} → firstBroken node-next ≡ x → against (sortFor sort) c ≡ x
+    module _ (there : c .point < many) (passed : Checked (c .file)) (nd : Node) (node-is : nd ≡ nodeAt (c .file) (c .node)) (right : Bool) (sorted : right ≡ wantedFor wanted nd) where
+      past-point : {x : Option Refusal} → firstBroken node-next ≡ x → against (wantedFor wanted) c ≡ x
       unfolding against
       past-point e = yes _ (lt-ltb (c .point) (points (c .file)) (omega arith)) ∙ e
 
-      node-test : (ltb (c .node) (nodes (c .file)) and isSort (sortFor sort) (sortOf (nodeAt (c .file) (c .node)))) ≡ right
+      node-test : (ltb (c .node) (nodes (c .file)) and wantedFor wanted (nodeAt (c .file) (c .node))) ≡ right
       node-test =
-          no-sort-beyond sort (c .file) (c .node) (checked-bodies passed)
-          ∙ sym (sorted ∙ ap (λ (n : Node). isSort (sortFor sort) (sortOf n)) node-is)
+          none-beyond wanted (c .file) (c .node) (checked-bodies passed)
+          ∙ sym (sorted ∙ ap (wantedFor wanted) node-is)
 
-      pub no-such-node : {r : Opening} → not right ≡ true → r ≡ turnedDown NoSuchNode (first .env) → Opens (sortFor sort) c r
+      pub no-such-node : {r : Opening} → not right ≡ true → r ≡ turnedDown NoSuchNode (first .env) call → Opens (wantedFor wanted) c r
       no-such-node wrong is = refused-with NoSuchNode (past-point (no _ (node-test ∙ not-true right wrong) refl)) is
 
       module _ (fine : not right ≡ false) (starts : Starts (c .file) (c .start) first) where
-        past-node : {x : Option Refusal} → firstBroken start-next ≡ x → against (sortFor sort) c ≡ x
+        past-node : {x : Option Refusal} → firstBroken start-next ≡ x → against (wantedFor wanted) c ≡ x
         past-node e = past-point (yes _ (node-test ∙ not-false right fine) ∙ e)
 
         start-test : isSome (startRow (c .file) (vars (c .file)) (c .start)) ≡ first .ok
         start-test = rw (← starts .is) (some-if (first .ok) (rowOf (first .env)))
 
-        pub bad-start : {r : Opening} → not (first .ok) ≡ true → r ≡ turnedDown BadStart (first .env) → Opens (sortFor sort) c r
+        pub bad-start : {r : Opening} → not (first .ok) ≡ true → r ≡ turnedDown BadStart (first .env) call → Opens (wantedFor wanted) c r
         bad-start wrong is = refused-with BadStart (past-node (no _ (start-test ∙ not-true (first .ok) wrong) refl)) is
 
         module _ (good : not (first .ok) ≡ false) (over : Bool) (over-is : over ≡ not (inLimits (first .env .count) (c .limits) (length (c .workspace)))) where
-          past-start : {x : Option Refusal} → firstBroken limits-last ≡ x → against (sortFor sort) c ≡ x
+          past-start : {x : Option Refusal} → firstBroken limits-last ≡ x → against (wantedFor wanted) c ≡ x
           past-start e = past-node (yes _ (start-test ∙ not-false (first .ok) good) ∙ e)
 
           limits-test : not (inLimits (vars (c .file)) (c .limits) (length (c .workspace))) ≡ over
           limits-test = rw (← starts .count) (sym over-is)
 
-          pub bad-limits : {r : Opening} → over ≡ true → r ≡ turnedDown BadLimits (first .env) → Opens (sortFor sort) c r
+          pub bad-limits : {r : Opening} → over ≡ true → r ≡ turnedDown BadLimits (first .env) call → Opens (wantedFor wanted) c r
           bad-limits wrong is = refused-with BadLimits (past-start (no _ (not-true _ (limits-test ∙ wrong)) refl)) is
 
-          pub opened : over ≡ false → Opens (sortFor sort) c (record { against = Nothing; env = first .env })
-          unfolding onlyIf refusalIn startOr
-          opened fits =
+          pub opened : over ≡ false → call ≡ record { limits = c .limits; vars = first .env .count; asked = c .point } → Opens (wantedFor wanted) c (record { against = Nothing; env = first .env; call = call; cells = 2 * first .env .count * c .limits .room })
+          unfolding onlyIf refusalIn startOr started
+          opened fits call-is =
               let limits = limits-are (first .env .count) (c .limits) (length (c .workspace)) (not-false _ (sym over-is ∙ fits)) in
+              let long = length-take-le (2 * first .env .count * c .limits .room) (c .workspace) (limits .1) in
               record {
                 is = sym (past-start (yes _ (not-false _ (limits-test ∙ fits))));
                 opened = record {
-                  sized = starts .sized;
-                  count = starts .count;
                   bindings = ap startOr (rw (not-false (first .ok) good) at (starts .is));
-                  point = omega (arith, points-most passed);
-                  room = limits .0;
-                  cells = limits .1;
+                  call = call-is ∙ ap (λ (v : ℕ). record { limits = c .limits; vars = v; asked = c .point }) (starts .count);
+                  point = rw call-is (omega (arith, points-most passed));
+                  cells = ap (λ (v : ℕ). 2 * v * c .limits .room) (starts .count);
+                  fits = limits .1;
+                  ready = rw call-is (record {
+                    checked = passed;
+                    vars = starts .count;
+                    sized = starts .sized;
+                    count = refl;
+                    fit = record {
+                      vars = starts .sized .few;
+                      room = limits .0;
+                      wide = omega (arith, long, mul-comm (c .limits .room) (2 * first .env .count));
+                    };
+                    held = omega arith;
+                  });
                 };
               }

@@ -23,16 +23,19 @@ use Rattle.rows.specs.Table.{Fit, rowsIn}
 use Rattle.rows.specs.Stack.{shapeOf, relationOf, Grown, Stacked, Related}
 use Rattle.evaluator.specs.declared.Call.{Call as WalkCall}
 use Rattle.evaluator.specs.Asks.{Ready, Relates, nodeRows, rowsFor}
-use Rattle.calls.specs.declared.opening.Sort.the-variants.{Condition}
+use Rattle.calls.specs.declared.opening.Wanted.the-variants.{Condition}
 use Rattle.calls.specs.declared.opening.Against.the-variants.{Nothing}
 use Rattle.calls.specs.declared.opening.Against.the-variants.{Refused as TurnedDown}
 use Rattle.calls.specs.declared.opening.Opening.{Opening}
 use Rattle.calls.specs.declared.SaidRows.{SaidRows}
 use Rattle.calls.specs.declared.SaidRows.the-variants.{Refuses}
 use Rattle.calls.specs.Promises.{callOf, asRows, Rowed}
-use Rattle.calls.specs.Opening.{sortFor, Opens}
+use Rattle.calls.specs.Opening.{wantedFor, Opens}
 use Rattle.calls.specs.Given.{keptOf, fitting, saidOf, outputOf, saidFrom, outputFrom, TellsRows, Given}
-use Rattle.calls.proofs.Asked.{cellsFor, walking, atStart, opened, asked-not, unwritten, walked-as, workspace-as}
+use Rattle.calls.proofs.Asked.{opened, asked-not, unwritten, walked-as, workspace-as}
+
+abbrev atStart : Meter
+atStart = record { steps = 0; held = 0; most = 0 }
 
 -- ---- a relation that is held is an answer, its rows at the bottom; one that is refused, a refusal
 
@@ -106,15 +109,15 @@ told-as c binders output l w = go (outcome l started w) (walk-clears c l w)
         given-as c binders output (keptOf (c .file) binders rows) m (fitting (vars (c .file)) binders output (keptOf (c .file) binders rows))
     go (refused n m) h = ap (λ (after : List ℕ). record { said = refuses (numberOf n) (m .steps) (m .most); workspace = after; output = output }) h
 
-pub rows-refused : (s : List ℕ) (point n : ℕ) (start : List ℕ) (limits : Limits) (work : List ℕ) (binders output : List ℕ) {o : Opening} {k : Refusal} → Checked s → Opens (sortFor Condition) (callOf s point n start limits work) o → o .against ≡ TurnedDown k → Rowed (callOf s point n start limits work) binders output work output (Refuses k 0 0)
-unfolding rowsCall rowsGiven asRows sortFor
+pub rows-refused : (s : List ℕ) (point n : ℕ) (start : List ℕ) (limits : Limits) (work : List ℕ) (binders output : List ℕ) {o : Opening} {k : Refusal} → Checked s → Opens (wantedFor Condition) (callOf s point n start limits work) o → o .against ≡ TurnedDown k → Rowed (callOf s point n start limits work) binders output work output (Refuses k 0 0)
+unfolding rowsCall rowsGiven asRows wantedFor
 rows-refused s point n start limits work binders output {k = k} checked opens is =
     record { is = sym (ap (rowsGiven (callOf s point n start limits work) binders output) (asked-not checked opens (λ m q. m .rows q) k is) ∙ unwritten checked opens ℕ output k is) }
 
-pub rows-told : (s : List ℕ) (point n : ℕ) (start : List ℕ) (limits : Limits) (work : List ℕ) (binders output : List ℕ) {o : Opening} (part : List ℕ) {after output′ : List ℕ} {r : SaidRows} → Checked s → Opens (sortFor Condition) (callOf s point n start limits work) o → o .against ≡ Nothing → TellsRows s (o .env .count) binders output (outcome limits started (rowsFor s (walking limits (o .env) point) (o .env) (nodeRows n point))) output′ r → length part ≡ length (take (cellsFor (o .env) limits) work) → after ≡ cleared (cellsFor (o .env) limits) (part ++ drop (cellsFor (o .env) limits) work) → Rowed (callOf s point n start limits work) binders output after output′ r
-unfolding rowsCall rowsFor sortFor
+pub rows-told : (s : List ℕ) (point n : ℕ) (start : List ℕ) (limits : Limits) (work : List ℕ) (binders output : List ℕ) {o : Opening} (part : List ℕ) {after output′ : List ℕ} {r : SaidRows} → Checked s → Opens (wantedFor Condition) (callOf s point n start limits work) o → o .against ≡ Nothing → TellsRows s (o .call .vars) binders output (outcome (o .call .limits) started (rowsFor s (o .call) (o .env) (nodeRows n (o .call .asked)))) output′ r → length part ≡ length (take (o .cells) work) → after ≡ cleared (o .cells) (part ++ drop (o .cells) work) → Rowed (callOf s point n start limits work) binders output after output′ r
+unfolding rowsCall rowsFor wantedFor
 rows-told s point n start limits work binders output {o} part checked opens is tells long after =
     let a = walked-as checked opens is (λ m q. m .rows q) in
     record {
-      is = sym (ap (rowsGiven (callOf s point n start limits work) binders output) a ∙ told-as (callOf s point n start limits work) binders output limits _ ∙ sym (cc (tells .said, tells .written, workspace-as checked opens is part long after, opened opens is .count)));
+      is = sym (ap (rowsGiven (callOf s point n start limits work) binders output) a ∙ told-as (callOf s point n start limits work) binders output (o .call .limits) _ ∙ sym (cc (tells .said, tells .written, workspace-as checked opens is part long after, ap (λ (c : WalkCall). c .vars) (opened opens is .call))));
     }

@@ -1,27 +1,27 @@
 -- The public calls: a case that passes the check is a checked one, and one that does not is refused before all else
 use mathlib.Core.Path.{_≡_, refl, ap, sym, _∙_}
-use mathlib.Core.Bool.{Bool}
+use mathlib.Core.Bool.{Bool, true, false}
 use mathlib.Core.List.{List, []}
 use mathlib.Core.Option.{Option, none, some}
 use Prim.Native.Nat.{ℕ}
-use lib.IntN.{ℤ}
 use native.Mathlib.Omega.{arith}
 use Rattle.meaning.specs.declared.Limits.{Limits}
+use Rattle.meaning.specs.declared.Node.{Node}
 use Rattle.meaning.specs.declared.Refusal.{Refusal}
 use Rattle.meaning.specs.Walk.{W}
-use Rattle.meaning.specs.Case.{Sort, conditions, aggregates}
+use Rattle.meaning.specs.Case.{nodeAt}
 use Rattle.meaning.specs.Check.{Checked, check}
 use Rattle.meaning.specs.Meaning.{Meaning, Question}
-use Rattle.meaning.specs.Calls.{numberOf, Said, refuses, unlessRefused, asking, result, verdictCall, inBits, numberCall, rowsGiven, rowsCall}
+use Rattle.meaning.specs.Calls.{numberOf, Said, refuses, unlessRefused, isCondition, isAggregate, answerable, unlessAgainst, asking, result, Answer, askCall, rowsGiven, rowsCall}
 use Rattle.meaning.specs.Laws.Calls.{check-early, refused-early}
 use Rattle.casecheck.specs.declared.Contents.{Contents}
 use Rattle.casecheck.specs.declared.Checking.{Checking}
 use Rattle.casecheck.specs.declared.Checking.the-variants.{Passes, Refused}
 use Rattle.casecheck.specs.Answer.{contentsOf, answer, asChecking, passed}
-use Rattle.calls.specs.declared.SaidVerdict.the-variants as Ver
-use Rattle.calls.specs.declared.SaidNumber.the-variants as Num
+use Rattle.calls.specs.declared.SaidAnswer.the-variants as Ans
 use Rattle.calls.specs.declared.SaidRows.the-variants as Rows
-use Rattle.calls.specs.Promises.{callOf, asVerdict, asNumber, asRows, Verdicts, Numbers, Rowed}
+use Rattle.calls.specs.Promises.{callOf, asAnswer, asRows, Answers, Rowed}
+use Rattle.calls.proofs.Asked.{saying-refuses, chosen}
 
 pub passes : {s : List ℕ} {r : Checking} {k : Contents} → r ≡ asChecking s → r ≡ Passes k → Checked s
 passes {s} {r} {k} is passing = passed s k (sym passing ∙ is) .0
@@ -35,21 +35,26 @@ refused-by s {r} {k} is refusing = go (check s) refl
     go (some n) e = let z : Refused k ≡ Refused n = cc (is, refusing, e) in let y : k ≡ n = cc in e ∙ ap some (sym y)
 
 module _ (s : List ℕ) {r : Checking} {k : Refusal} (is : r ≡ asChecking s) (refusing : r ≡ Refused k) (point n : ℕ) (start : List ℕ) (limits : Limits) (work : List ℕ) where
-  asked-not : {A : Type 0} (sort : Sort) (manner : Meaning → Question → W A) → asking sort manner (callOf s point n start limits work) ≡ refuses (numberOf k) 0 0
-  unfolding asking unlessRefused
-  asked-not sort manner = rw (refused-by s is refusing) refl
+  pub said-unchecked : {A : Type 0} (wanted : Node → Bool) (said : Said A) → unlessAgainst wanted (callOf s point n start limits work) said ≡ refuses (numberOf k) 0 0
+  unfolding unlessAgainst unlessRefused
+  said-unchecked wanted said = rw (refused-by s is refusing) refl
 
-  unwritten : (A : Type 0) (output : List ℕ) → result {A = A} (callOf s point n start limits work) (refuses (numberOf k) 0 0) output ≡ record { said = refuses (numberOf k) 0 0; workspace = work; output = output }
+  asked-not : {A : Type 0} (wanted : Node → Bool) (manner : Meaning → Question → W A) → asking wanted manner (callOf s point n start limits work) ≡ refuses (numberOf k) 0 0
+  unfolding asking
+  asked-not wanted manner = said-unchecked wanted _
+
+  pub unwritten : (A : Type 0) (output : List ℕ) → result {A = A} (callOf s point n start limits work) (refuses (numberOf k) 0 0) output ≡ record { said = refuses (numberOf k) 0 0; workspace = work; output = output }
   unwritten A output = refused-early A (callOf s point n start limits work) k output (check-early s k (refused-by s is refusing))
 
-  pub verdict-unchecked : Verdicts (callOf s point n start limits work) work (Ver.Refuses k 0 0)
-  unfolding verdictCall asVerdict
-  verdict-unchecked = record { is = sym (ap (λ (said : Said Bool). result (callOf s point n start limits work) said []) (asked-not conditions (λ m q. m .verdict q)) ∙ unwritten Bool []) }
-
-  pub number-unchecked : Numbers (callOf s point n start limits work) work (Num.Refuses k 0 0)
-  unfolding numberCall asNumber inBits
-  number-unchecked = record { is = sym (ap (λ (said : Said ℤ). result (callOf s point n start limits work) (inBits said) []) (asked-not aggregates (λ m q. m .number q)) ∙ unwritten ℕ []) }
+  pub ask-unchecked : Answers (callOf s point n start limits work) work (Ans.Refuses k 0 0)
+  unfolding askCall asAnswer
+  ask-unchecked = record {
+    is = sym (
+        ap (λ (said : Said Answer). result (callOf s point n start limits work) said []) (chosen (isAggregate (nodeAt s n)) (saying-refuses _ (asked-not answerable (λ m q. m .number q))) (saying-refuses _ (asked-not answerable (λ m q. m .verdict q))))
+        ∙ unwritten Answer []
+        );
+  }
 
   pub rows-unchecked : {binders output : List ℕ} → Rowed (callOf s point n start limits work) binders output work output (Rows.Refuses k 0 0)
   unfolding rowsCall rowsGiven asRows
-  rows-unchecked {binders} {output} = record { is = sym (ap (rowsGiven (callOf s point n start limits work) binders output) (asked-not conditions (λ m q. m .rows q)) ∙ unwritten ℕ output) }
+  rows-unchecked {binders} {output} = record { is = sym (ap (rowsGiven (callOf s point n start limits work) binders output) (asked-not isCondition (λ m q. m .rows q)) ∙ unwritten ℕ output) }

@@ -1,24 +1,53 @@
--- The rows call after its walk: what is said and the output, from the rows held
+-- After the walk of a call: what is said, and the output
 use mathlib.Core.Path.{_≡_}
 use mathlib.Core.Bool.{Bool, true, false}
 use mathlib.Core.List.{List, [], _++_, map}
 use Prim.Native.Nat.{ℕ}
 use lib.Dec.{leb}
+use lib.IntN.{ℤ}
 use lib.ListN.{length, drop}
+use mir.Val.{ofZ}
+use mir.Syntax.{w64}
+use Rattle.meaning.specs.declared.Env.{Env}
 use Rattle.meaning.specs.declared.Meter.{Meter}
 use Rattle.meaning.specs.declared.Refusal.the-variants.{BadOutput}
-use Rattle.meaning.specs.Tests.{_and_}
-use Rattle.meaning.specs.Walk.{Outcome, answered, refused}
-use Rattle.meaning.specs.Case.{caseOf}
+use Rattle.meaning.specs.Tests.{_and_, choose}
+use Rattle.meaning.specs.Walk.{started, Outcome, answered, refused, outcome}
+use Rattle.meaning.specs.Case.{caseOf, nodeAt}
 use Rattle.meaning.specs.Rows.{Row, onto, addNew}
-use Rattle.meaning.specs.Calls.{numberOf, Said, gives, refuses, told, inBits, filled, allUnder}
+use Rattle.meaning.specs.Calls.{numberOf, Said, gives, refuses, told, isAggregate, Answer, verdict, number, saying, filled, allUnder}
 use Rattle.calls.specs.declared.SaidRows.{SaidRows}
-use Rattle.calls.specs.declared.SaidVerdict.{SaidVerdict}
-use Rattle.calls.specs.declared.SaidNumber.{SaidNumber}
-use Rattle.calls.specs.Promises.{asVerdict, asNumber, asRows}
+use Rattle.calls.specs.declared.SaidAnswer.{SaidAnswer}
+use Rattle.calls.specs.Promises.{asAnswer, asRows}
+use Rattle.evaluator.specs.declared.Call.{Call as WalkCall}
 use Rattle.evaluator.specs.declared.Verdict.{Verdict as WalkVerdict}
 use Rattle.evaluator.specs.declared.Number.{Number as WalkNumber}
-use Rattle.evaluator.specs.Asks.{saidVerdict as outcomeVerdict, saidNumber as outcomeNumber}
+use Rattle.evaluator.specs.Asks.{node, walkFor, numberFor, saidVerdict as outcomeVerdict, saidNumber as outcomeNumber}
+
+-- ---- an answer
+
+-- the bits of a number
+abbrev pub inBits : ℤ → Answer
+inBits z = number (ofZ w64 z)
+
+-- a walk's verdict, or its number, told
+pub record TellsVerdict (v : WalkVerdict) (r : SaidAnswer) : Type 0 where
+  pub is : asAnswer r ≡ saying verdict (told (outcomeVerdict v))
+
+pub record TellsNumber (v : WalkNumber) (r : SaidAnswer) : Type 0 where
+  pub is : asAnswer r ≡ saying inBits (told (outcomeNumber v))
+
+-- what the walk for an answer comes to, told: file, call, environment, node
+unfoldable pub answerFrom : List ℕ → WalkCall → Env → ℕ → Said Answer
+answerFrom s c e n =
+    choose (isAggregate (nodeAt s n))
+    (saying inBits (told (outcome (c .limits) started (numberFor s c e n (c .asked)))))
+    (saying verdict (told (outcome (c .limits) started (walkFor s c e (node n (c .asked))))))
+
+pub record TellsAnswer (s : List ℕ) (c : WalkCall) (e : Env) (n : ℕ) (r : SaidAnswer) : Type 0 where
+  pub is : asAnswer r ≡ answerFrom s c e n
+
+-- ---- rows
 
 -- first occurrences of the rows on the binders
 abbrev pub keptOf : List ℕ → List ℕ → List Row → List Row
@@ -53,10 +82,3 @@ outputFrom s v binders output (refused n m) = output
 pub record TellsRows (s : List ℕ) (v : ℕ) (binders output : List ℕ) (o : Outcome (List Row)) (after : List ℕ) (r : SaidRows) : Type 0 where
   pub said : asRows r ≡ saidFrom s v binders output o
   pub written : after ≡ outputFrom s v binders output o
-
--- a walk's verdict, or the bits of its number, told
-pub record TellsVerdict (v : WalkVerdict) (r : SaidVerdict) : Type 0 where
-  pub is : asVerdict r ≡ told (outcomeVerdict v)
-
-pub record TellsNumber (v : WalkNumber) (r : SaidNumber) : Type 0 where
-  pub is : asNumber r ≡ inBits (told (outcomeNumber v))

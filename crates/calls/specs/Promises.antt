@@ -1,16 +1,13 @@
 -- What each of the four calls promises: what it says, with document 01's number of a refusal, and its buffers after it, are the defined call's
 use mathlib.Core.Path.{_≡_}
-use mathlib.Core.Bool.{Bool}
 use mathlib.Core.List.{List, [], _∷_}
 use Prim.Native.Nat.{ℕ}
 use Rattle.meaning.specs.declared.Limits.{Limits}
-use Rattle.meaning.specs.Calls.{numberOf, Call, Said, gives, refuses, Result, checkCall, verdictCall, numberCall, rowsCall}
+use Rattle.meaning.specs.Calls.{numberOf, Call, Said, gives, refuses, Result, Answer, verdict, number, checkCall, askCall, rowsCall}
 use Rattle.casecheck.specs.declared.Checking.{Checking}
 use Rattle.casecheck.specs.declared.Checking.the-variants as Che
-use Rattle.calls.specs.declared.SaidVerdict.{SaidVerdict}
-use Rattle.calls.specs.declared.SaidVerdict.the-variants as Ver
-use Rattle.calls.specs.declared.SaidNumber.{SaidNumber}
-use Rattle.calls.specs.declared.SaidNumber.the-variants as Num
+use Rattle.calls.specs.declared.SaidAnswer.{SaidAnswer}
+use Rattle.calls.specs.declared.SaidAnswer.the-variants as Ans
 use Rattle.calls.specs.declared.SaidRows.{SaidRows}
 use Rattle.calls.specs.declared.SaidRows.the-variants as Rows
 
@@ -31,13 +28,10 @@ unfoldable pub asCheck : Checking → Said (List ℕ)
 asCheck (Che.Passes k) = gives (k .vars ∷ k .strings ∷ k .values ∷ k .points ∷ k .nodes ∷ []) 0 0
 asCheck (Che.Refused n) = refuses (numberOf n) 0 0
 
-unfoldable pub asVerdict : SaidVerdict → Said Bool
-asVerdict (Ver.Gives b steps most) = gives b steps most
-asVerdict (Ver.Refuses n steps most) = refuses (numberOf n) steps most
-
-unfoldable pub asNumber : SaidNumber → Said ℕ
-asNumber (Num.Gives bits steps most) = gives bits steps most
-asNumber (Num.Refuses n steps most) = refuses (numberOf n) steps most
+unfoldable pub asAnswer : SaidAnswer → Said Answer
+asAnswer (Ans.Verdict b steps most) = gives (verdict b) steps most
+asAnswer (Ans.Number bits steps most) = gives (number bits) steps most
+asAnswer (Ans.Refuses n steps most) = refuses (numberOf n) steps most
 
 unfoldable pub asRows : SaidRows → Said ℕ
 asRows (Rows.Gives n steps most) = gives n steps most
@@ -48,11 +42,8 @@ asRows (Rows.Refuses n steps most) = refuses (numberOf n) steps most
 pub record Checks (s : List ℕ) (r : Checking) : Type 0 where
   pub is : asCheck r ≡ checkCall s
 
-pub record Verdicts (c : Call) (after : List ℕ) (r : SaidVerdict) : Type 0 where
-  pub is : _≡_ {A = Result Bool} (record { said = asVerdict r; workspace = after; output = [] }) (verdictCall c)
-
-pub record Numbers (c : Call) (after : List ℕ) (r : SaidNumber) : Type 0 where
-  pub is : _≡_ {A = Result ℕ} (record { said = asNumber r; workspace = after; output = [] }) (numberCall c)
+pub record Answers (c : Call) (after : List ℕ) (r : SaidAnswer) : Type 0 where
+  pub is : _≡_ {A = Result Answer} (record { said = asAnswer r; workspace = after; output = [] }) (askCall c)
 
 pub record Rowed (c : Call) (binders output after filled : List ℕ) (r : SaidRows) : Type 0 where
   pub is : _≡_ {A = Result ℕ} (record { said = asRows r; workspace = after; output = filled }) (rowsCall binders output c)

@@ -9,27 +9,26 @@ use lib.IntN.{ℤ}
 use lib.ListN.{length, drop}
 use mir.Val.{ofZ}
 use mir.Syntax.{w64}
+use Rattle.meaning.specs.declared.Limits.{Limits}
 use Rattle.meaning.specs.declared.Refusal.{Refusal}
 use Rattle.meaning.specs.Tests.{choose}
 use Rattle.meaning.specs.Walk.{W, spent, most}
-use Rattle.meaning.specs.Case.{conditions, aggregates, vars, strings, values, points, nodes}
+use Rattle.meaning.specs.Case.{vars, strings, values, points, nodes}
 use Rattle.meaning.specs.Check.{check, Checked}
 use Rattle.meaning.specs.Rows.{Row}
-use Rattle.meaning.specs.Calls.{numberOf, Call, Said, gives, refuses, Result, walkOf, unlessRefused, asking, result, checkCall, verdictCall, inBits, numberCall, filled, projected, outputFits, rowsGiven, rowsCall}
+use Rattle.meaning.specs.Calls.{numberOf, Call, Said, gives, refuses, Result, isCondition, isAggregate, answerable, walkOf, unlessRefused, asking, result, checkCall, Answer, verdict, number, saying, askCall, filled, projected, outputFits, rowsGiven, rowsCall}
 use Rattle.meaning.specs.Demands.{Askable, Exhausted, Tells, SameUpTo, ofFile}
-use Rattle.meaning.specs.Laws.Calls.{answers-when, answers-only-when, rows-when, one-refusal}
+use Rattle.meaning.specs.Laws.Calls.{answers-when, answers-only-when, condition-asked, aggregate-asked, rows-when, one-refusal}
 use Rattle.meaning.specs.Laws.Later.{later-points-change-nothing}
 use Rattle.casecheck.specs.declared.Contents.{Contents}
 use Rattle.casecheck.specs.declared.Checking.{Checking}
 use Rattle.casecheck.specs.declared.Checking.the-variants as Che
 use Rattle.casecheck.specs.Answer.{contentsOf, answer, asChecking}
-use Rattle.calls.specs.declared.SaidVerdict.{SaidVerdict}
-use Rattle.calls.specs.declared.SaidVerdict.the-variants as Ver
-use Rattle.calls.specs.declared.SaidNumber.{SaidNumber}
-use Rattle.calls.specs.declared.SaidNumber.the-variants as Num
+use Rattle.calls.specs.declared.SaidAnswer.{SaidAnswer}
+use Rattle.calls.specs.declared.SaidAnswer.the-variants as Ans
 use Rattle.calls.specs.declared.SaidRows.{SaidRows}
 use Rattle.calls.specs.declared.SaidRows.the-variants as Rows
-use Rattle.calls.specs.Promises.{asCheck, asVerdict, asNumber, asRows, Checks, Verdicts, Numbers, Rowed}
+use Rattle.calls.specs.Promises.{asCheck, asAnswer, asRows, Checks, Answers, Rowed}
 
 -- ---- any two outcomes that a promise allows are equal
 
@@ -72,29 +71,27 @@ one-check {r = r} {r′} p q = same-check r r′ (p .is ∙ sym (q .is))
 pub check-as : {s : List ℕ} {r : Checking} → Checks s r → r ≡ asChecking s
 check-as {s} {r} p = same-check r (asChecking s) (p .is ∙ sym (answer-says s))
 
-same-verdict : (r r′ : SaidVerdict) → asVerdict r ≡ asVerdict r′ → r ≡ r′
-unfolding asVerdict
-same-verdict (Ver.Gives b s m) (Ver.Gives b′ s′ m′) e = cc
-same-verdict (Ver.Gives b s m) (Ver.Refuses n′ s′ m′) e = absurd (never e)
-same-verdict (Ver.Refuses n s m) (Ver.Gives b′ s′ m′) e = absurd (never (sym e))
-same-verdict (Ver.Refuses n s m) (Ver.Refuses n′ s′ m′) e = cc (same-refusal n n′ e)
+-- ---- asking
 
-pub one-verdict : {c : Call} {after after′ : List ℕ} {r r′ : SaidVerdict} → Verdicts c after r → Verdicts c after′ r′ → (r ≡ r′) × (after ≡ after′)
-one-verdict {r = r} {r′} p q =
+not-both : {b : Bool} {n s m s′ m′ : ℕ} → gives (verdict b) s m ≡ gives (number n) s′ m′ → ⊥
+not-both e = let z : _≡_ {A = ℕ} 0 1 = cc in omega arith
+
+same-answer : (r r′ : SaidAnswer) → asAnswer r ≡ asAnswer r′ → r ≡ r′
+unfolding asAnswer
+same-answer (Ans.Verdict b s m) (Ans.Verdict b′ s′ m′) e = cc
+same-answer (Ans.Verdict b s m) (Ans.Number u′ s′ m′) e = absurd (not-both e)
+same-answer (Ans.Verdict b s m) (Ans.Refuses n′ s′ m′) e = absurd (never e)
+same-answer (Ans.Number u s m) (Ans.Verdict b′ s′ m′) e = absurd (not-both (sym e))
+same-answer (Ans.Number u s m) (Ans.Number u′ s′ m′) e = cc
+same-answer (Ans.Number u s m) (Ans.Refuses n′ s′ m′) e = absurd (never e)
+same-answer (Ans.Refuses n s m) (Ans.Verdict b′ s′ m′) e = absurd (never (sym e))
+same-answer (Ans.Refuses n s m) (Ans.Number u′ s′ m′) e = absurd (never (sym e))
+same-answer (Ans.Refuses n s m) (Ans.Refuses n′ s′ m′) e = cc (same-refusal n n′ e)
+
+pub one-answer : {c : Call} {after after′ : List ℕ} {r r′ : SaidAnswer} → Answers c after r → Answers c after′ r′ → (r ≡ r′) × (after ≡ after′)
+one-answer {r = r} {r′} p q =
     let e = p .is ∙ sym (q .is) in
-    (same-verdict r r′ (ap (λ (x : Result Bool). x .said) e), ap (λ (x : Result Bool). x .workspace) e)
-
-same-number : (r r′ : SaidNumber) → asNumber r ≡ asNumber r′ → r ≡ r′
-unfolding asNumber
-same-number (Num.Gives u s m) (Num.Gives u′ s′ m′) e = cc
-same-number (Num.Gives u s m) (Num.Refuses n′ s′ m′) e = absurd (never e)
-same-number (Num.Refuses n s m) (Num.Gives u′ s′ m′) e = absurd (never (sym e))
-same-number (Num.Refuses n s m) (Num.Refuses n′ s′ m′) e = cc (same-refusal n n′ e)
-
-pub one-number : {c : Call} {after after′ : List ℕ} {r r′ : SaidNumber} → Numbers c after r → Numbers c after′ r′ → (r ≡ r′) × (after ≡ after′)
-one-number {r = r} {r′} p q =
-    let e = p .is ∙ sym (q .is) in
-    (same-number r r′ (ap (λ (x : Result ℕ). x .said) e), ap (λ (x : Result ℕ). x .workspace) e)
+    (same-answer r r′ (ap (λ (x : Result Answer). x .said) e), ap (λ (x : Result Answer). x .workspace) e)
 
 same-rows : (r r′ : SaidRows) → asRows r ≡ asRows r′ → r ≡ r′
 unfolding asRows
@@ -113,49 +110,52 @@ one-rows {r = r} {r′} p q =
 
 -- ---- demand 3: an answer exactly when step limit and room reach the definition's numbers, and then that answer and those numbers
 
-module _ {c : Call} {after : List ℕ} {r : SaidVerdict} (ok : Askable conditions c) (p : Verdicts c after r) where
+-- an answer is what f makes of the walk's; all else is 11 or 12
+abbrev pub TellsAs : {A B : Type 0} → (A → B) → Limits → W A → Said B → Type 0
+TellsAs f l w (gives b steps held) =
+    (b ≡ f (w .answer)) × (steps ≡ spent w) × (held ≡ most w) × (spent w ≤ l .steps) × (most w ≤ l .room)
+TellsAs f l w (refuses n steps held) = Exhausted l n steps held
+
+tells-as : {A B : Type 0} (f : A → B) (l : Limits) (w : W A) (said : Said A) → Tells l w said → TellsAs f l w (saying f said)
+unfolding saying
+tells-as f l w (gives a steps held) h = (ap f (h .0), h .1, h .2, h .3, h .4)
+tells-as f l w (refuses n steps held) h = h
+
+-- asked of a condition: the definition's verdict
+module _ {c : Call} {after : List ℕ} {r : SaidAnswer} (ok : Askable isCondition c) (p : Answers c after r) where
   abbrev theVerdict : W Bool
   theVerdict = walkOf (λ m q. m .verdict q) (c .file) (c .point) (c .node) (c .start)
 
-  said-verdict : asVerdict r ≡ asking conditions (λ m q. m .verdict q) c
-  unfolding verdictCall result
-  said-verdict = ap (λ (x : Result Bool). x .said) (p .is)
+  said-verdict : asAnswer r ≡ saying verdict (asking answerable (λ m q. m .verdict q) c)
+  said-verdict = ap (λ (x : Result Answer). x .said) (p .is) ∙ condition-asked ok .1
 
-  pub verdict-when : spent theVerdict ≤ c .limits .steps → most theVerdict ≤ c .limits .room → asVerdict r ≡ gives (theVerdict .answer) (spent theVerdict) (most theVerdict)
-  verdict-when hs hr = said-verdict ∙ answers-when conditions (λ m q. m .verdict q) c ok hs hr
+  pub verdict-when : spent theVerdict ≤ c .limits .steps → most theVerdict ≤ c .limits .room → asAnswer r ≡ gives (verdict (theVerdict .answer)) (spent theVerdict) (most theVerdict)
+  unfolding saying
+  verdict-when hs hr = said-verdict ∙ ap (saying verdict) (answers-when answerable (λ m q. m .verdict q) c (condition-asked ok .0) hs hr)
 
-  pub verdict-only-when : Tells (c .limits) theVerdict (asVerdict r)
-  verdict-only-when = rw said-verdict (answers-only-when conditions (λ m q. m .verdict q) c ok)
+  pub verdict-only-when : TellsAs verdict (c .limits) theVerdict (asAnswer r)
+  verdict-only-when = rw said-verdict (tells-as verdict (c .limits) theVerdict _ (answers-only-when answerable (λ m q. m .verdict q) c (condition-asked ok .0)))
 
--- a number is said by its 64 bits
-module _ {c : Call} {after : List ℕ} {r : SaidNumber} (ok : Askable aggregates c) (p : Numbers c after r) where
+-- asked of an aggregate: the definition's number, by its 64 bits
+module _ {c : Call} {after : List ℕ} {r : SaidAnswer} (ok : Askable isAggregate c) (p : Answers c after r) where
   abbrev theNumber : W ℤ
   theNumber = walkOf (λ m q. m .number q) (c .file) (c .point) (c .node) (c .start)
 
-  said-number : asNumber r ≡ inBits (asking aggregates (λ m q. m .number q) c)
-  unfolding numberCall result
-  said-number = ap (λ (x : Result ℕ). x .said) (p .is)
+  abbrev bits : ℤ → Answer
+  bits z = number (ofZ w64 z)
 
-  pub number-when : spent theNumber ≤ c .limits .steps → most theNumber ≤ c .limits .room → asNumber r ≡ gives (ofZ w64 (theNumber .answer)) (spent theNumber) (most theNumber)
-  unfolding inBits
-  number-when hs hr = said-number ∙ ap inBits (answers-when aggregates (λ m q. m .number q) c ok hs hr)
+  said-number : asAnswer r ≡ saying bits (asking answerable (λ m q. m .number q) c)
+  said-number = ap (λ (x : Result Answer). x .said) (p .is) ∙ aggregate-asked ok .1
 
-  abbrev pub TellsNumber : Said ℕ → Type 0
-  TellsNumber (gives bits steps held) =
-      (bits ≡ ofZ w64 (theNumber .answer)) × (steps ≡ spent theNumber) × (held ≡ most theNumber)
-      × (spent theNumber ≤ c .limits .steps) × (most theNumber ≤ c .limits .room)
-  TellsNumber (refuses n steps held) = Exhausted (c .limits) n steps held
+  pub number-when : spent theNumber ≤ c .limits .steps → most theNumber ≤ c .limits .room → asAnswer r ≡ gives (number (ofZ w64 (theNumber .answer))) (spent theNumber) (most theNumber)
+  unfolding saying
+  number-when hs hr = said-number ∙ ap (saying bits) (answers-when answerable (λ m q. m .number q) c (aggregate-asked ok .0) hs hr)
 
-  pub number-only-when : TellsNumber (asNumber r)
-  unfolding inBits
-  number-only-when = rw said-number (go (asking aggregates (λ m q. m .number q) c) (answers-only-when aggregates (λ m q. m .number q) c ok))
-    where
-      go : (said : Said ℤ) → Tells (c .limits) theNumber said → TellsNumber (inBits said)
-      go (gives z steps held) h = (ap (ofZ w64) (h .0), h .1, h .2, h .3, h .4)
-      go (refuses n steps held) h = h
+  pub number-only-when : TellsAs bits (c .limits) theNumber (asAnswer r)
+  number-only-when = rw said-number (tells-as bits (c .limits) theNumber _ (answers-only-when answerable (λ m q. m .number q) c (aggregate-asked ok .0)))
 
 -- the rows call, with binders the case has and an output long enough for its rows
-module _ {c : Call} {binders output after out : List ℕ} {r : SaidRows} (ok : Askable conditions c) (p : Rowed c binders output after out r) where
+module _ {c : Call} {binders output after out : List ℕ} {r : SaidRows} (ok : Askable isCondition c) (p : Rowed c binders output after out r) where
   abbrev theRows : W (List Row)
   theRows = walkOf (λ m q. m .rows q) (c .file) (c .point) (c .node) (c .start)
 
@@ -179,7 +179,7 @@ module _ {c : Call} {binders output after out : List ℕ} {r : SaidRows} (ok : A
     unfolding rowsCall rowsGiven result choose
     rows-only-when =
         rw (ap (λ (x : Result ℕ). x .said) (p .is))
-        (go (asking conditions (λ m q. m .rows q) c) (answers-only-when conditions (λ m q. m .rows q) c ok))
+        (go (asking isCondition (λ m q. m .rows q) c) (answers-only-when isCondition (λ m q. m .rows q) c ok))
       where
         go : (said : Said (List Row)) → Tells (c .limits) theRows said → TellsRows (rowsGiven c binders output said .said)
         go (refuses n steps held) h = h
@@ -188,11 +188,8 @@ module _ {c : Call} {binders output after out : List ℕ} {r : SaidRows} (ok : A
 -- ---- points after the one asked about change nothing, refusals 11 and 12 included
 
 module _ (s t : List ℕ) (hs : Checked s) (ht : Checked t) (c : Call) (up : SameUpTo (c .point) s t) where
-  pub verdict-later : {after after′ : List ℕ} {r r′ : SaidVerdict} → Verdicts (ofFile c s) after r → Verdicts (ofFile c t) after′ r′ → (r ≡ r′) × (after ≡ after′)
-  verdict-later p q = one-verdict p (record { is = q .is ∙ sym (later-points-change-nothing s t hs ht c up .0) })
-
-  pub number-later : {after after′ : List ℕ} {r r′ : SaidNumber} → Numbers (ofFile c s) after r → Numbers (ofFile c t) after′ r′ → (r ≡ r′) × (after ≡ after′)
-  number-later p q = one-number p (record { is = q .is ∙ sym (later-points-change-nothing s t hs ht c up .1) })
+  pub answer-later : {after after′ : List ℕ} {r r′ : SaidAnswer} → Answers (ofFile c s) after r → Answers (ofFile c t) after′ r′ → (r ≡ r′) × (after ≡ after′)
+  answer-later p q = one-answer p (record { is = q .is ∙ sym (later-points-change-nothing s t hs ht c up .0) })
 
   pub rows-later : {binders output after after′ out out′ : List ℕ} {r r′ : SaidRows} → Rowed (ofFile c s) binders output after out r → Rowed (ofFile c t) binders output after′ out′ r′ → (r ≡ r′) × (after ≡ after′) × (out ≡ out′)
-  rows-later {binders} {output} p q = one-rows p (record { is = q .is ∙ sym (later-points-change-nothing s t hs ht c up .2 binders output) })
+  rows-later {binders} {output} p q = one-rows p (record { is = q .is ∙ sym (later-points-change-nothing s t hs ht c up .1 binders output) })

@@ -1,9 +1,9 @@
-// The three asking calls on a case that has passed the check, for callers that ask many questions of one case.
-use super::SaidNumber;
+// The asking calls on a case that has passed the check, for callers that ask many questions of one case.
+use super::SaidAnswer;
 use super::SaidRows;
-use super::SaidVerdict;
 use super::opening::Against;
-use super::opening::Sort;
+use super::opening::Wanted;
+use super::opening::is_aggregate;
 use super::opening::open;
 use evaluator::Call;
 use meaning::Env;
@@ -23,111 +23,75 @@ ghost use Rattle.meaning.specs.Check.{Checked};
 ghost use Rattle.meaning.specs.Calls.{allUnder};
 ghost use Rattle.rows.specs.Table.{Fit, rowsIn};
 ghost use Rattle.evaluator.specs.Asks.{Ready, rowsFor, nodeRows};
-ghost use Rattle.calls.specs.Promises.{callOf, Verdicts, Numbers, Rowed};
-ghost use Rattle.calls.specs.Given.{TellsVerdict, TellsNumber, TellsRows, Given};
+ghost use Rattle.calls.specs.Promises.{callOf, Answers, Rowed};
+ghost use Rattle.calls.specs.Given.{TellsVerdict, TellsNumber, TellsAnswer, TellsRows, Given};
 
-fn told_verdict(v: evaluator::Verdict) -> SaidVerdict
+fn told_verdict(v: evaluator::Verdict) -> SaidAnswer
     ensures { λ r. ⌜ TellsVerdict v r ⌝ }
 {
     match v {
-        evaluator::Verdict::Answer(b, m) => SaidVerdict::Gives(b, m.steps, m.most),
-        evaluator::Verdict::Refused(c, m) => SaidVerdict::Refuses(c, m.steps, m.most),
+        evaluator::Verdict::Answer(b, m) => SaidAnswer::Verdict(b, m.steps, m.most),
+        evaluator::Verdict::Refused(c, m) => SaidAnswer::Refuses(c, m.steps, m.most),
     }
 }
 
-fn told_number(v: evaluator::Number) -> SaidNumber
+fn told_number(v: evaluator::Number) -> SaidAnswer
     ensures { λ r. ⌜ TellsNumber v r ⌝ }
 {
     match v {
-        evaluator::Number::Answer(u, m) => SaidNumber::Gives(u, m.steps, m.most),
-        evaluator::Number::Refused(c, m) => SaidNumber::Refuses(c, m.steps, m.most),
+        evaluator::Number::Answer(u, m) => SaidAnswer::Number(u, m.steps, m.most),
+        evaluator::Number::Refused(c, m) => SaidAnswer::Refuses(c, m.steps, m.most),
     }
 }
 
-pub fn verdict(
+// the walk for an answer: an aggregate's number, else a condition's verdict
+fn walk_answer(s: &[u8], part: &mut [u64], call: Call, env: Env, node: NodeNo) -> SaidAnswer
+    requires { ⌜ Ready (now s) call env started (now part) ⌝ }
+    requires { ⌜ call .asked < 16384 ⌝ }
+    ensures { λ r. ⌜ TellsAnswer (now (s .entry)) call env (node .0) r ⌝ }
+{
+    let started = Meter {
+        steps: 0,
+        held: 0,
+        most: 0,
+    };
+    let asked = tables::node_at(s, node);
+    if is_aggregate(asked) {
+        let v = evaluator::eval_agg_expr(s, part, call, env, node, call.asked, started);
+        return told_number(v);
+    }
+    let v = evaluator::eval_condition(s, part, call, env, node, call.asked, started);
+    told_verdict(v)
+}
+
+pub fn ask(
     file: &[u8],
     point: usize,
     node: NodeNo,
     start: &[u64],
     limits: Limits,
     work: &mut [u64],
-) -> SaidVerdict
+) -> SaidAnswer
     requires { ⌜ Checked (now file) ⌝ }
-    ensures { λ r. ⌜ Verdicts (callOf (now (file .entry)) point (node .0) (now (start .entry)) limits (now (work .entry))) (now (work .exit)) r ⌝ }
+    ensures { λ r. ⌜ Answers (callOf (now (file .entry)) point (node .0) (now (start .entry)) limits (now (work .entry))) (now (work .exit)) r ⌝ }
 {
-    let opening = open(file, Sort::Condition, point, node, start, limits, &work[..]);
-    let env = opening.env;
+    let opening = open(
+        file,
+        Wanted::Answerable,
+        point,
+        node,
+        start,
+        limits,
+        &work[..],
+    );
     let against = opening.against;
     match against {
-        Against::Refused(refusal) => SaidVerdict::Refuses(refusal, 0, 0),
+        Against::Refused(refusal) => SaidAnswer::Refuses(refusal, 0, 0),
         Against::Nothing => {
-            let vars = env.count;
-            let cells = 2 * vars * limits.room;
-            let call = Call {
-                limits,
-                vars,
-                asked: point,
-            };
-            let started = Meter {
-                steps: 0,
-                held: 0,
-                most: 0,
-            };
-            let v = evaluator::eval_condition(
-                file,
-                &mut work[..cells],
-                call,
-                env,
-                node,
-                point,
-                started,
-            );
+            let cells = opening.cells;
+            let said = walk_answer(file, &mut work[..cells], opening.call, opening.env, node);
             rows::output::clear(work, cells);
-            told_verdict(v)
-        }
-    }
-}
-
-pub fn number(
-    file: &[u8],
-    point: usize,
-    node: NodeNo,
-    start: &[u64],
-    limits: Limits,
-    work: &mut [u64],
-) -> SaidNumber
-    requires { ⌜ Checked (now file) ⌝ }
-    ensures { λ r. ⌜ Numbers (callOf (now (file .entry)) point (node .0) (now (start .entry)) limits (now (work .entry))) (now (work .exit)) r ⌝ }
-{
-    let opening = open(file, Sort::Aggregate, point, node, start, limits, &work[..]);
-    let env = opening.env;
-    let against = opening.against;
-    match against {
-        Against::Refused(refusal) => SaidNumber::Refuses(refusal, 0, 0),
-        Against::Nothing => {
-            let vars = env.count;
-            let cells = 2 * vars * limits.room;
-            let call = Call {
-                limits,
-                vars,
-                asked: point,
-            };
-            let started = Meter {
-                steps: 0,
-                held: 0,
-                most: 0,
-            };
-            let v = evaluator::eval_agg_expr(
-                file,
-                &mut work[..cells],
-                call,
-                env,
-                node,
-                point,
-                started,
-            );
-            rows::output::clear(work, cells);
-            told_number(v)
+            said
         }
     }
 }
@@ -229,22 +193,24 @@ pub fn rows(
     requires { ⌜ Checked (now file) ⌝ }
     ensures { λ r. ⌜ Rowed (callOf (now (file .entry)) point (node .0) (now (start .entry)) limits (now (work .entry))) (now (binders .entry)) (now (output .entry)) (now (work .exit)) (now (output .exit)) r ⌝ }
 {
-    let opening = open(file, Sort::Condition, point, node, start, limits, &work[..]);
-    let env = opening.env;
+    let opening = open(
+        file,
+        Wanted::Condition,
+        point,
+        node,
+        start,
+        limits,
+        &work[..],
+    );
     let against = opening.against;
     match against {
         Against::Refused(refusal) => SaidRows::Refuses(refusal, 0, 0),
         Against::Nothing => {
-            let vars = env.count;
-            let cells = 2 * vars * limits.room;
-            let call = Call {
-                limits,
-                vars,
-                asked: point,
-            };
-            let given = walk_rows(file, &mut work[..cells], call, env, node, binders, output);
+            let cells = opening.cells;
+            let part = &mut work[..cells];
+            let said = walk_rows(file, part, opening.call, opening.env, node, binders, output);
             rows::output::clear(work, cells);
-            given
+            said
         }
     }
 }

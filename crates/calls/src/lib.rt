@@ -1,4 +1,4 @@
-// What the outside calls: the check of a case, the verdict of a condition, the number of an aggregate, the rows of a condition.
+// What the outside calls: the check of a case, the answer of a condition or an aggregate, the rows of a condition.
 pub mod checked;
 mod opening;
 mod start;
@@ -7,17 +7,12 @@ use casecheck::Checking;
 use meaning::Limits;
 use meaning::NodeNo;
 use meaning::Refusal;
-ghost use Rattle.calls.specs.Promises.{callOf, Checks, Verdicts, Numbers, Rowed};
+ghost use Rattle.calls.specs.Promises.{callOf, Checks, Answers, Rowed};
 
-// an answer or a refusal, each with the steps spent and the greatest number of rows held
-pub enum SaidVerdict {
-    Gives(bool, u64, usize),
-    Refuses(Refusal, u64, usize),
-}
-
-// the 64 bits of an aggregate's number
-pub enum SaidNumber {
-    Gives(u64, u64, usize),
+// of a condition yes or no, of an aggregate its number's 64 bits, or a refusal; each with the steps spent and the greatest number of rows held
+pub enum SaidAnswer {
+    Verdict(bool, u64, usize),
+    Number(u64, u64, usize),
     Refuses(Refusal, u64, usize),
 }
 
@@ -33,35 +28,19 @@ pub fn check(file: &[u8]) -> Checking
     casecheck::check(file)
 }
 
-pub fn verdict(
+pub fn ask(
     file: &[u8],
     point: usize,
     node: NodeNo,
     start: &[u64],
     limits: Limits,
     work: &mut [u64],
-) -> SaidVerdict
-    ensures { λ r. ⌜ Verdicts (callOf (now (file .entry)) point (node .0) (now (start .entry)) limits (now (work .entry))) (now (work .exit)) r ⌝ }
+) -> SaidAnswer
+    ensures { λ r. ⌜ Answers (callOf (now (file .entry)) point (node .0) (now (start .entry)) limits (now (work .entry))) (now (work .exit)) r ⌝ }
 {
     match casecheck::check(file) {
-        Checking::Passes(_) => checked::verdict(file, point, node, start, limits, work),
-        Checking::Refused(refusal) => SaidVerdict::Refuses(refusal, 0, 0),
-    }
-}
-
-pub fn number(
-    file: &[u8],
-    point: usize,
-    node: NodeNo,
-    start: &[u64],
-    limits: Limits,
-    work: &mut [u64],
-) -> SaidNumber
-    ensures { λ r. ⌜ Numbers (callOf (now (file .entry)) point (node .0) (now (start .entry)) limits (now (work .entry))) (now (work .exit)) r ⌝ }
-{
-    match casecheck::check(file) {
-        Checking::Passes(_) => checked::number(file, point, node, start, limits, work),
-        Checking::Refused(refusal) => SaidNumber::Refuses(refusal, 0, 0),
+        Checking::Passes(_) => checked::ask(file, point, node, start, limits, work),
+        Checking::Refused(refusal) => SaidAnswer::Refuses(refusal, 0, 0),
     }
 }
 

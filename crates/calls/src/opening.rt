@@ -1,5 +1,6 @@
-// 7 to 10: what is against a call of a checked case, or the environment that it starts with.
+// 7 to 10: what is against a call of a checked case, or what its walk starts with.
 use super::start::start_env;
+use evaluator::Call;
 use meaning::Env;
 use meaning::Limits;
 use meaning::Node;
@@ -9,15 +10,15 @@ use stringcheck::point_count;
 ghost use mathlib.Core.Path.{_≡_};
 ghost use mathlib.Core.Bool.{Bool, not};
 ghost use Prim.Native.Nat.{_≤_};
-ghost use Rattle.meaning.specs.Case.{conditions, aggregates, isSort, sortOf};
+ghost use Rattle.meaning.specs.Calls.{isCondition, isAggregate, answerable};
 ghost use Rattle.meaning.specs.Check.{Checked};
 ghost use Rattle.calls.specs.Promises.{callOf};
-ghost use Rattle.calls.specs.Opening.{sortFor, inLimits, turnedDown, Opens};
+ghost use Rattle.calls.specs.Opening.{wantedFor, inLimits, turnedDown, Opens};
 
-// the sort of node that a call answers
-pub enum Sort {
+// the nodes that a call is about
+pub enum Wanted {
+    Answerable,
     Condition,
-    Aggregate,
 }
 
 pub enum Against {
@@ -25,23 +26,25 @@ pub enum Against {
     Refused(Refusal),
 }
 
-// what is against a call, and the environment where nothing is
+// what is against a call; where nothing is, the environment, what stays the same during the walk, and its cells of the workspace
 pub struct Opening {
     pub against: Against,
     pub env: Env,
+    pub call: Call,
+    pub cells: usize,
 }
 
-fn is_sort(sort: Sort, node: Node) -> bool
-    ensures { λ r. ⌜ _≡_ {A = Bool} r (isSort (sortFor sort) (sortOf node)) ⌝ }
+fn is_wanted(wanted: Wanted, node: Node) -> bool
+    ensures { λ r. ⌜ _≡_ {A = Bool} r (wantedFor wanted node) ⌝ }
 {
-    match sort {
-        Sort::Condition => is_condition(node),
-        Sort::Aggregate => is_aggregate(node),
+    match wanted {
+        Wanted::Answerable => is_answerable(node),
+        Wanted::Condition => is_condition(node),
     }
 }
 
 fn is_condition(node: Node) -> bool
-    ensures { λ r. ⌜ _≡_ {A = Bool} r (isSort conditions (sortOf node)) ⌝ }
+    ensures { λ r. ⌜ _≡_ {A = Bool} r (isCondition node) ⌝ }
 {
     match node {
         Node::And(_, _)
@@ -63,8 +66,8 @@ fn is_condition(node: Node) -> bool
     }
 }
 
-fn is_aggregate(node: Node) -> bool
-    ensures { λ r. ⌜ _≡_ {A = Bool} r (isSort aggregates (sortOf node)) ⌝ }
+pub fn is_aggregate(node: Node) -> bool
+    ensures { λ r. ⌜ _≡_ {A = Bool} r (isAggregate node) ⌝ }
 {
     match node {
         Node::Sum {
@@ -78,6 +81,15 @@ fn is_aggregate(node: Node) -> bool
         } => true,
         _ => false,
     }
+}
+
+fn is_answerable(node: Node) -> bool
+    ensures { λ r. ⌜ _≡_ {A = Bool} r (answerable node) ⌝ }
+{
+    if is_condition(node) {
+        return true;
+    }
+    is_aggregate(node)
 }
 
 // limits above their most, or a workspace too short for the rows
@@ -94,19 +106,21 @@ fn beyond(vars: usize, limits: Limits, cells: usize) -> bool
     cells < 2 * vars * limits.room
 }
 
-fn refused(refusal: Refusal, env: Env) -> Opening
-    ensures { λ r. ⌜ r ≡ turnedDown refusal env ⌝ }
+fn refused(refusal: Refusal, env: Env, call: Call) -> Opening
+    ensures { λ r. ⌜ r ≡ turnedDown refusal env call ⌝ }
 {
     Opening {
         against: Against::Refused(refusal),
         env,
+        call,
+        cells: 0,
     }
 }
 
 // the lowest of 7 to 10 that is broken, or none
 pub fn open(
     s: &[u8],
-    sort: Sort,
+    wanted: Wanted,
     point: usize,
     node: NodeNo,
     start: &[u64],
@@ -114,28 +128,36 @@ pub fn open(
     work: &[u64],
 ) -> Opening
     requires { ⌜ Checked (now s) ⌝ }
-    ensures { λ r. ⌜ Opens (sortFor sort) (callOf (now (s .entry)) point (node .0) (now (start .entry)) limits (now (work .entry))) r ⌝ }
+    ensures { λ r. ⌜ Opens (wantedFor wanted) (callOf (now (s .entry)) point (node .0) (now (start .entry)) limits (now (work .entry))) r ⌝ }
 {
     let first = start_env(s, start);
     let env = first.env;
+    let vars = env.count;
+    let call = Call {
+        limits,
+        vars,
+        asked: point,
+    };
     if point_count(s) as usize <= point {
-        return refused(Refusal::NoSuchPoint, env);
+        return refused(Refusal::NoSuchPoint, env, call);
     }
-    // beyond the table a node is Broken, of neither sort
+    // beyond the table a node is Broken, which no call is about
     let asked = tables::node_at(s, node);
-    let sorted = is_sort(sort, asked);
+    let sorted = is_wanted(wanted, asked);
     let started = first.ok;
     if !sorted {
-        return refused(Refusal::NoSuchNode, env);
+        return refused(Refusal::NoSuchNode, env, call);
     }
     if !started {
-        return refused(Refusal::BadStart, env);
+        return refused(Refusal::BadStart, env, call);
     }
-    if beyond(env.count, limits, work.len()) {
-        return refused(Refusal::BadLimits, env);
+    if beyond(vars, limits, work.len()) {
+        return refused(Refusal::BadLimits, env, call);
     }
     Opening {
         against: Against::Nothing,
         env,
+        call,
+        cells: 2 * vars * limits.room,
     }
 }

@@ -1,15 +1,39 @@
--- What a told answer is, once it is known which way it was said
-use mathlib.Core.Path.{_≡_, sym, ap, _∙_}
-use mathlib.Core.List.{List, [], _∷_, _++_}
+-- What is told of a call, once it is known which way it was said
+use mathlib.Core.Path.{_≡_, refl}
+use mathlib.Core.Bool.{Bool}
 use Prim.Native.Nat.{ℕ}
-use lib.ListN.{drop}
-use Rattle.meaning.specs.Calls.{Said}
-use Rattle.capi.specs.Seen.{saidNumber, toldCells}
+use Rattle.meaning.specs.declared.Refusal.{Refusal}
+use Rattle.meaning.specs.Calls.{numberOf}
+use Rattle.calls.specs.declared.SaidAnswer.{SaidAnswer}
+use Rattle.calls.specs.declared.SaidAnswer.the-variants as Ans
+use Rattle.calls.specs.declared.SaidRows.{SaidRows}
+use Rattle.calls.specs.declared.SaidRows.the-variants as Rows
+use Rattle.calls.specs.Promises.{asAnswer, asRows}
+use Rattle.capi.specs.declared.telling.Telling.{Telling as Told}
+use Rattle.capi.specs.Seen.{saidNumber, toldCells, yesCell, answerCell, sortCell, countCell, noCell}
+use Rattle.capi.specs.Telling.{refusing, Telling}
 
--- said so, a number and cells that fit it
-pub told-so : {S A : Type 0} (reading : S → Said A) (cell : A → ℕ) (lent : List ℕ) {said so : S} {r : ℕ} {told : List ℕ} → said ≡ so → r ≡ saidNumber (reading so) → told ≡ toldCells cell (reading so) ++ drop 3 lent → (r ≡ saidNumber (reading said)) × (told ≡ toldCells cell (reading said) ++ drop 3 lent)
-told-so reading cell lent e n t = (n ∙ sym (ap (λ v. saidNumber (reading v)) e), t ∙ sym (ap (λ v. toldCells cell (reading v) ++ drop 3 lent) e))
+pub refused-as : {n steps most : ℕ} (k : Refusal) → n ≡ numberOf k → record { number = n; answer = 0; steps = steps; most = most; fourth = 0 } ≡ refusing (numberOf k) steps most
+refused-as k e = rw e refl
 
--- the answer's cell, by what it is equal to
-pub first-cell : {a b : ℕ} (steps most : ℕ) (rest : List ℕ) → a ≡ b → (a ∷ steps ∷ most ∷ []) ++ rest ≡ (b ∷ steps ∷ most ∷ []) ++ rest
-first-cell steps most rest e = ap (λ (n : ℕ). (n ∷ steps ∷ most ∷ []) ++ rest) e
+module _ {said : SaidAnswer} {steps most : ℕ} where
+  pub told-verdict : {b : Bool} {a : ℕ} → said ≡ Ans.Verdict b steps most → a ≡ yesCell b → Telling answerCell sortCell (asAnswer said) (record { number = 0; answer = a; steps = steps; most = most; fourth = 0 })
+  unfolding asAnswer saidNumber toldCells answerCell sortCell
+  told-verdict e a = rw (e, a) (record { number = refl; cells = refl })
+
+  pub told-number : {bits : ℕ} → said ≡ Ans.Number bits steps most → Telling answerCell sortCell (asAnswer said) (record { number = 0; answer = bits; steps = steps; most = most; fourth = 1 })
+  unfolding asAnswer saidNumber toldCells answerCell sortCell
+  told-number e = rw e (record { number = refl; cells = refl })
+
+  pub told-refused : {n : Refusal} {t : Told} → said ≡ Ans.Refuses n steps most → t ≡ refusing (numberOf n) steps most → Telling answerCell sortCell (asAnswer said) t
+  unfolding asAnswer saidNumber toldCells
+  told-refused e is = rw (e, is) (record { number = refl; cells = refl })
+
+module _ {said : SaidRows} {steps most : ℕ} where
+  pub told-count : {n : ℕ} → said ≡ Rows.Gives n steps most → Telling countCell noCell (asRows said) (record { number = 0; answer = n; steps = steps; most = most; fourth = 0 })
+  unfolding asRows saidNumber toldCells
+  told-count e = rw e (record { number = refl; cells = refl })
+
+  pub told-no-rows : {n : Refusal} {t : Told} → said ≡ Rows.Refuses n steps most → t ≡ refusing (numberOf n) steps most → Telling countCell noCell (asRows said) t
+  unfolding asRows saidNumber toldCells
+  told-no-rows e is = rw (e, is) (record { number = refl; cells = refl })

@@ -6,49 +6,36 @@ use lib.ListN.{length, drop}
 use borrow.Author.Tests.{lt-ltb, le-ltb}
 use Rattle.meaning.specs.declared.Refusal.{Refusal}
 use Rattle.meaning.specs.Laws.Tests.{yes, no}
-use Rattle.meaning.specs.Calls.{numberOf, Call, Said, Result}
+use Rattle.meaning.specs.Calls.{numberOf, Call, Said, Result, askCall, rowsCall}
 use Rattle.casecheck.specs.declared.Contents.{Contents}
 use Rattle.casecheck.specs.declared.Checking.the-variants.{Passes, Refused}
 use Rattle.casecheck.specs.declared.Checking.{Checking}
-use Rattle.calls.specs.declared.SaidVerdict.{SaidVerdict}
-use Rattle.calls.specs.declared.SaidNumber.{SaidNumber}
+use Rattle.calls.specs.declared.SaidAnswer.{SaidAnswer}
 use Rattle.calls.specs.declared.SaidRows.{SaidRows}
-use Rattle.calls.specs.Promises.{Verdicts, Numbers, Rowed, asCheck, asVerdict, asNumber, asRows}
+use Rattle.calls.specs.Promises.{Answers, Rowed, asCheck, asAnswer, asRows}
 use Rattle.calls.specs.Promises.{Checks as CheckSays}
-use Rattle.capi.specs.Seen.{tooFew, contentsAfter, checkSeen, CheckSeen, Checks, saidNumber, toldCells, askSeen, yesCell, verdictSeen, numberSeen, RowsSeen, rowsSeen, seen, TellsVerdict, TellsNumber, TellsRows}
+use Rattle.capi.specs.declared.telling.Telling.{Telling as Told}
+use Rattle.capi.specs.Telling.{cellsOf, Telling}
+use Rattle.capi.specs.Seen.{tooFew, contentsAfter, checkSeen, CheckSeen, Checks, saidNumber, toldCells, seen, askSeen, Tells, answerCell, sortCell, countCell, noCell}
 
--- ---- asking
+-- ---- asking, whatever the call
 
-asked : {A : Type 0} (cell : A → ℕ) (lent : List ℕ) {work told : List ℕ} {said : Said A} {r : ℕ} {result : Result A} (output : List ℕ) → record { said = said; workspace = work; output = output } ≡ result → r ≡ saidNumber said → told ≡ toldCells cell said ++ drop 3 lent → seen work told r ≡ askSeen cell result lent
-unfolding askSeen
-asked cell lent output e n t = cc
+module _ {A : Type 0} (cell fourth : A → ℕ) (r : Result A) (work output lent : List ℕ) where
+  pub unasked : length lent < 4 → Tells cell fourth r work output lent (seen tooFew work output lent)
+  unfolding askSeen
+  unasked h = record { is = sym (yes _ (lt-ltb (length lent) 4 h)) }
 
-pub verdict-told : {c : Call} {lent work told : List ℕ} {v : SaidVerdict} {r : ℕ} → 3 ≤ length lent → Verdicts c work v → r ≡ saidNumber (asVerdict v) → told ≡ toldCells yesCell (asVerdict v) ++ drop 3 lent → TellsVerdict c lent work told r
-unfolding verdictSeen
-verdict-told {lent = lent} h v n t = record { is = sym (no _ (le-ltb (length lent) 3 h) (sym (asked yesCell lent [] (v .is) n t))) }
+  asked : {said : Said A} {t : Told} {work′ output′ told : List ℕ} {k : ℕ} → 4 ≤ length lent → record { said = said; workspace = work′; output = output′ } ≡ r → Telling cell fourth said t → (k ≡ t .number) × (told ≡ cellsOf t ++ drop 4 lent) → Tells cell fourth r work output lent (seen k work′ output′ told)
+  unfolding askSeen
+  asked h says tells is = record {
+    is = sym (no _ (le-ltb (length lent) 4 h) (sym (rw (← says) (cc (is .0, is .1, tells .number, tells .cells)))));
+  }
 
-pub verdict-unasked : (c : Call) (lent : List ℕ) → length lent < 3 → TellsVerdict c lent (c .workspace) lent tooFew
-unfolding verdictSeen
-verdict-unasked c lent h = record { is = sym (yes _ (lt-ltb (length lent) 3 h)) }
+pub ask-told : {c : Call} {lent work told : List ℕ} {said : SaidAnswer} {t : Told} {k : ℕ} → 4 ≤ length lent → Answers c work said → Telling answerCell sortCell (asAnswer said) t → (k ≡ t .number) × (told ≡ cellsOf t ++ drop 4 lent) → Tells answerCell sortCell (askCall c) (c .workspace) [] lent (seen k work [] told)
+ask-told {c} {lent} h says = asked answerCell sortCell (askCall c) (c .workspace) [] lent h (says .is)
 
-pub number-told : {c : Call} {lent work told : List ℕ} {v : SaidNumber} {r : ℕ} → 3 ≤ length lent → Numbers c work v → r ≡ saidNumber (asNumber v) → told ≡ toldCells (λ (n : ℕ). n) (asNumber v) ++ drop 3 lent → TellsNumber c lent work told r
-unfolding numberSeen
-number-told {lent = lent} h v n t = record { is = sym (no _ (le-ltb (length lent) 3 h) (sym (asked (λ (n : ℕ). n) lent [] (v .is) n t))) }
-
-pub number-unasked : (c : Call) (lent : List ℕ) → length lent < 3 → TellsNumber c lent (c .workspace) lent tooFew
-unfolding numberSeen
-number-unasked c lent h = record { is = sym (yes _ (lt-ltb (length lent) 3 h)) }
-
-rows-seen : (lent : List ℕ) {work told filled : List ℕ} {said : Said ℕ} {r : ℕ} {result : Result ℕ} → record { said = said; workspace = work; output = filled } ≡ result → r ≡ saidNumber said → told ≡ toldCells (λ (n : ℕ). n) said ++ drop 3 lent → _≡_ {A = RowsSeen} (record { asked = seen work told r; output = filled }) (record { asked = askSeen (λ (n : ℕ). n) result lent; output = result .output })
-rows-seen lent {filled = filled} {result = result} e n t = let f = asked (λ (n : ℕ). n) lent {result = result} filled e n t in let g = ap (λ (x : Result ℕ). x .output) e in cc
-
-pub rows-told : {c : Call} {binders output lent work filled told : List ℕ} {v : SaidRows} {r : ℕ} → 3 ≤ length lent → Rowed c binders output work filled v → r ≡ saidNumber (asRows v) → told ≡ toldCells (λ (n : ℕ). n) (asRows v) ++ drop 3 lent → TellsRows c binders output lent work filled told r
-unfolding rowsSeen
-rows-told {lent = lent} h v n t = record { is = sym (no _ (le-ltb (length lent) 3 h) (sym (rows-seen lent (v .is) n t))) }
-
-pub rows-unasked : (c : Call) (binders output lent : List ℕ) → length lent < 3 → TellsRows c binders output lent (c .workspace) output lent tooFew
-unfolding rowsSeen
-rows-unasked c binders output lent h = record { is = sym (yes _ (lt-ltb (length lent) 3 h)) }
+pub rows-told : {c : Call} {binders output lent work filled told : List ℕ} {said : SaidRows} {t : Told} {k : ℕ} → 4 ≤ length lent → Rowed c binders output work filled said → Telling countCell noCell (asRows said) t → (k ≡ t .number) × (told ≡ cellsOf t ++ drop 4 lent) → Tells countCell noCell (rowsCall binders output c) (c .workspace) output lent (seen k work filled told)
+rows-told {c} {binders} {output} {lent} h says = asked countCell noCell (rowsCall binders output c) (c .workspace) output lent h (says .is)
 
 -- ---- the check
 

@@ -6,7 +6,7 @@ use Prim.Native.Nat.{ℕ}
 use lib.Dec.{ltb}
 use lib.ListN.{length, drop}
 use Rattle.meaning.specs.Tests.{choose}
-use Rattle.meaning.specs.Calls.{checkCall, verdictCall, numberCall, rowsCall, Call, Said, gives, refuses, Result}
+use Rattle.meaning.specs.Calls.{checkCall, Said, gives, refuses, Result, Answer, verdict, number}
 
 -- the layer's own complaint, which no document's refusal has: the cells for the answer are too few, and nothing was done
 abbrev pub tooFew : ℕ
@@ -39,60 +39,48 @@ pub record Checks (s lent after : List ℕ) (r : ℕ) : Type 0 where
 
 -- ---- asking
 
--- the answer's cell (0 where refused), steps spent, the greatest number of rows held
-unfoldable pub toldCells : {A : Type 0} → (A → ℕ) → Said A → List ℕ
-toldCells cell (gives a steps most) = cell a ∷ steps ∷ most ∷ []
-toldCells cell (refuses n steps most) = 0 ∷ steps ∷ most ∷ []
+-- the answer's cell, steps spent, the greatest number of rows held, and the call's own fourth; first and fourth are 0 where refused
+unfoldable pub toldCells : {A : Type 0} → (A → ℕ) → (A → ℕ) → Said A → List ℕ
+toldCells cell fourth (gives a steps most) = cell a ∷ steps ∷ most ∷ fourth a ∷ []
+toldCells cell fourth (refuses n steps most) = 0 ∷ steps ∷ most ∷ 0 ∷ []
 
--- the number returned, the workspace, and the cells that the answer is told in
-pub record AskSeen : Type 0 where
+-- the number returned, the workspace, the output, and the cells that the answer is told in
+pub record Seen : Type 0 where
   pub number : ℕ
   pub workspace : List ℕ
+  pub output : List ℕ
   pub told : List ℕ
 
-unfoldable pub askSeen : {A : Type 0} → (A → ℕ) → Result A → List ℕ → AskSeen
-askSeen cell r lent = record {
-  number = saidNumber (r .said);
-  workspace = r .workspace;
-  told = toldCells cell (r .said) ++ drop 3 lent;
-}
+abbrev pub seen : ℕ → List ℕ → List ℕ → List ℕ → Seen
+seen r work output told = record { number = r; workspace = work; output = output; told = told }
 
-abbrev pub notAsked : List ℕ → List ℕ → AskSeen
-notAsked work lent = record { number = tooFew; workspace = work; told = lent }
+-- of any asking call: what it comes to, and the workspace, the output and the told cells before it
+unfoldable pub askSeen : {A : Type 0} → (A → ℕ) → (A → ℕ) → Result A → List ℕ → List ℕ → List ℕ → Seen
+askSeen cell fourth r work output lent =
+    choose (ltb (length lent) 4) (seen tooFew work output lent)
+    (seen (saidNumber (r .said)) (r .workspace) (r .output) (toldCells cell fourth (r .said) ++ drop 4 lent))
 
--- a yes is 1, a no 0
+pub record Tells {A : Type 0} (cell fourth : A → ℕ) (r : Result A) (work output lent : List ℕ) (after : Seen) : Type 0 where
+  pub is : after ≡ askSeen cell fourth r work output lent
+
+-- ---- the ask call: 1 for a yes, 0 for a no; a number's 64 bits
+
 abbrev pub yesCell : Bool → ℕ
 yesCell b = cond b 1 0
 
-unfoldable pub verdictSeen : Call → List ℕ → AskSeen
-verdictSeen c lent =
-    choose (ltb (length lent) 3) (notAsked (c .workspace) lent) (askSeen yesCell (verdictCall c) lent)
+unfoldable pub answerCell : Answer → ℕ
+answerCell (verdict b) = yesCell b
+answerCell (number bits) = bits
 
--- a number's cell has its 64 bits
-unfoldable pub numberSeen : Call → List ℕ → AskSeen
-numberSeen c lent =
-    choose (ltb (length lent) 3) (notAsked (c .workspace) lent) (askSeen (λ bits. bits) (numberCall c) lent)
+-- 0 where the answer is a verdict, 1 where it is a number
+unfoldable pub sortCell : Answer → ℕ
+sortCell (verdict b) = 0
+sortCell (number bits) = 1
 
--- what is seen of the other calls, and the output
-pub record RowsSeen : Type 0 where
-  pub asked : AskSeen
-  pub output : List ℕ
+-- ---- the rows call: how many rows, and nothing more
 
-unfoldable pub rowsSeen : List ℕ → List ℕ → Call → List ℕ → RowsSeen
-rowsSeen binders output c lent =
-    let r = rowsCall binders output c in
-    choose (ltb (length lent) 3) (record { asked = notAsked (c .workspace) lent; output = output })
-    (record { asked = askSeen (λ n. n) r lent; output = r .output })
+abbrev pub countCell : ℕ → ℕ
+countCell n = n
 
--- workspace and told cells after the call, and the number returned
-abbrev pub seen : List ℕ → List ℕ → ℕ → AskSeen
-seen work told r = record { number = r; workspace = work; told = told }
-
-pub record TellsVerdict (c : Call) (lent work told : List ℕ) (r : ℕ) : Type 0 where
-  pub is : seen work told r ≡ verdictSeen c lent
-
-pub record TellsNumber (c : Call) (lent work told : List ℕ) (r : ℕ) : Type 0 where
-  pub is : seen work told r ≡ numberSeen c lent
-
-pub record TellsRows (c : Call) (binders output lent work filled told : List ℕ) (r : ℕ) : Type 0 where
-  pub is : _≡_ {A = RowsSeen} (record { asked = seen work told r; output = filled }) (rowsSeen binders output c lent)
+abbrev pub noCell : ℕ → ℕ
+noCell n = 0

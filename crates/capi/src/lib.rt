@@ -7,22 +7,27 @@ use meaning::ArithOp;
 use meaning::Limits;
 use meaning::NodeNo;
 use meaning::Window;
+use telling::of_answer;
+use telling::of_rows;
+use telling::tell;
 use telling::tell_contents;
-use telling::tell_number;
-use telling::tell_rows;
-use telling::tell_verdict;
 ghost use mathlib.Core.Path.{_≡_};
+ghost use mathlib.Core.List.{[]};
 ghost use mir.Val.{toZ};
 ghost use mir.Syntax.{w64};
 ghost use Rattle.meaning.specs.declared.ArithOp.the-variants.{Sub};
 ghost use Rattle.meaning.specs.Number.{calculate, window};
 ghost use Rattle.meaning.specs.Check.{Checked};
+ghost use Rattle.meaning.specs.Calls.{askCall, rowsCall};
 ghost use Rattle.calls.specs.Promises.{callOf};
-ghost use Rattle.capi.specs.Seen.{Checks, TellsVerdict, TellsNumber, TellsRows};
+ghost use Rattle.capi.specs.Seen.{Checks, Tells, seen, answerCell, sortCell, countCell, noCell};
 ghost use Rattle.capi.specs.Window.{windowNumber};
 
 // the layer's own complaint: the cells for the answer are too few
 const TOO_FEW: u64 = 100;
+
+// the answer's cell, steps, rows held, and the call's own fourth
+const TOLD_CELLS: usize = 4;
 
 #[no_mangle]
 pub extern "C" fn galivodern_check(file: &[u8], contents: &mut [u64]) -> u64
@@ -39,7 +44,7 @@ pub extern "C" fn galivodern_check(file: &[u8], contents: &mut [u64]) -> u64
 }
 
 #[no_mangle]
-pub extern "C" fn galivodern_verdict(
+pub extern "C" fn galivodern_ask(
     file: &[u8],
     point: usize,
     node: u32,
@@ -49,35 +54,14 @@ pub extern "C" fn galivodern_verdict(
     work: &mut [u64],
     told: &mut [u64],
 ) -> u64
-    ensures { λ r. ⌜ TellsVerdict (callOf (now (file .entry)) point node (now (start .entry)) (record { steps = steps; room = room }) (now (work .entry))) (now (told .entry)) (now (work .exit)) (now (told .exit)) r ⌝ }
+    ensures { λ r. ⌜ Tells answerCell sortCell (askCall (callOf (now (file .entry)) point node (now (start .entry)) (record { steps = steps; room = room }) (now (work .entry)))) (now (work .entry)) [] (now (told .entry)) (seen r (now (work .exit)) [] (now (told .exit))) ⌝ }
 {
-    if told.len() < 3 {
+    if told.len() < TOLD_CELLS {
         return TOO_FEW;
     }
     let limits = Limits { steps, room };
-    let said = calls::verdict(file, point, NodeNo(node), start, limits, work);
-    tell_verdict(said, told)
-}
-
-#[no_mangle]
-pub extern "C" fn galivodern_number(
-    file: &[u8],
-    point: usize,
-    node: u32,
-    start: &[u64],
-    steps: u64,
-    room: usize,
-    work: &mut [u64],
-    told: &mut [u64],
-) -> u64
-    ensures { λ r. ⌜ TellsNumber (callOf (now (file .entry)) point node (now (start .entry)) (record { steps = steps; room = room }) (now (work .entry))) (now (told .entry)) (now (work .exit)) (now (told .exit)) r ⌝ }
-{
-    if told.len() < 3 {
-        return TOO_FEW;
-    }
-    let limits = Limits { steps, room };
-    let said = calls::number(file, point, NodeNo(node), start, limits, work);
-    tell_number(said, told)
+    let said = calls::ask(file, point, NodeNo(node), start, limits, work);
+    tell(of_answer(said), told)
 }
 
 #[no_mangle]
@@ -93,9 +77,9 @@ pub extern "C" fn galivodern_rows(
     output: &mut [u64],
     told: &mut [u64],
 ) -> u64
-    ensures { λ r. ⌜ TellsRows (callOf (now (file .entry)) point node (now (start .entry)) (record { steps = steps; room = room }) (now (work .entry))) (now (binders .entry)) (now (output .entry)) (now (told .entry)) (now (work .exit)) (now (output .exit)) (now (told .exit)) r ⌝ }
+    ensures { λ r. ⌜ Tells countCell noCell (rowsCall (now (binders .entry)) (now (output .entry)) (callOf (now (file .entry)) point node (now (start .entry)) (record { steps = steps; room = room }) (now (work .entry)))) (now (work .entry)) (now (output .entry)) (now (told .entry)) (seen r (now (work .exit)) (now (output .exit)) (now (told .exit))) ⌝ }
 {
-    if told.len() < 3 {
+    if told.len() < TOLD_CELLS {
         return TOO_FEW;
     }
     let limits = Limits { steps, room };
@@ -109,11 +93,11 @@ pub extern "C" fn galivodern_rows(
         work,
         output,
     );
-    tell_rows(said, told)
+    tell(of_rows(said), told)
 }
 
 #[no_mangle]
-pub extern "C" fn galivodern_checked_verdict(
+pub extern "C" fn galivodern_checked_ask(
     file: &[u8],
     point: usize,
     node: u32,
@@ -124,36 +108,14 @@ pub extern "C" fn galivodern_checked_verdict(
     told: &mut [u64],
 ) -> u64
     requires { ⌜ Checked (now file) ⌝ }
-    ensures { λ r. ⌜ TellsVerdict (callOf (now (file .entry)) point node (now (start .entry)) (record { steps = steps; room = room }) (now (work .entry))) (now (told .entry)) (now (work .exit)) (now (told .exit)) r ⌝ }
+    ensures { λ r. ⌜ Tells answerCell sortCell (askCall (callOf (now (file .entry)) point node (now (start .entry)) (record { steps = steps; room = room }) (now (work .entry)))) (now (work .entry)) [] (now (told .entry)) (seen r (now (work .exit)) [] (now (told .exit))) ⌝ }
 {
-    if told.len() < 3 {
+    if told.len() < TOLD_CELLS {
         return TOO_FEW;
     }
     let limits = Limits { steps, room };
-    let said = checked::verdict(file, point, NodeNo(node), start, limits, work);
-    tell_verdict(said, told)
-}
-
-#[no_mangle]
-pub extern "C" fn galivodern_checked_number(
-    file: &[u8],
-    point: usize,
-    node: u32,
-    start: &[u64],
-    steps: u64,
-    room: usize,
-    work: &mut [u64],
-    told: &mut [u64],
-) -> u64
-    requires { ⌜ Checked (now file) ⌝ }
-    ensures { λ r. ⌜ TellsNumber (callOf (now (file .entry)) point node (now (start .entry)) (record { steps = steps; room = room }) (now (work .entry))) (now (told .entry)) (now (work .exit)) (now (told .exit)) r ⌝ }
-{
-    if told.len() < 3 {
-        return TOO_FEW;
-    }
-    let limits = Limits { steps, room };
-    let said = checked::number(file, point, NodeNo(node), start, limits, work);
-    tell_number(said, told)
+    let said = checked::ask(file, point, NodeNo(node), start, limits, work);
+    tell(of_answer(said), told)
 }
 
 #[no_mangle]
@@ -170,9 +132,9 @@ pub extern "C" fn galivodern_checked_rows(
     told: &mut [u64],
 ) -> u64
     requires { ⌜ Checked (now file) ⌝ }
-    ensures { λ r. ⌜ TellsRows (callOf (now (file .entry)) point node (now (start .entry)) (record { steps = steps; room = room }) (now (work .entry))) (now (binders .entry)) (now (output .entry)) (now (told .entry)) (now (work .exit)) (now (output .exit)) (now (told .exit)) r ⌝ }
+    ensures { λ r. ⌜ Tells countCell noCell (rowsCall (now (binders .entry)) (now (output .entry)) (callOf (now (file .entry)) point node (now (start .entry)) (record { steps = steps; room = room }) (now (work .entry)))) (now (work .entry)) (now (output .entry)) (now (told .entry)) (seen r (now (work .exit)) (now (output .exit)) (now (told .exit))) ⌝ }
 {
-    if told.len() < 3 {
+    if told.len() < TOLD_CELLS {
         return TOO_FEW;
     }
     let limits = Limits { steps, room };
@@ -186,7 +148,7 @@ pub extern "C" fn galivodern_checked_rows(
         work,
         output,
     );
-    tell_rows(said, told)
+    tell(of_rows(said), told)
 }
 
 #[no_mangle]

@@ -1,14 +1,25 @@
 // Writes what a call said into the cells that a caller lends, and gives the number to return.
-use calls::SaidNumber;
+use calls::SaidAnswer;
 use calls::SaidRows;
-use calls::SaidVerdict;
 use casecheck::Contents;
+use meaning::Refusal;
 ghost use mathlib.Core.Path.{_≡_};
 ghost use mathlib.Core.List.{[], _∷_, _++_};
-ghost use Prim.Native.Nat.{ℕ, _≤_};
+ghost use Prim.Native.Nat.{_≤_};
 ghost use lib.ListN.{length, drop};
-ghost use Rattle.calls.specs.Promises.{asVerdict, asNumber, asRows};
-ghost use Rattle.capi.specs.Seen.{yesCell, saidNumber, toldCells};
+ghost use Rattle.meaning.specs.Calls.{numberOf};
+ghost use Rattle.calls.specs.Promises.{asAnswer, asRows};
+ghost use Rattle.capi.specs.Seen.{yesCell, answerCell, sortCell, countCell, noCell};
+ghost use Rattle.capi.specs.Telling.{cellsOf, refusing, Telling as TellingOf};
+
+// the number to return, and the four cells
+pub struct Telling {
+    pub number: u64,
+    pub answer: u64,
+    pub steps: u64,
+    pub most: usize,
+    pub fourth: u64,
+}
 
 pub fn tell_contents(found: Contents, lent: &mut [u64]) -> u64
     requires { ⌜ 5 ≤ length (now lent) ⌝ }
@@ -22,14 +33,27 @@ pub fn tell_contents(found: Contents, lent: &mut [u64]) -> u64
     0
 }
 
-// the answer's cell, steps spent, the greatest number of rows held
-fn tell(answer: u64, steps: u64, most: usize, lent: &mut [u64])
-    requires { ⌜ 3 ≤ length (now lent) ⌝ }
-    ensures { λ _. ⌜ now (lent .exit) ≡ (answer ∷ steps ∷ most ∷ []) ++ drop 3 (now (lent .entry)) ⌝ }
+pub fn tell(t: Telling, lent: &mut [u64]) -> u64
+    requires { ⌜ 4 ≤ length (now lent) ⌝ }
+    ensures { λ r. ⌜ (r ≡ t .number) × (now (lent .exit) ≡ cellsOf t ++ drop 4 (now (lent .entry))) ⌝ }
 {
-    lent[0] = answer;
-    lent[1] = steps;
-    lent[2] = most as u64;
+    lent[0] = t.answer;
+    lent[1] = t.steps;
+    lent[2] = t.most as u64;
+    lent[3] = t.fourth;
+    t.number
+}
+
+fn refuse(refusal: Refusal, steps: u64, most: usize) -> Telling
+    ensures { λ r. ⌜ r ≡ refusing (numberOf refusal) steps most ⌝ }
+{
+    Telling {
+        number: refusals::number(refusal),
+        answer: 0,
+        steps,
+        most,
+        fourth: 0,
+    }
 }
 
 fn yes_cell(yes: bool) -> u64
@@ -38,50 +62,39 @@ fn yes_cell(yes: bool) -> u64
     if yes { 1 } else { 0 }
 }
 
-pub fn tell_verdict(said: SaidVerdict, lent: &mut [u64]) -> u64
-    requires { ⌜ 3 ≤ length (now lent) ⌝ }
-    ensures { λ r. ⌜ (r ≡ saidNumber (asVerdict said)) × (now (lent .exit) ≡ toldCells yesCell (asVerdict said) ++ drop 3 (now (lent .entry))) ⌝ }
+pub fn of_answer(said: SaidAnswer) -> Telling
+    ensures { λ r. ⌜ TellingOf answerCell sortCell (asAnswer said) r ⌝ }
 {
     match said {
-        SaidVerdict::Gives(yes, steps, most) => {
-            tell(yes_cell(yes), steps, most, lent);
-            0
-        }
-        SaidVerdict::Refuses(refusal, steps, most) => {
-            tell(0, steps, most, lent);
-            refusals::number(refusal)
-        }
+        SaidAnswer::Verdict(yes, steps, most) => Telling {
+            number: 0,
+            answer: yes_cell(yes),
+            steps,
+            most,
+            fourth: 0,
+        },
+        SaidAnswer::Number(bits, steps, most) => Telling {
+            number: 0,
+            answer: bits,
+            steps,
+            most,
+            fourth: 1,
+        },
+        SaidAnswer::Refuses(refusal, steps, most) => refuse(refusal, steps, most),
     }
 }
 
-pub fn tell_number(said: SaidNumber, lent: &mut [u64]) -> u64
-    requires { ⌜ 3 ≤ length (now lent) ⌝ }
-    ensures { λ r. ⌜ (r ≡ saidNumber (asNumber said)) × (now (lent .exit) ≡ toldCells (λ (n : ℕ). n) (asNumber said) ++ drop 3 (now (lent .entry))) ⌝ }
+pub fn of_rows(said: SaidRows) -> Telling
+    ensures { λ r. ⌜ TellingOf countCell noCell (asRows said) r ⌝ }
 {
     match said {
-        SaidNumber::Gives(bits, steps, most) => {
-            tell(bits, steps, most, lent);
-            0
-        }
-        SaidNumber::Refuses(refusal, steps, most) => {
-            tell(0, steps, most, lent);
-            refusals::number(refusal)
-        }
-    }
-}
-
-pub fn tell_rows(said: SaidRows, lent: &mut [u64]) -> u64
-    requires { ⌜ 3 ≤ length (now lent) ⌝ }
-    ensures { λ r. ⌜ (r ≡ saidNumber (asRows said)) × (now (lent .exit) ≡ toldCells (λ (n : ℕ). n) (asRows said) ++ drop 3 (now (lent .entry))) ⌝ }
-{
-    match said {
-        SaidRows::Gives(count, steps, most) => {
-            tell(count as u64, steps, most, lent);
-            0
-        }
-        SaidRows::Refuses(refusal, steps, most) => {
-            tell(0, steps, most, lent);
-            refusals::number(refusal)
-        }
+        SaidRows::Gives(count, steps, most) => Telling {
+            number: 0,
+            answer: count as u64,
+            steps,
+            most,
+            fourth: 0,
+        },
+        SaidRows::Refuses(refusal, steps, most) => refuse(refusal, steps, most),
     }
 }

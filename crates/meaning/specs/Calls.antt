@@ -1,4 +1,4 @@
--- The four calls, for every input: what is said, and the workspace and the output after it
+-- The three calls, for every input: what is said, and the workspace and the output after it
 use mathlib.Core.Bool.{Bool, true, false, not}
 use mathlib.Core.List.{List, [], _∷_, _++_, map}
 use mathlib.Core.Option.{Option, none, some}
@@ -9,11 +9,12 @@ use lib.IntN.{ℤ}
 use mir.Val.{ofZ}
 use mir.Syntax.{w64}
 use Rattle.meaning.specs.declared.Limits.{Limits}
+use Rattle.meaning.specs.declared.Node.{Node}
 use Rattle.meaning.specs.declared.Refusal.{Refusal}
 use Rattle.meaning.specs.declared.Refusal.the-variants.{BadContents, TooLarge, BadStrings, BadValues, BadPoints, BadNodes, NoSuchPoint, NoSuchNode, BadStart, BadLimits, StepsExhausted, RoomExhausted, BadOutput}
-use Rattle.meaning.specs.Tests.{_and_, choose, onlyIf, isSome, pick, firstBroken}
+use Rattle.meaning.specs.Tests.{_and_, _or_, choose, onlyIf, isSome, pick, firstBroken}
 use Rattle.meaning.specs.Walk.{W, started, Outcome, answered, refused, outcome}
-use Rattle.meaning.specs.Case.{Value, Sort, conditions, aggregates, isSort, sortOf, vars, strings, values, points, nodes, valueAt, nodeAt, pointAt, caseOf}
+use Rattle.meaning.specs.Case.{Value, conditions, aggregates, isSort, sortOf, vars, strings, values, points, nodes, valueAt, nodeAt, pointAt, caseOf}
 use Rattle.meaning.specs.Check.{check}
 use Rattle.meaning.specs.Equal.{Bound, boundOf, integer}
 use Rattle.meaning.specs.Rows.{Row, at, onto, addNew, inCells, cells}
@@ -84,14 +85,26 @@ unfoldable pub startOr : Option Row → Row
 startOr none = []
 startOr (some row) = row
 
+-- ---- 8: the nodes that a call is about
+
+unfoldable pub isCondition : Node → Bool
+isCondition n = isSort conditions (sortOf n)
+
+unfoldable pub isAggregate : Node → Bool
+isAggregate n = isSort aggregates (sortOf n)
+
+-- all but terms
+unfoldable pub answerable : Node → Bool
+answerable n = isCondition n or isAggregate n
+
 -- ---- 7 to 10, in a case that passed the check
 
-unfoldable pub against : Sort → Call → Option Refusal
-against sort c =
+unfoldable pub against : (Node → Bool) → Call → Option Refusal
+against wanted c =
     let s = c .file in
     firstBroken (
     (ltb (c .point) (points s), NoSuchPoint)
-    ∷ (ltb (c .node) (nodes s) and isSort sort (sortOf (nodeAt s (c .node))), NoSuchNode)
+    ∷ (ltb (c .node) (nodes s) and wanted (nodeAt s (c .node)), NoSuchNode)
     ∷ (isSome (startRow s (vars s) (c .start)), BadStart)
     ∷ (leb (c .limits .steps) 1000000000 and leb (c .limits .room) 16384 and leb (2 * vars s * c .limits .room) (length (c .workspace)), BadLimits)
     ∷ []
@@ -113,11 +126,12 @@ unfoldable pub unlessRefused : {A : Type 0} → Option Refusal → Said A → Sa
 unlessRefused (some n) said = refuses (numberOf n) 0 0
 unlessRefused none said = said
 
-unfoldable pub asking : {A : Type 0} → Sort → (Meaning → Question → W A) → Call → Said A
-asking sort manner c =
-    unlessRefused (check (c .file))
-    (unlessRefused (against sort c)
-    (told (outcome (c .limits) started (walkOf manner (c .file) (c .point) (c .node) (c .start)))))
+unfoldable pub unlessAgainst : {A : Type 0} → (Node → Bool) → Call → Said A → Said A
+unlessAgainst wanted c said = unlessRefused (check (c .file)) (unlessRefused (against wanted c) said)
+
+unfoldable pub asking : {A : Type 0} → (Node → Bool) → (Meaning → Question → W A) → Call → Said A
+asking wanted manner c =
+    unlessAgainst wanted c (told (outcome (c .limits) started (walkOf manner (c .file) (c .point) (c .node) (c .start))))
 
 -- the first n cells are 0, later ones unchanged
 unfoldable pub cleared : ℕ → List ℕ → List ℕ
@@ -138,16 +152,24 @@ result c said output = record { said = said; workspace = workspaceAfter c said; 
 unfoldable pub checkCall : List ℕ → Said (List ℕ)
 checkCall s = unlessRefused (check s) (gives (vars s ∷ strings s ∷ values s ∷ points s ∷ nodes s ∷ []) 0 0)
 
-unfoldable pub verdictCall : Call → Result Bool
-verdictCall c = result c (asking conditions (λ m q. m .verdict q) c) []
+-- ---- the ask call
 
--- a number is said by its 64 bits
-unfoldable pub inBits : Said ℤ → Said ℕ
-inBits (gives z steps most) = gives (ofZ w64 z) steps most
-inBits (refuses n steps most) = refuses n steps most
+-- of a condition a verdict, of an aggregate a number, said by its 64 bits
+pub data Answer : Type 0 where
+  verdict : Bool → Answer
+  number : ℕ → Answer
 
-unfoldable pub numberCall : Call → Result ℕ
-numberCall c = result c (inBits (asking aggregates (λ m q. m .number q) c)) []
+unfoldable pub saying : {A B : Type 0} → (A → B) → Said A → Said B
+saying f (gives a steps most) = gives (f a) steps most
+saying f (refuses n steps most) = refuses n steps most
+
+unfoldable pub askCall : Call → Result Answer
+askCall c =
+    result c
+    (choose (isAggregate (nodeAt (c .file) (c .node)))
+    (saying (λ z. number (ofZ w64 z)) (asking answerable (λ m q. m .number q) c))
+    (saying verdict (asking answerable (λ m q. m .verdict q) c)))
+    []
 
 -- ---- the rows call
 
@@ -182,4 +204,4 @@ rowsGiven c binders output (gives rows steps most) =
     (result c (refuses (numberOf BadOutput) steps most) output)
 
 unfoldable pub rowsCall : List ℕ → List ℕ → Call → Result ℕ
-rowsCall binders output c = rowsGiven c binders output (asking conditions (λ m q. m .rows q) c)
+rowsCall binders output c = rowsGiven c binders output (asking isCondition (λ m q. m .rows q) c)

@@ -1,22 +1,23 @@
 -- Demand 3 and later points: which calls are answered and with what, and which files a call cannot tell apart
 use mathlib.Core.Path.{_≡_}
-use mathlib.Core.Bool.{true}
+use mathlib.Core.Bool.{Bool, true}
 use mathlib.Core.List.{List}
 use Prim.Native.Nat.{ℕ, _+_, _*_, _≤_, _<_}
 use lib.ListN.{length, take}
 use Rattle.meaning.specs.declared.Limits.{Limits}
+use Rattle.meaning.specs.declared.Node.{Node}
 use Rattle.meaning.specs.Tests.{isSome}
 use Rattle.meaning.specs.Walk.{W, spent, most}
-use Rattle.meaning.specs.Case.{Sort, sortOf, body, vars, points, nodes, nodeAt}
+use Rattle.meaning.specs.Case.{body, vars, points, nodes, nodeAt}
 use Rattle.meaning.specs.Check.{Checked}
-use Rattle.meaning.specs.Calls.{Call, Said, gives, refuses, startRow, verdictCall, numberCall, rowsCall}
+use Rattle.meaning.specs.Calls.{Call, Said, gives, refuses, startRow, askCall, rowsCall}
 
--- a checked case, a point and a node in it, well-formed starting bindings, limits in range, a workspace long enough
-pub record Askable (sort : Sort) (c : Call) : Type 0 where
+-- a checked case, a point and a wanted node in it, well-formed starting bindings, limits in range, a workspace long enough
+pub record Askable (wanted : Node → Bool) (c : Call) : Type 0 where
   pub checked : Checked (c .file)
   pub point : c .point < points (c .file)
   pub node : c .node < nodes (c .file)
-  pub of-sort : sortOf (nodeAt (c .file) (c .node)) ≡ sort
+  pub one : wanted (nodeAt (c .file) (c .node)) ≡ true
   pub start : isSome (startRow (c .file) (vars (c .file)) (c .start)) ≡ true
   pub steps : c .limits .steps ≤ 1000000000
   pub room : c .limits .room ≤ 16384
@@ -60,9 +61,8 @@ pub record SameUpTo (i : ℕ) (s t : List ℕ) : Type 0 where
 unfoldable pub ofFile : Call → List ℕ → Call
 ofFile c s = record { file = s; point = c .point; node = c .node; start = c .start; limits = c .limits; workspace = c .workspace }
 
--- the three calls say the same of both files and leave the same workspace and output
+-- both asking calls say the same of both files and leave the same workspace and output
 abbrev pub SameAnswers : Call → List ℕ → List ℕ → Type 0
 SameAnswers c s t =
-    (verdictCall (ofFile c s) ≡ verdictCall (ofFile c t))
-    × (numberCall (ofFile c s) ≡ numberCall (ofFile c t))
+    (askCall (ofFile c s) ≡ askCall (ofFile c t))
     × ((binders output : List ℕ) → rowsCall binders output (ofFile c s) ≡ rowsCall binders output (ofFile c t))

@@ -6,6 +6,8 @@ use mathlib.Core.Option.{none, some}
 use Prim.Native.Nat.{ℕ, _+_, _*_, _/_, _%_, _-_}
 use lib.IntN.{ℤ, pos, negsuc}
 use lib.ListN.{length, set, replicate}
+use mir.Val.{ofZ}
+use mir.Syntax.{w64}
 use Rattle.meaning.specs.declared.Limits.{Limits}
 use Rattle.meaning.specs.declared.Node.{Node}
 use Rattle.meaning.specs.declared.Node.the-variants.{And, Or, Not, Formerly, Previous, Since, Predicate, Comparison, Exists, Literal, Context, Variable, Sum, Count}
@@ -20,7 +22,7 @@ use Rattle.meaning.specs.declared.CmpOp.the-variants.{Eq, NotEq}
 use Rattle.meaning.specs.Below.{upto, made}
 use Rattle.meaning.specs.Tests.{_and_, _or_, choose, onlyIf, isSome, orElse, pick, allBelow, rises, greatest, levels, throughout}
 use Rattle.meaning.specs.Text.{before, free as free·Text, first, follow, next, ended, utf8}
-use Rattle.meaning.specs.Case.{conditions, aggregates, Point, Value, Int, Decimal, Text, Object, words as words·Case, contents, offset, size, body, bodyWord, stringWord, valueWord, memberWord, pointWord, nodeWord, list as list·Case, text as text·Case, places, runOf, signed, maybe, unitOf, cmpOf, arithOf, rootFrom, under, nodeFrom, valueFrom, partAt, valueAt, entityAt, pointAt, nodeAt, caseOf, isSort, sortOf, arity, child}
+use Rattle.meaning.specs.Case.{Point, Value, Int, Decimal, Text, Object, words as words·Case, contents, offset, size, body, bodyWord, stringWord, valueWord, memberWord, pointWord, nodeWord, list as list·Case, text as text·Case, places, runOf, signed, maybe, unitOf, cmpOf, arithOf, rootFrom, under, nodeFrom, valueFrom, partAt, valueAt, entityAt, pointAt, nodeAt, caseOf, isSort, sortOf, arity, child}
 use Rattle.meaning.specs.Check.{startOf, bodyRule, bodies, mosts, endBefore, placeRule, endToEnd, utf8Rule, orderRule, stringRules, memberRule, arrayItem, objectItem, valueRule, partCount, partValue, depth, depthRule, valueRules, plainNames, plain, stringRun, entityRule, entityItem, entityRun, pointRule, pointRules, pathRun, variableRun, argumentRule, argumentRun, literal, zerosFrom, ruleOf, nodeRule, height, heightRule, nodeRules, check}
 use Rattle.meaning.specs.Number.{highest, lowest, clamp, calculate, secondsOf, seconds, inWindow, sumℤ}
 use Rattle.meaning.specs.Equal.{int, value, isDigit, digits, natural, cut, unsigned, scaled, decimal, seen, decimalKey, see, sameList, sameParts, alike, sameValue, asValue, same, boundOf, integer}
@@ -28,7 +30,7 @@ use Rattle.meaning.specs.Look.{named, members as members·Look, descend,
 use Rattle.meaning.specs.Rows.{inCells, cells, rowOf, at, blank, with, without, withoutAll, over, onto, agree, agreeing, sameCell, sameRow, isIn, addNew, joinAll, column}
 use Rattle.meaning.specs.Walk.{give, visit, adding, dropping, _>>=_, started, after, measured, spent, most, run as run·Walk, ending, outcome}
 use Rattle.meaning.specs.Meaning.{under as under·Meaning, unbinding, earlier, latest, now, lending, condition, term, aggregate, ifYes, unlessYes, oneRow, asRows, taking, lentTo, andVerdict, joining, andRows, orVerdict, orRows, notVerdict, existsVerdict, existsRows, time, inside, ifInside, downward, rising, upward, every, formerlyVerdict, formerlyRows, sinceVerdict, keeping, sinceRows, before as before·Meaning, isThere, previously, place, tpRow, tpVerdict, given, matchField, matchArguments, sameEvent, match, predicate, both, compared, compareVerdict, unbound, bindRows, eqRows, compareRows, ifInt, arithmetic, aggregated, relation, sumOf, countOf, names, arguments, meaningOf, noMeaning, meaning, firsts, question}
-use Rattle.meaning.specs.Calls.{Call, Said, gives, refuses, numberOf, isInt, wellFormed, moreRow, startRow, startOr, against, walkOf, told, unlessRefused, asking, cleared, workspaceAfter, result, checkCall, verdictCall, inBits, numberCall, cellsOf, filled, allUnder, projected, outputFits, rowsGiven, rowsCall}
+use Rattle.meaning.specs.Calls.{Call, Said, gives, refuses, numberOf, isInt, wellFormed, moreRow, startRow, startOr, isCondition, isAggregate, answerable, against, walkOf, told, unlessRefused, unlessAgainst, asking, cleared, workspaceAfter, result, checkCall, Answer, verdict, number, saying, askCall, cellsOf, filled, allUnder, projected, outputFits, rowsGiven, rowsCall}
 
 -- ---- the case, record by record in words
 
@@ -245,7 +247,7 @@ bytes = withLog points
 
 -- what everything but the check computes by
 walks-nothing : spent (give true) ≡ 0
-unfolding bytes upto made _and_ _or_ choose onlyIf isSome orElse pick allBelow rises greatest levels throughout before free·Text first follow next ended utf8 words·Case contents offset size body bodyWord stringWord valueWord memberWord pointWord nodeWord list·Case text·Case places runOf signed maybe unitOf cmpOf arithOf rootFrom under nodeFrom valueFrom partAt valueAt entityAt pointAt nodeAt caseOf isSort sortOf arity child highest lowest clamp calculate secondsOf seconds inWindow sumℤ isDigit digits natural cut unsigned scaled decimal seen decimalKey see sameList sameParts alike sameValue asValue same boundOf integer named members·Look descend boundAt attributesOf ownPart supplied entityOf attribute fromRoot rootOf scopeAt contextAt fieldAt inCells cells rowOf at blank with without withoutAll over onto agree agreeing sameCell sameRow isIn addNew joinAll column give visit adding dropping _>>=_ started after measured spent most run·Walk ending outcome under·Meaning unbinding earlier latest now lending condition term aggregate ifYes unlessYes oneRow asRows taking lentTo andVerdict joining andRows orVerdict orRows notVerdict existsVerdict existsRows time inside ifInside downward rising upward every formerlyVerdict formerlyRows sinceVerdict keeping sinceRows before·Meaning isThere previously place tpRow tpVerdict given matchField matchArguments sameEvent match predicate both compared compareVerdict unbound bindRows eqRows compareRows ifInt arithmetic aggregated relation sumOf countOf names arguments meaningOf noMeaning meaning firsts question numberOf isInt wellFormed moreRow startRow startOr against walkOf told unlessRefused asking cleared workspaceAfter result checkCall verdictCall inBits numberCall cellsOf filled allUnder projected outputFits rowsGiven rowsCall
+unfolding bytes upto made _and_ _or_ choose onlyIf isSome orElse pick allBelow rises greatest levels throughout before free·Text first follow next ended utf8 words·Case contents offset size body bodyWord stringWord valueWord memberWord pointWord nodeWord list·Case text·Case places runOf signed maybe unitOf cmpOf arithOf rootFrom under nodeFrom valueFrom partAt valueAt entityAt pointAt nodeAt caseOf isSort sortOf arity child highest lowest clamp calculate secondsOf seconds inWindow sumℤ isDigit digits natural cut unsigned scaled decimal seen decimalKey see sameList sameParts alike sameValue asValue same boundOf integer named members·Look descend boundAt attributesOf ownPart supplied entityOf attribute fromRoot rootOf scopeAt contextAt fieldAt inCells cells rowOf at blank with without withoutAll over onto agree agreeing sameCell sameRow isIn addNew joinAll column give visit adding dropping _>>=_ started after measured spent most run·Walk ending outcome under·Meaning unbinding earlier latest now lending condition term aggregate ifYes unlessYes oneRow asRows taking lentTo andVerdict joining andRows orVerdict orRows notVerdict existsVerdict existsRows time inside ifInside downward rising upward every formerlyVerdict formerlyRows sinceVerdict keeping sinceRows before·Meaning isThere previously place tpRow tpVerdict given matchField matchArguments sameEvent match predicate both compared compareVerdict unbound bindRows eqRows compareRows ifInt arithmetic aggregated relation sumOf countOf names arguments meaningOf noMeaning meaning firsts question numberOf isInt wellFormed moreRow startRow startOr isCondition isAggregate answerable against walkOf told unlessRefused unlessAgainst asking cleared workspaceAfter result checkCall saying askCall cellsOf filled allUnder projected outputFits rowsGiven rowsCall
 walks-nothing = refl
 
 passes : check bytes ≡ none
@@ -412,24 +414,26 @@ free = 0 ∷ 0 ∷ 0 ∷ 0 ∷ 0 ∷ 0 ∷ []
 x-is-9 : List ℕ
 x-is-9 = 1 ∷ 9 ∷ 0 ∷ 0 ∷ 0 ∷ 0 ∷ []
 
-data Answer : Type 0 where
-  verdict : Bool → Answer
-  number : ℕ → Answer
-  -- a verdict, with steps spent and the greatest number of rows held
-  walked : Bool → ℕ → ℕ → Answer
-  refused·no : ℕ → Answer
+-- an answer; an answer with steps spent and the greatest number of rows held
+data Want : Type 0 where
+  only : Answer → Want
+  counted : Answer → ℕ → ℕ → Want
+  refused·no : ℕ → Want
 
 record Example : Type 0 where
   node : ℕ
   point : ℕ
   start : List ℕ
-  want : Answer
+  want : Want
 
 asked : ℕ → ℕ → List ℕ → Answer → Example
-asked n i start want = record { node = n; point = i; start = start; want = want }
+asked n i start a = record { node = n; point = i; start = start; want = only a }
+
+walked : ℕ → ℕ → List ℕ → Answer → ℕ → ℕ → Example
+walked n i start a steps held = record { node = n; point = i; start = start; want = counted a steps held }
 
 examples : List Example
-unfolding asked free x-is-9
+unfolding asked walked free x-is-9
 examples =
     asked 2 0 free (verdict false) ∷  -- E1
     asked 5 3 free (verdict true) ∷  -- E2
@@ -443,22 +447,25 @@ examples =
     asked 24 3 free (number 2) ∷  -- E7
     asked 25 3 free (number 1) ∷  -- E7
     asked 26 3 free (number 3) ∷  -- E7
-    asked 27 3 free (number 6) ∷  -- E7
+    walked 27 0 free (number 3) 3 1 ∷  -- E7 at each point
+    walked 27 1 free (number 3) 4 1 ∷
+    walked 27 2 free (number 6) 4 2 ∷
+    walked 27 3 free (number 6) 6 2 ∷
     asked 28 3 free (number 0) ∷  -- E7
     asked 37 3 free (number 9223372036854775803) ∷  -- E8
     asked 40 3 free (verdict true) ∷  -- E9
     asked 42 3 free (verdict false) ∷  -- E9
     asked 43 3 x-is-9 (verdict false) ∷  -- E10
-    asked 44 3 x-is-9 (walked true 2 1) ∷  -- E10
+    walked 44 3 x-is-9 (verdict true) 2 1 ∷  -- E10
     asked 47 3 free (verdict true) ∷  -- E11
     asked 48 3 free (verdict false) ∷  -- E11
     asked 49 0 free (verdict false) ∷  -- E12
     asked 52 3 free (verdict true) ∷  -- slip
     asked 54 1 free (verdict true) ∷  -- slip
-    asked 55 0 free (walked true 2 0) ∷  -- sample
-    asked 55 1 free (walked true 3 0) ∷  -- sample
-    asked 55 2 free (walked true 3 0) ∷  -- sample
-    asked 55 3 free (walked true 5 0) ∷  -- sample
+    walked 55 0 free (verdict true) 2 0 ∷  -- sample
+    walked 55 1 free (verdict true) 3 0 ∷  -- sample
+    walked 55 2 free (verdict true) 3 0 ∷  -- sample
+    walked 55 3 free (verdict true) 5 0 ∷  -- sample
     []
 
 -- the program's limits, and a workspace for as many rows
@@ -472,37 +479,36 @@ asCall : Example → Call
 unfolding limits call
 asCall e = call bytes (e .node) (e .point) (e .start) limits (replicate 1536 0)
 
--- what the calls say, as the example wants it
-like : Answer → Said Bool → Said ℕ → Answer
-like (verdict b) (gives y t h) z = verdict y
-like (verdict b) (refuses r t h) z = refused·no r
-like (walked b t h) (gives y t′ h′) z = walked y t′ h′
-like (walked b t h) (refuses r t′ h′) z = refused·no r
-like (number k) y (gives z t h) = number z
-like (number k) y (refuses r t h) = refused·no r
-like (refused·no r) y z = refused·no r
+-- what the call says, as the example wants it
+like : Want → Said Answer → Want
+like (only a) (gives b t h) = only b
+like (only a) (refuses r t h) = refused·no r
+like (counted a t h) (gives b t′ h′) = counted b t′ h′
+like (counted a t h) (refuses r t′ h′) = refused·no r
+like (refused·no n) s = refused·no n
 
-got : Example → Answer
-got e = like (e .want) (verdictCall (asCall e) .said) (numberCall (asCall e) .said)
+got : Example → Want
+got e = like (e .want) (askCall (asCall e) .said)
 
 -- the same with the check left out, since the case passes it: so that it is computed once
-past : Example → Answer
+past : Example → Want
 past e =
     let c = asCall e in
     like (e .want)
-    (unlessRefused (against conditions c) (told (outcome (c .limits) started (walkOf (λ m q. m .verdict q) bytes (c .point) (c .node) (c .start)))))
-    (inBits (unlessRefused (against aggregates c) (told (outcome (c .limits) started (walkOf (λ m q. m .number q) bytes (c .point) (c .node) (c .start))))))
+    (choose (isAggregate (nodeAt bytes (c .node)))
+    (saying (λ z. number (ofZ w64 z)) (unlessRefused (against answerable c) (told (outcome (c .limits) started (walkOf (λ m q. m .number q) bytes (c .point) (c .node) (c .start))))))
+    (saying verdict (unlessRefused (against answerable c) (told (outcome (c .limits) started (walkOf (λ m q. m .verdict q) bytes (c .point) (c .node) (c .start)))))))
 
 got-past : (e : Example) → got e ≡ past e
-unfolding got past asCall verdictCall numberCall result asking unlessRefused
+unfolding got past asCall askCall result asking unlessAgainst unlessRefused
 got-past e = rw passes refl
 
-same-all : (f g : Example → Answer) → ((e : Example) → f e ≡ g e) → (es : List Example) → map f es ≡ map g es
+same-all : (f g : Example → Want) → ((e : Example) → f e ≡ g e) → (es : List Example) → map f es ≡ map g es
 same-all f g h [] = refl
 same-all f g h (e ∷ es) = cc (h e, same-all f g h es)
 
 computed : map past examples ≡ map (λ e. e .want) examples
-unfolding walks-nothing past like asCall examples asked
+unfolding walks-nothing past like asCall examples asked walked
 computed = refl
 
 claim : map got examples ≡ map (λ e. e .want) examples
@@ -514,9 +520,9 @@ claim = same-all got past got-past examples ∙ computed
 short : ℕ → ℕ → List ℕ → ℕ → ℕ → Call
 short n i start steps room = call bytes n i start (record { steps = steps; room = room }) (7 ∷ 7 ∷ 7 ∷ 7 ∷ 7 ∷ 7 ∷ 7 ∷ [])
 
-said : Call → Said Bool × List ℕ
+said : Call → Said Answer × List ℕ
 unfolding passes call short
-said c = let r = verdictCall c in (r .said, r .workspace)
+said c = let r = askCall c in (r .said, r .workspace)
 
 calls :
     map said (
@@ -532,7 +538,7 @@ calls :
     short 55 3 free 5 2 ∷
     short 55 3 free 1000000001 1 ∷
     []) ≡ (
-    (gives true 5 0, 0 ∷ 0 ∷ 0 ∷ 0 ∷ 0 ∷ 0 ∷ 7 ∷ []) ∷
+    (gives (verdict true) 5 0, 0 ∷ 0 ∷ 0 ∷ 0 ∷ 0 ∷ 0 ∷ 7 ∷ []) ∷
     (refuses 11 4 0, 0 ∷ 0 ∷ 0 ∷ 0 ∷ 0 ∷ 0 ∷ 7 ∷ []) ∷
     (refuses 12 2 0, 7 ∷ 7 ∷ 7 ∷ 7 ∷ 7 ∷ 7 ∷ 7 ∷ []) ∷
     (refuses 11 1 0, 7 ∷ 7 ∷ 7 ∷ 7 ∷ 7 ∷ 7 ∷ 7 ∷ []) ∷
@@ -554,7 +560,7 @@ rowsSaid n binders output =
     let r = rowsCall binders output (call bytes n 3 free (record { steps = 100; room = 4 }) (free ++ free ++ free ++ free)) in
     (r .said, r .output)
 
--- two rows; an output too short; no such binder; Exists without its variable; Since without a binder; a filter pays twice; Or's rows
+-- two rows; an output too short; no such binder; Exists without its variable; Since without a binder; a filter pays twice; Or's rows; an aggregate has none
 rows-calls :
     (rowsSaid 23 (1 ∷ 2 ∷ []) (9 ∷ 9 ∷ 9 ∷ 9 ∷ 9 ∷ 9 ∷ 9 ∷ 9 ∷ 9 ∷ []) ∷
     rowsSaid 23 (1 ∷ 2 ∷ []) (9 ∷ 9 ∷ 9 ∷ 9 ∷ 9 ∷ 9 ∷ 9 ∷ []) ∷
@@ -563,6 +569,7 @@ rows-calls :
     rowsSaid 11 [] (9 ∷ []) ∷
     rowsSaid 40 [] [] ∷
     rowsSaid 36 (0 ∷ []) (9 ∷ 9 ∷ 9 ∷ 9 ∷ 9 ∷ 9 ∷ []) ∷
+    rowsSaid 27 [] (9 ∷ []) ∷
     []) ≡ (
     (gives 2 5 2, 2 ∷ 0 ∷ 1 ∷ 3 ∷ 2 ∷ 1 ∷ 1 ∷ 3 ∷ 9 ∷ []) ∷
     (refuses 13 5 2, 9 ∷ 9 ∷ 9 ∷ 9 ∷ 9 ∷ 9 ∷ 9 ∷ []) ∷
@@ -571,6 +578,7 @@ rows-calls :
     (gives 1 11 1, 9 ∷ []) ∷
     (gives 1 2 1, []) ∷
     (gives 3 5 3, 1 ∷ 9223372036854775807 ∷ 1 ∷ 1 ∷ 1 ∷ 18446744073709551611 ∷ []) ∷
+    (refuses 8 0 0, 9 ∷ []) ∷
     [])
 unfolding rowsSaid
 rows-calls = refl
@@ -606,13 +614,13 @@ unfolding points
 log-of [] = []
 log-of (i ∷ is) = pick points i [] ∷ log-of is
 
-asked-of : List ℕ → ℕ → Said Bool
+asked-of : List ℕ → ℕ → Said Answer
 unfolding passes limits call log-of free
-asked-of log i = verdictCall (call (withLog (log-of log)) 14 i free limits (replicate 1536 0)) .said
+asked-of log i = askCall (call (withLog (log-of log)) 14 i free limits (replicate 1536 0)) .said
 
 between :
     (asked-of (0 ∷ 1 ∷ []) 0 ∷ asked-of (0 ∷ 2 ∷ 1 ∷ []) 0 ∷ asked-of (0 ∷ 1 ∷ []) 1 ∷ asked-of (0 ∷ 2 ∷ 1 ∷ []) 1 ∷ [])
-    ≡ (gives true 1 0 ∷ gives true 1 0 ∷ gives false 1 0 ∷ gives true 1 0 ∷ [])
+    ≡ (gives (verdict true) 1 0 ∷ gives (verdict true) 1 0 ∷ gives (verdict false) 1 0 ∷ gives (verdict true) 1 0 ∷ [])
 unfolding asked-of
 between = refl
 

@@ -3,7 +3,7 @@ use Prim.Native.Nat.{_<_, _≤_}
 use Rattle.replay.specs.declared.listed.Listed.{Listed}
 
 pub record Known (c : Listed) : Type 0 where
-  pub kind : c .kind < 4
+  pub kind : c .kind < 3
   pub refusal : c .refusal < 14
   pub start : c .start ≤ 64
   pub binders : c .binders ≤ 64

@@ -40,7 +40,7 @@ fn cleared(file: &[u8], c: Listed) -> usize {
     2 * vars * c.room
 }
 
-// refusal, answer and both numbers; `parts` is what the list has of the call after its twelve words
+// refusal, answer, both numbers and the answer's sort; `parts` is what the list has of the call after its twelve words
 fn is_said(parts: &[u8], c: Listed, said: Said) -> bool
     requires { ⌜ Known c ⌝ }
 {
@@ -54,7 +54,10 @@ fn is_said(parts: &[u8], c: Listed, said: Said) -> bool
     if said.steps != cell(parts, at + 2) {
         return false;
     }
-    said.held == cell(parts, at + 4)
+    if said.held != cell(parts, at + 4) {
+        return false;
+    }
+    said.sort == cell(parts, at + 6)
 }
 
 // fills the buffers, asks, and compares all with the answer listed

@@ -43,7 +43,7 @@ pub fn listed_call(words: &[u8]) -> Listed {
 pub fn is_known(c: Listed) -> bool
     ensures { λ r. ⌜ (_≡_ {A = Bool} r true → Known c) ⌝ }
 {
-    if 3 < c.kind {
+    if 2 < c.kind {
         return false;
     }
     if 13 < c.refusal {
@@ -72,7 +72,7 @@ pub fn binders_at(c: Listed) -> usize
     2 * c.start
 }
 
-// answer, steps and rows held
+// answer, steps, rows held and the answer's sort
 pub fn answer_at(c: Listed) -> usize
     requires { ⌜ Known c ⌝ }
     ensures { λ r. ⌜ r ≤ 192 ⌝ }
@@ -82,15 +82,15 @@ pub fn answer_at(c: Listed) -> usize
 
 pub fn filled_at(c: Listed) -> usize
     requires { ⌜ Known c ⌝ }
-    ensures { λ r. ⌜ r ≤ 198 ⌝ }
+    ensures { λ r. ⌜ r ≤ 200 ⌝ }
 {
-    answer_at(c) + 6
+    answer_at(c) + 8
 }
 
 // how many words they are
 pub fn size(c: Listed) -> usize
     requires { ⌜ Known c ⌝ }
-    ensures { λ r. ⌜ r ≤ 710 ⌝ }
+    ensures { λ r. ⌜ r ≤ 712 ⌝ }
 {
     filled_at(c) + 2 * c.filled
 }

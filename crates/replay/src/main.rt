@@ -1,4 +1,4 @@
-// Puts every call of the judge's list (docs/JUDGE-LIST.md) to the four public calls, and says how many answer otherwise than listed.
+// Puts every call of the judge's list (docs/JUDGE-LIST.md) to the three public calls, and says how many answer otherwise than listed.
 mod ask;
 mod buffers;
 mod input;

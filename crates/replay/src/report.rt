@@ -32,12 +32,10 @@ fn kinds(t: Tally) {
     text(b"call compared differ\n");
     text(b"check");
     line(t.kinds[0], t.kinds_differ[0]);
-    text(b"verdict");
+    text(b"ask");
     line(t.kinds[1], t.kinds_differ[1]);
-    text(b"number");
-    line(t.kinds[2], t.kinds_differ[2]);
     text(b"rows");
-    line(t.kinds[3], t.kinds_differ[3]);
+    line(t.kinds[2], t.kinds_differ[2]);
 }
 
 fn refusals(t: Tally) {

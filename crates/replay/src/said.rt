@@ -1,19 +1,19 @@
 // What a public call says, in the list's terms.
 use crate::listed::Listed;
-use calls::SaidNumber;
+use calls::SaidAnswer;
 use calls::SaidRows;
-use calls::SaidVerdict;
 use casecheck::Checking;
 use meaning::Limits;
 use meaning::NodeNo;
 use meaning::Refusal;
 
-// a refusal's number or 0, the answer's 64 bits, steps spent, greatest number of rows held
+// a refusal's number or 0, the answer's 64 bits, steps spent, greatest number of rows held, and 1 where the answer is a number
 pub struct Said {
     pub refusal: usize,
     pub answer: u64,
     pub steps: u64,
     pub held: u64,
+    pub sort: u64,
 }
 
 fn gives(answer: u64, steps: u64, held: usize) -> Said {
@@ -22,6 +22,7 @@ fn gives(answer: u64, steps: u64, held: usize) -> Said {
         answer,
         steps,
         held: held as u64,
+        sort: 0,
     }
 }
 
@@ -31,6 +32,7 @@ fn refuses(refusal: Refusal, steps: u64, held: usize) -> Said {
         answer: 0,
         steps,
         held: held as u64,
+        sort: 0,
     }
 }
 
@@ -42,22 +44,22 @@ fn by_check(file: &[u8]) -> Said {
     }
 }
 
-fn of_verdict(said: SaidVerdict) -> Said {
+fn of_answer(said: SaidAnswer) -> Said {
     match said {
-        SaidVerdict::Gives(yes, steps, held) => {
+        SaidAnswer::Verdict(yes, steps, held) => {
             if yes {
                 return gives(1, steps, held);
             }
             gives(0, steps, held)
         }
-        SaidVerdict::Refuses(r, steps, held) => refuses(r, steps, held),
-    }
-}
-
-fn of_number(said: SaidNumber) -> Said {
-    match said {
-        SaidNumber::Gives(bits, steps, held) => gives(bits, steps, held),
-        SaidNumber::Refuses(r, steps, held) => refuses(r, steps, held),
+        SaidAnswer::Number(bits, steps, held) => Said {
+            refusal: 0,
+            answer: bits,
+            steps,
+            held: held as u64,
+            sort: 1,
+        },
+        SaidAnswer::Refuses(r, steps, held) => refuses(r, steps, held),
     }
 }
 
@@ -86,8 +88,7 @@ pub fn said_by(
     let kind = c.kind;
     match kind {
         0 => by_check(file),
-        1 => of_verdict(calls::verdict(file, point, node, start, limits, work)),
-        2 => of_number(calls::number(file, point, node, start, limits, work)),
+        1 => of_answer(calls::ask(file, point, node, start, limits, work)),
         _ => of_rows(calls::rows(file, point, node, start, limits, binders, work, output)),
     }
 }

@@ -6,14 +6,14 @@ pub struct Tally {
     pub whole: bool,
     pub cases: u64,
     pub calls: u64,
-    pub kinds: [u64; 4],
-    pub kinds_differ: [u64; 4],
+    pub kinds: [u64; 3],
+    pub kinds_differ: [u64; 3],
     pub refusals: [u64; 14],
     pub refusals_differ: [u64; 14],
 }
 
 pub fn nothing() -> Tally {
-    let kinds = [0u64; 4];
+    let kinds = [0u64; 3];
     let refusals = [0u64; 14];
     Tally {
         whole: true,
@@ -42,7 +42,7 @@ pub fn another_case(mut t: Tally) -> Tally {
 }
 
 fn differing(mut t: Tally, kind: usize, refusal: usize) -> Tally
-    requires { ⌜ kind < 4 ⌝ }
+    requires { ⌜ kind < 3 ⌝ }
     requires { ⌜ refusal < 14 ⌝ }
 {
     t.kinds_differ[kind] = one_more(t.kinds_differ[kind]);
@@ -52,7 +52,7 @@ fn differing(mut t: Tally, kind: usize, refusal: usize) -> Tally
 
 // another call compared
 pub fn compared(mut t: Tally, kind: usize, refusal: usize, same: bool) -> Tally
-    requires { ⌜ kind < 4 ⌝ }
+    requires { ⌜ kind < 3 ⌝ }
     requires { ⌜ refusal < 14 ⌝ }
 {
     t.calls = one_more(t.calls);

@@ -8,8 +8,7 @@ use crate::random::Random;
 #[derive(Clone, Copy, Debug, PartialEq, Eq)]
 pub enum Kind {
     Check,
-    Verdict,
-    Number,
+    Ask,
     Rows,
 }
 
@@ -75,8 +74,7 @@ impl Call {
         };
         let outcome = match self.kind {
             Kind::Check => Outcome { refusal: model.check(case), ..Outcome::default() },
-            Kind::Verdict => model.verdict(&question, &mut workspace),
-            Kind::Number => model.number(&question, &mut workspace),
+            Kind::Ask => model.ask(&question, &mut workspace),
             Kind::Rows => model.rows(&question, &self.binders, &mut workspace, &mut output),
         };
         Done { outcome, workspace, output }
@@ -90,11 +88,15 @@ impl Call {
 
 /// A random question over a case, well formed and with ample room, save that it may run out of steps.
 pub fn random_call(random: &mut Random, case: &RandomCase, limit: u64, room: u64) -> Call {
-    let kind = random.pick(&[Kind::Verdict, Kind::Verdict, Kind::Rows, Kind::Rows, Kind::Number]);
-    let node = match kind {
-        Kind::Number => random.pick(&case.aggregates),
-        _ => random.pick(&case.conditions),
-    };
+    let (condition, aggregate) = (&case.conditions, &case.aggregates);
+    let (kind, nodes) = random.pick(&[
+        (Kind::Ask, condition),
+        (Kind::Ask, condition),
+        (Kind::Rows, condition),
+        (Kind::Rows, condition),
+        (Kind::Ask, aggregate),
+    ]);
+    let node = random.pick(nodes);
     let variables = case.tables.variables;
     let points = case.tables.points.len();
     let mut call = Call {
@@ -234,11 +236,14 @@ fn spoil_limits(random: &mut Random, call: &mut Call, variables: u32) -> u32 {
     10
 }
 
-/// A node that is there, of a sort that the call does not answer.
+/// A node that the call does not answer: one that is there, where there is one.
 fn other_sort(random: &mut Random, call: &Call, case: &RandomCase) -> u32 {
-    let answers = |kind: u32| if call.kind == Kind::Number { kind >= 30 } else { kind <= 10 };
+    let answers = |kind: u32| kind <= 10 || (call.kind == Kind::Ask && kind >= 30);
     let others: Vec<u32> =
         (0..case.tables.nodes.len() as u32).filter(|&k| !answers(case.tables.nodes[k as usize][0])).collect();
+    if others.is_empty() {
+        return case.tables.nodes.len() as u32;
+    }
     random.pick(&others)
 }
 

@@ -111,7 +111,7 @@ fn random_within(random: &mut Random) -> Within {
 /// A random call over a case that has scans, with a list that takes whatever is found.
 pub fn random_carried(random: &mut Random, case: &RandomCase, limit: u64, room: u64) -> Call {
     let mut call = random_call(random, case, limit, room);
-    call.kind = Kind::Verdict;
+    call.kind = Kind::Ask;
     call.binders.clear();
     call.node = random.pick(&scans(case));
     if random.percent(4) {

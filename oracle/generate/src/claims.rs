@@ -37,7 +37,7 @@ use mathlib.Core.List.{List, [], _∷_, _++_}
 use Prim.Native.Nat.{ℕ, zero, suc}
 use lib.ListN.{replicate}
 use Rattle.meaning.specs.declared.Limits.{Limits}
-use Rattle.meaning.specs.Calls.{Call, Said, gives, refuses, Result}
+use Rattle.meaning.specs.Calls.{Call, Said, gives, refuses, Result, verdict, number}
 ";
 
 impl Definitions {

@@ -54,8 +54,7 @@ fn example(line: &str, cases: &BTreeMap<String, Packed>) -> Option<Example> {
     let words: Vec<&str> = question.split(' ').collect();
     let packed = cases.get(*words.first()?)?;
     let node = packed.node(words.get(1)?)?;
-    let kind = if packed.tables.nodes[node as usize][0] >= 30 { Kind::Number } else { Kind::Verdict };
-    let mut call = Call { kind, node, limit: 1_000_000, room: 256, ..Call::check() };
+    let mut call = Call { kind: Kind::Ask, node, limit: 1_000_000, room: 256, ..Call::check() };
     call.start = vec![0; 2 * packed.tables.variables as usize];
     for pair in words[2..].chunks(2) {
         match pair {
@@ -73,7 +72,7 @@ fn example(line: &str, cases: &BTreeMap<String, Packed>) -> Option<Example> {
     call.fit_workspace(packed.tables.variables);
     let expected: Vec<&str> = expected.split(' ').collect();
     let (refusal, answer, rest) = match expected[..] {
-        ["refused", number, ..] => (number.parse().ok()?, 0, &expected[2..]),
+        ["refused", refusal, ..] => (refusal.parse().ok()?, 0, &expected[2..]),
         ["yes", ..] => (0, 1, &expected[1..]),
         ["no", ..] => (0, 0, &expected[1..]),
         _ => (0, expected[0].parse::<i64>().ok()? as u64, &expected[1..]),

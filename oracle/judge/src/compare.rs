@@ -45,8 +45,8 @@ fn compare_answer(call: &Call, done: &Done, rust: &mut RustCase) -> Found {
         return Found::StepsDiffer(format!("{} steps, the Rust made more than {} visits", outcome.steps, call.limit));
     };
     let given = match call.kind {
-        Kind::Verdict => Answer::Verdict(outcome.answer == 1),
-        Kind::Number => Answer::Number(outcome.answer as i64),
+        Kind::Ask if outcome.number => Answer::Number(outcome.answer as i64),
+        Kind::Ask => Answer::Verdict(outcome.answer == 1),
         Kind::Rows | Kind::Check => Answer::Rows(given_rows(call, done, rust)),
     };
     if given != answer {

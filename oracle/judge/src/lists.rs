@@ -152,9 +152,8 @@ fn push_case(list: &mut Vec<u8>, case: &[u8], calls: &[Call], refused: &mut [usi
 fn push_call(list: &mut Vec<u8>, call: &Call, outcome: Outcome, output: &[u64]) {
     let kind = match call.kind {
         Kind::Check => 0,
-        Kind::Verdict => 1,
-        Kind::Number => 2,
-        Kind::Rows => 3,
+        Kind::Ask => 1,
+        Kind::Rows => 2,
     };
     let (low, high) = (call.limit as u32, (call.limit >> 32) as u32);
     let (start, binders) = (call.start.len() as u32, call.binders.len() as u32);
@@ -176,8 +175,8 @@ fn push_call(list: &mut Vec<u8>, call: &Call, outcome: Outcome, output: &[u64]) 
     header.iter().for_each(|&word| push(list, word));
     call.start.iter().for_each(|&cell| push_cell(list, cell));
     call.binders.iter().for_each(|&binder| push(list, binder));
-    for number in [outcome.answer, outcome.steps, outcome.rows] {
-        push_cell(list, number);
+    for cell in [outcome.answer, outcome.steps, outcome.rows, outcome.number as u64] {
+        push_cell(list, cell);
     }
     output[..filled].iter().for_each(|&cell| push_cell(list, cell));
 }

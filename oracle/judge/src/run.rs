@@ -190,8 +190,8 @@ impl Report {
 
 fn said(call: &Call, outcome: &Outcome) -> String {
     match (outcome.refusal, call.kind) {
-        (0, Kind::Verdict) => (if outcome.answer == 1 { "yes" } else { "no" }).to_string(),
-        (0, Kind::Number) => "answered".to_string(),
+        (0, Kind::Ask) if outcome.number => "a number".to_string(),
+        (0, Kind::Ask) => (if outcome.answer == 1 { "yes" } else { "no" }).to_string(),
         (0, _) => format!("{} rows", if outcome.answer > 3 { "more".to_string() } else { outcome.answer.to_string() }),
         (refusal, _) => format!("refused {refusal}"),
     }

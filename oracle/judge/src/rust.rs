@@ -49,12 +49,12 @@ impl<'a> RustCase<'a> {
         let converter = Converter { tables };
         let trace = &self.trace;
         let (plain, counted) = match call.kind {
-            Kind::Number => {
+            Kind::Ask if tables.nodes[call.node as usize][0] >= 30 => {
                 let agg = self.aggregates.entry(call.node).or_insert_with(|| converter.aggregate(call.node));
                 let counted = visits::counted(limit, || counted::eval_agg_expr(trace, i, &env, agg))?;
                 (Answer::Number(eval::eval_agg_expr(trace, i, &env, agg)), (Answer::Number(counted.0), counted.1))
             }
-            Kind::Verdict => {
+            Kind::Ask => {
                 let cond = self.conditions.entry(call.node).or_insert_with(|| converter.condition(call.node));
                 let counted = visits::counted(limit, || counted::eval_condition(trace, i, &env, cond))?;
                 (Answer::Verdict(eval::eval_condition(trace, i, &env, cond)), (Answer::Verdict(counted.0), counted.1))

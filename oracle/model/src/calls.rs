@@ -1,4 +1,4 @@
-//! The four calls with every buffer: refusals 7 to 13, workspace and output.
+//! The three calls with every buffer: refusals 7 to 13, workspace and output.
 
 use crate::check::check;
 use crate::file::{File, Table};
@@ -15,9 +15,11 @@ pub struct Outcome {
     pub steps: u64,
     /// The greatest rows held.
     pub rows: u64,
+    /// Whether the answer is an aggregate's number.
+    pub number: bool,
 }
 
-/// What the three questions have in common.
+/// What both questions have in common.
 #[derive(Clone, Copy, Debug)]
 pub struct Question<'a> {
     pub case: &'a [u8],
@@ -43,21 +45,20 @@ impl Model {
         check(self.variant, case)
     }
 
-    pub fn verdict(self, question: &Question, workspace: &mut [u64]) -> Outcome {
-        self.call(question, 1..=10, workspace, |walk, env| {
+    /// Of a condition yes or no, of an aggregate its number.
+    pub fn ask(self, question: &Question, workspace: &mut [u64]) -> Outcome {
+        let answered = |kind: u32| is_condition(kind) || is_aggregate(kind);
+        self.call(question, answered, workspace, |walk, env| {
+            if is_aggregate(walk.file.node(question.node)[0]) {
+                return Ok(Said::Number(walk.number(question.node, env, walk.asked)?));
+            }
             Ok(Said::Answer(walk.verdict(question.node, env, walk.asked)? as u64))
-        })
-    }
-
-    pub fn number(self, question: &Question, workspace: &mut [u64]) -> Outcome {
-        self.call(question, 30..=31, workspace, |walk, env| {
-            Ok(Said::Answer(walk.number(question.node, env, walk.asked)? as u64))
         })
     }
 
     /// Rows of a condition, projected on the binders: two cells a binder go to the output.
     pub fn rows(self, question: &Question, binders: &[u32], workspace: &mut [u64], output: &mut [u64]) -> Outcome {
-        self.call(question, 1..=10, workspace, |walk, env| {
+        self.call(question, is_condition, workspace, |walk, env| {
             let below = binders.iter().all(|&binder| binder < walk.file.variables());
             if !below && self.variant == Variant::BindersFirst {
                 return Ok(Said::Refusal(13));
@@ -84,11 +85,11 @@ impl Model {
     pub(crate) fn call(
         self,
         question: &Question,
-        kinds: std::ops::RangeInclusive<u32>,
+        answered: impl Fn(u32) -> bool,
         workspace: &mut [u64],
         walked: impl FnOnce(&mut Walk, &Env) -> Result<Said, Refused>,
     ) -> Outcome {
-        let refusal = self.refusal(question, kinds, workspace.len());
+        let refusal = self.refusal(question, answered, workspace.len());
         if refusal != 0 {
             return Outcome { refusal, ..Outcome::default() };
         }
@@ -108,15 +109,16 @@ impl Model {
         if self.variant != Variant::WorkspaceLeft {
             workspace[..2 * file.variables() as usize * question.room as usize].fill(0);
         }
-        let (refusal, answer) = match said {
-            Ok(Said::Answer(answer)) => (0, answer),
-            Ok(Said::Refusal(refusal)) | Err(Refused(refusal)) => (refusal, 0),
+        let (refusal, answer, number) = match said {
+            Ok(Said::Answer(answer)) => (0, answer, false),
+            Ok(Said::Number(number)) => (0, number as u64, true),
+            Ok(Said::Refusal(refusal)) | Err(Refused(refusal)) => (refusal, 0, false),
         };
-        Outcome { refusal, answer, steps: walk.steps, rows: walk.most }
+        Outcome { refusal, answer, steps: walk.steps, rows: walk.most, number }
     }
 
     /// Refusals 1 to 10, the lowest given, or 0.
-    fn refusal(self, question: &Question, kinds: std::ops::RangeInclusive<u32>, workspace: usize) -> u32 {
+    fn refusal(self, question: &Question, answered: impl Fn(u32) -> bool, workspace: usize) -> u32 {
         let refusal = self.check(question.case);
         if refusal != 0 {
             return refusal;
@@ -125,7 +127,7 @@ impl Model {
         if !file.has(Table::Points, question.point) {
             return 7;
         }
-        if !file.has(Table::Nodes, question.node) || !kinds.contains(&file.node(question.node)[0]) {
+        if !file.has(Table::Nodes, question.node) || !answered(file.node(question.node)[0]) {
             return 8;
         }
         let variables = file.variables() as usize;
@@ -159,7 +161,16 @@ impl Model {
 
 pub(crate) enum Said {
     Answer(u64),
+    Number(i64),
     Refusal(u32),
+}
+
+fn is_condition(kind: u32) -> bool {
+    (1..=10).contains(&kind)
+}
+
+fn is_aggregate(kind: u32) -> bool {
+    (30..=31).contains(&kind)
 }
 
 fn binding(cells: &[u64]) -> Option<Binding> {

@@ -19,9 +19,9 @@ type Listed = (bool, Vec<u64>);
 impl Model {
     /// The verdict of a Formerly, Previous or Since, and the points that decided it.
     pub fn carried(self, question: &Question, workspace: &mut [u64], list: &mut [u64]) -> Carried {
-        let kinds = if self.variant == Variant::CarriedAnyCondition { 1..=10 } else { 4..=6 };
+        let scans = |kind: u32| (4..=6).contains(&kind) || (kind <= 10 && self.variant == Variant::CarriedAnyCondition);
         let mut filled = 0;
-        let outcome = self.call(question, kinds, workspace, |walk, env| {
+        let outcome = self.call(question, scans, workspace, |walk, env| {
             let mut scan = Scan::new(walk, env, question, list.len());
             let (yes, points) = scan.listed(question.node)?;
             let short = list.len() < points.len();

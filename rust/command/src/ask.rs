@@ -1,7 +1,7 @@
 //! `ask`: one question of one case.
 
 use casefile::Variables;
-use galivodern::{Answer, Bindings, Limits, PointNo, Refused, RuleNo, Sort};
+use galivodern::{Answer, Answered, Bindings, Limits, PointNo, Refused, RuleNo};
 
 use crate::arguments::Options;
 use crate::bind::{bindings, bound_names};
@@ -64,18 +64,12 @@ fn hint(refused: Refused) -> &'static str {
     }
 }
 
-/// An answer: in words, in JSON, and by the status.
-type Told = (String, String, Said);
-
-fn verdict(yes: bool) -> Told {
-    match yes {
-        true => ("yes".to_string(), "true".to_string(), Said::Yes),
-        false => ("no".to_string(), "false".to_string(), Said::No),
+/// An answer in JSON.
+pub fn in_json(answer: Answer) -> String {
+    match answer {
+        Answer::Verdict(yes) => yes.to_string(),
+        Answer::Number(number) => number.to_string(),
     }
-}
-
-fn number(number: i64) -> Told {
-    (number.to_string(), number.to_string(), Said::Yes)
 }
 
 pub fn ask(options: &Options) -> Result<Said, Failure> {
@@ -84,20 +78,16 @@ pub fn ask(options: &Options) -> Result<Said, Failure> {
     opened.all_bound(asked, question.bound)?;
     let warned = question.warnings(options)?;
     let progress = Progress::start(format!("asking {}", opened.file), None);
-    let said = if opened.case.sort(RuleNo(asked.node)) == Some(Sort::Aggregate) {
-        opened.case.number(PointNo(*point), RuleNo(asked.node), start, *limits).map(|answer| answer.map(number))
-    } else {
-        opened.case.verdict(PointNo(*point), RuleNo(asked.node), start, *limits).map(|answer| answer.map(verdict))
-    };
+    let said = opened.case.ask(PointNo(*point), RuleNo(asked.node), start, *limits);
     drop(progress);
-    let Answer { value: (words, value, said), steps, held, .. } = said.map_err(|refused| question.refused(refused))?;
+    let Answered { value, steps, held, .. } = said.map_err(|refused| question.refused(refused))?;
     if options.flag("--json") {
-        let object = question.json().plain("answer", value).plain("steps", steps).plain("held", held);
+        let object = question.json().plain("answer", in_json(value)).plain("steps", steps).plain("held", held);
         print(&format!("{}\n", object.warnings(&warned).done()))?;
     } else if !options.flag("--quiet") {
-        print(&format!("{words} ({})\n", spent(steps, held)))?;
+        print(&format!("{value} ({})\n", spent(steps, held)))?;
     }
-    Ok(said)
+    Ok(if value == Answer::Verdict(false) { Said::No } else { Said::Yes })
 }
 
 /// What an answer took, in words.

@@ -3,9 +3,10 @@
 use std::ffi::OsStr;
 
 use casefile::Variables;
-use galivodern::{Bindings, Limits, PointNo, Refusal, Refused, RuleNo, Sort};
+use galivodern::{Answer, Bindings, Limits, PointNo, Refusal, Refused, RuleNo, Sort};
 
 use crate::arguments::Options;
+use crate::ask::in_json;
 use crate::failure::Failure;
 use crate::input::{as_text, read, shown};
 use crate::json::Object;
@@ -41,7 +42,7 @@ pub fn bench(options: &Options) -> Result<Said, Failure> {
     every_point(&opened, asked.node, options)
 }
 
-/// The case with a condition for its last node.
+/// The case with a condition or an aggregate for its last node.
 fn case(file: &OsStr) -> Result<Opened, Failure> {
     let bytes = read(file)?;
     // An empty file is refused as document 01's program does it.
@@ -60,8 +61,8 @@ fn case(file: &OsStr) -> Result<Opened, Failure> {
     }
     let opened = Opened::of(file, bytes, names, source)?;
     match opened.case.last_rule().and_then(|node| opened.case.sort(node)) {
-        Some(Sort::Condition) => Ok(opened),
-        _ => Err(refused(Refusal::NoSuchNode, "; `bench` asks the last node, which must be a condition")),
+        Some(Sort::Condition | Sort::Aggregate) => Ok(opened),
+        _ => Err(refused(Refusal::NoSuchNode, "; `bench` asks the last node, which must be no term")),
     }
 }
 
@@ -70,7 +71,7 @@ fn every_point(opened: &Opened, node: u32, options: &Options) -> Result<Said, Fa
     let progress = Progress::start(format!("asking {}", opened.file), Some(points));
     let mut lines = Vec::new();
     for point in 0..points {
-        let said = opened.case.verdict(PointNo(point), RuleNo(node), &Bindings::new(), Limits::default());
+        let said = opened.case.ask(PointNo(point), RuleNo(node), &Bindings::new(), Limits::default());
         let (told, steps, held) = match said {
             Ok(answer) => (Ok(answer.value), answer.steps, answer.held),
             Err(Refused { refusal, steps, held, .. }) => (Err(refusal.number()), steps, held),
@@ -78,7 +79,7 @@ fn every_point(opened: &Opened, node: u32, options: &Options) -> Result<Said, Fa
         lines.push(if options.flag("--json") {
             json_line(opened, point, told, steps, held)
         } else {
-            let words = told.map_or_else(|number| format!("refused {number}"), |yes| yes_or_no(yes).to_string());
+            let words = told.map_or_else(|number| format!("refused {number}"), |answer| answer.to_string());
             format!("{point} {words} {steps} {held}\n")
         });
         progress.advance();
@@ -94,19 +95,11 @@ fn every_point(opened: &Opened, node: u32, options: &Options) -> Result<Said, Fa
     Ok(Said::Yes)
 }
 
-fn yes_or_no(yes: bool) -> &'static str {
-    if yes {
-        "yes"
-    } else {
-        "no"
-    }
-}
-
-fn json_line(opened: &Opened, point: usize, told: Result<bool, u8>, steps: u64, held: usize) -> String {
+fn json_line(opened: &Opened, point: usize, told: Result<Answer, u8>, steps: u64, held: usize) -> String {
     let (time, date) = opened.time(point);
     let object = Object::new().plain("point", point).plain("time", time).some("date", date.as_deref());
     let object = match told {
-        Ok(yes) => object.plain("answer", yes),
+        Ok(answer) => object.plain("answer", in_json(answer)),
         Err(number) => object.plain("refused", number),
     };
     object.plain("steps", steps).plain("held", held).done()

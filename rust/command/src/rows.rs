@@ -1,7 +1,7 @@
 //! `rows`: what a rule finds.
 
 use casefile::binding::Binding;
-use galivodern::{Answer, PointNo, Row, Rows, RuleNo, VariableNo};
+use galivodern::{Answered, PointNo, Row, Rows, RuleNo, VariableNo};
 
 use crate::arguments::Options;
 use crate::ask::{spent, Question};
@@ -25,7 +25,7 @@ pub fn rows(options: &Options) -> Result<Said, Failure> {
     drop(progress);
     let answer = said.map_err(|refused| question.refused(refused))?;
     let names: Vec<String> = binders.iter().map(|&variable| opened.variable_name(variable)).collect();
-    let Answer { steps, held, .. } = answer;
+    let Answered { steps, held, .. } = answer;
     if options.flag("--json") {
         let rows = answer.value.iter().map(|row| json_row(opened, &names, row));
         let object = question.json().list("rows", rows).plain("steps", steps).plain("held", held);

@@ -98,7 +98,7 @@ pub const COMMANDS: [CommandSpec; 9] = [
         files: "FILE",
         brief: "ask the last rule at every point",
         about: "Asks the last rule at every point, with 1000000 steps and 256 rows for each, and prints a line for each: \
-                point, verdict, steps, rows held. Case files of at most 65536 bytes.",
+                point, verdict or number, steps, rows held. Case files of at most 65536 bytes.",
         options: &[&LOOSE, &JSON, &QUIET],
     },
     CommandSpec {

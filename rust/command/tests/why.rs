@@ -56,7 +56,7 @@ fn bench(rule: &str) -> (i32, String) {
 
 /// The words without what the proved calls do not decide: the table's heading, and its lines' fields.
 fn remarks(output: &str) -> Vec<String> {
-    let remark = |line: &str| line.split("  ").map(str::trim).rfind(|part| !part.is_empty()).unwrap_or("").to_string();
+    let remark = |line: &str| line.split("  ").map(str::trim).filter(|part| !part.is_empty()).last().unwrap_or("").to_string();
     output
         .lines()
         .filter(|line| line.trim_start().starts_with(['*', '!', 'x', '|', '.', ':', '-']))

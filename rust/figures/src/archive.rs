@@ -1,6 +1,6 @@
 //! The calls of libcapi.a as a C program makes them, with any buffers; and the crate beside them.
 
-use galivodern::{Bindings, Bound, Case, Limits, PointNo, RuleNo, VariableNo};
+use galivodern::{Answer, Answered, Bindings, Bound, Case, Limits, PointNo, RuleNo, VariableNo};
 use generate::calls::{output_fill, workspace_fill, Done};
 use generate::{Call, Kind};
 use model::Outcome;
@@ -18,7 +18,7 @@ macro_rules! c_calls {
 c_calls!(Ask (
     file: *const u8, file_len: usize, point: usize, node: u32, start: *const u64, start_len: usize, steps: u64,
     room: usize, work: *mut u64, work_len: usize, told: *mut u64, told_len: usize
-): galivodern_verdict, galivodern_number, galivodern_checked_verdict, galivodern_checked_number);
+): galivodern_ask, galivodern_checked_ask);
 
 c_calls!(List (
     file: *const u8, file_len: usize, point: usize, node: u32, start: *const u64, start_len: usize, steps: u64,
@@ -41,8 +41,7 @@ pub fn check(case: &[u8]) -> u32 {
 pub fn unchecked(call: &Call, case: &[u8], model: &Done) -> Result<(), String> {
     let done = match call.kind {
         Kind::Check => Done { outcome: Outcome { refusal: check(case), ..Outcome::default() }, ..buffers(call) },
-        Kind::Verdict => asked(galivodern_verdict, call, case),
-        Kind::Number => asked(galivodern_number, call, case),
+        Kind::Ask => asked(galivodern_ask, call, case),
         Kind::Rows => listed(galivodern_rows, call, case),
     };
     same("a call that checks", &done, model)
@@ -55,8 +54,7 @@ pub fn checked(call: &Call, case: &[u8], model: &Done) -> Result<(), String> {
     }
     let done = match call.kind {
         Kind::Check => return Ok(()),
-        Kind::Verdict => asked(galivodern_checked_verdict, call, case),
-        Kind::Number => asked(galivodern_checked_number, call, case),
+        Kind::Ask => asked(galivodern_checked_ask, call, case),
         Kind::Rows => listed(galivodern_checked_rows, call, case),
     };
     same("a call on a checked case", &done, model)
@@ -80,7 +78,7 @@ pub fn buffers(call: &Call) -> Done {
 
 fn asked(ask: Ask, call: &Call, case: &[u8]) -> Done {
     let mut done = buffers(call);
-    let mut told = [7; 3];
+    let mut told = [7; 4];
     // SAFETY: all slices are live and apart; a checked call is made on a case that has passed only.
     let refusal = unsafe {
         ask(
@@ -104,7 +102,7 @@ fn asked(ask: Ask, call: &Call, case: &[u8]) -> Done {
 
 fn listed(list: List, call: &Call, case: &[u8]) -> Done {
     let mut done = buffers(call);
-    let mut told = [7; 3];
+    let mut told = [7; 4];
     // SAFETY: as in `asked`.
     let refusal = unsafe {
         list(
@@ -130,8 +128,9 @@ fn listed(list: List, call: &Call, case: &[u8]) -> Done {
     done
 }
 
-fn outcome(refusal: u64, [answer, steps, rows]: [u64; 3]) -> Outcome {
-    Outcome { refusal: refusal as u32, answer, steps, rows }
+fn outcome(refusal: u64, [answer, steps, rows, sort]: [u64; 4]) -> Outcome {
+    assert!(sort < 2, "a fourth cell of {sort}");
+    Outcome { refusal: refusal as u32, answer, steps, rows, number: sort == 1 }
 }
 
 /// The Rust crate. Its buffers are its own and always large enough, so calls that are refused for
@@ -197,21 +196,30 @@ fn crate_outcome(case: &Case, call: &Call, start: &Bindings) -> (Outcome, Vec<u6
     let binders: Vec<VariableNo> = call.binders.iter().map(binder).collect();
     let mut cells = Vec::new();
     let said = match call.kind {
-        Kind::Number => case.number(point, rule, start, limits).map(|answer| answer.map(|n| n as u64)),
         Kind::Rows => case.rows(point, rule, &binders, start, limits).map(|answer| {
             cells.extend(answer.value.iter().flat_map(|row| row.iter().flat_map(bound_cells)));
-            answer.map(|rows| rows.len() as u64)
+            answer.map(|rows| (rows.len() as u64, false))
         }),
-        _ => case.verdict(point, rule, start, limits).map(|answer| answer.map(u64::from)),
+        _ => case.ask(point, rule, start, limits).map(|answer| answer.map(bits)),
     };
     let outcome = match said {
-        Ok(answer) => Outcome { refusal: 0, answer: answer.value, steps: answer.steps, rows: answer.held as u64 },
+        Ok(Answered { value: (answer, number), steps, held, .. }) => {
+            Outcome { refusal: 0, answer, steps, rows: held as u64, number }
+        }
         Err(refused) => {
             let refusal = u32::from(refused.refusal.number());
-            Outcome { refusal, answer: 0, steps: refused.steps, rows: refused.held as u64 }
+            Outcome { refusal, answer: 0, steps: refused.steps, rows: refused.held as u64, number: false }
         }
     };
     (outcome, cells)
+}
+
+/// An answer's cell, and whether it is a number.
+fn bits(answer: Answer) -> (u64, bool) {
+    match answer {
+        Answer::Verdict(yes) => (u64::from(yes), false),
+        Answer::Number(number) => (number as u64, true),
+    }
 }
 
 fn bound_cells(bound: Option<Bound>) -> [u64; 2] {

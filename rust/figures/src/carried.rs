@@ -106,7 +106,7 @@ fn asked(carried: Carried, call: &Call, case: &[u8]) -> Shown {
         )
     };
     let [answer, steps, rows, filled] = told;
-    done.outcome = Outcome { refusal: refusal as u32, answer, steps, rows };
+    done.outcome = Outcome { refusal: refusal as u32, answer, steps, rows, number: false };
     Shown { done, filled }
 }
 

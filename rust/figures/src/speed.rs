@@ -6,7 +6,7 @@ use casefile::text::Packed;
 use dogwood::extension::temporal::ast::{AggExpr, Condition};
 use dogwood::interpreter::eval;
 use dogwood::interpreter::value::Trace;
-use galivodern::{Bindings, Case, Limits, PointNo, RuleNo, Sort};
+use galivodern::{Answer, Bindings, Case, Limits, PointNo, RuleNo, Sort};
 use judge::convert::Converter;
 
 use crate::shapes::{Shape, SHAPES};
@@ -31,7 +31,6 @@ struct Theirs {
 pub struct Asked {
     case: Case,
     theirs: Option<Theirs>,
-    sort: Option<Sort>,
     asked: RuleNo,
     point: PointNo,
     limits: Limits,
@@ -43,32 +42,26 @@ impl Asked {
         let node = packed.node("asked").ok_or("the rule has another name")?;
         let converter = Converter { tables: &packed.tables };
         let (asked, point) = (RuleNo(node), PointNo(case.contents().points - 1));
-        let sort = case.sort(asked);
         let theirs = (!alone).then(|| Theirs {
             trace: converter.trace(),
-            rule: match sort {
+            rule: match case.sort(asked) {
                 Some(Sort::Aggregate) => Rule::Aggregate(converter.aggregate(node)),
                 _ => Rule::Condition(converter.condition(node)),
             },
         });
         let limits = Limits { steps: Limits::MOST_STEPS, room };
-        Ok(Asked { case, theirs, sort, asked, point, limits })
+        Ok(Asked { case, theirs, asked, point, limits })
     }
 
     /// The answer's number and the steps it took.
     pub fn ours(&self) -> Result<(i64, u64), String> {
         let unbound = Bindings::new();
-        match self.sort {
-            Some(Sort::Aggregate) => self
-                .case
-                .number(self.point, self.asked, &unbound, self.limits)
-                .map(|answer| (answer.value, answer.steps)),
-            _ => self
-                .case
-                .verdict(self.point, self.asked, &unbound, self.limits)
-                .map(|answer| (i64::from(answer.value), answer.steps)),
-        }
-        .map_err(|refused| refused.to_string())
+        let said = self.case.ask(self.point, self.asked, &unbound, self.limits);
+        let number = |answer| match answer {
+            Answer::Verdict(yes) => i64::from(yes),
+            Answer::Number(number) => number,
+        };
+        said.map(|answer| (number(answer.value), answer.steps)).map_err(|refused| refused.to_string())
     }
 
     /// The Rust's answer, where it is asked.

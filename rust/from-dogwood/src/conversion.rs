@@ -25,7 +25,7 @@ const MOST_VARIABLES: usize = 16;
 ///     let rule = conversion.condition(condition)?;
 ///     let start = conversion.bindings(&request_env(trace, last))?;
 ///     let case = conversion.finish()?;
-///     Ok(case.verdict(PointNo(last), rule, &start, Limits::default())?.value)
+///     Ok(case.ask(PointNo(last), rule, &start, Limits::default())?.verdict())
 /// }
 /// ```
 pub struct Conversion {

@@ -45,7 +45,7 @@ pub fn eval_condition(trace: &Trace, i: usize, env: &Env, condition: &Condition)
     let rule = conversion.condition(condition)?;
     let start = conversion.bindings(env)?;
     let case = conversion.finish()?;
-    Ok(case.verdict(PointNo(i), rule, &start, Limits::MOST)?.value)
+    Ok(case.ask(PointNo(i), rule, &start, Limits::MOST)?.verdict())
 }
 
 /// What Dogwood's `eval_agg_expr` gives: the number of a count or a sum at point `i`.
@@ -54,5 +54,5 @@ pub fn eval_agg_expr(trace: &Trace, i: usize, env: &Env, aggregate: &AggExpr) ->
     let rule = conversion.aggregate(aggregate)?;
     let start = conversion.bindings(env)?;
     let case = conversion.finish()?;
-    Ok(case.number(PointNo(i), rule, &start, Limits::MOST)?.value)
+    Ok(case.ask(PointNo(i), rule, &start, Limits::MOST)?.number())
 }

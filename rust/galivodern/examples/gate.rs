@@ -29,6 +29,6 @@ pub fn opens(text: &str, rule: &str) -> Result<bool, Box<dyn Error>> {
     let case = Case::from_text(text)?;
     let rule = case.rule(rule).ok_or_else(|| format!("there is no rule `{rule}`"))?;
     let last = case.contents().points.checked_sub(1).ok_or("the log is empty")?;
-    let answer = case.verdict(PointNo(last), rule, &Bindings::new(), Limits::default())?;
-    Ok(answer.value)
+    let answer = case.ask(PointNo(last), rule, &Bindings::new(), Limits::default())?;
+    Ok(answer.verdict())
 }

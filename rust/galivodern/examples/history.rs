@@ -1,4 +1,4 @@
-//! The log as a table, and a rule's verdict at each of its points.
+//! The log as a table, and a rule's answer at each of its points.
 //!
 //!     cargo run --example history -- CASE RULE     CASE is the text of a case
 
@@ -13,15 +13,14 @@ fn main() -> Result<(), Box<dyn Error>> {
     Ok(())
 }
 
-/// A line a point: number, time, action, fields, verdict.
+/// A line a point: number, time, action, fields, answer.
 pub fn table(text: &str, rule: &str) -> Result<String, Box<dyn Error>> {
     let case = Case::from_text(text)?;
     let rule = case.rule(rule).ok_or_else(|| format!("there is no rule `{rule}`"))?;
     let mut table = String::new();
     for point in case.points() {
-        let answer = case.verdict(point.number(), rule, &Bindings::new(), Limits::default())?;
-        let verdict = if answer.value { "yes" } else { "no" };
-        table.push_str(&format!("{} {} {} {verdict}\n", point.number(), point.time(), described(point)));
+        let answer = case.ask(point.number(), rule, &Bindings::new(), Limits::default())?;
+        table.push_str(&format!("{} {} {} {}\n", point.number(), point.time(), described(point), answer.value));
     }
     Ok(table)
 }

@@ -1,7 +1,7 @@
 use std::fmt;
 use std::sync::{Mutex, PoisonError};
 
-use crate::answer::Answer;
+use crate::answer::{Answer, Answered};
 use crate::bindings::Bindings;
 use crate::carried::Carried;
 use crate::limits::Limits;
@@ -83,65 +83,41 @@ impl Case {
         Ok(Case { names: Names::of(&packed), ..case })
     }
 
-    /// Whether a condition holds at a point.
+    /// Asks a rule at a point: a condition says yes or no, a count or a sum gives its number.
     ///
     /// ```
-    /// # use galivodern::{Bindings, Bound, Case, Limits, PointNo, Refusal};
-    /// let case = Case::from_text(r#"
-    ///     variables x
-    ///     point 120 Flash logged {n: 7}
-    ///     rule flashed(x) = Flash(n: x)
-    /// "#)?;
-    /// let (flashed, x) = (case.rule("flashed").unwrap(), case.variable("x").unwrap());
-    ///
-    /// let seven = Bindings::new().with(x, Bound::Int(7));
-    /// assert!(case.verdict(PointNo(0), flashed, &seven, Limits::default())?.value);
-    /// let nine = Bindings::new().with(x, Bound::Int(9));
-    /// assert!(!case.verdict(PointNo(0), flashed, &nine, Limits::default())?.value);
-    ///
-    /// let refused = case.verdict(PointNo(0), flashed, &nine, Limits { steps: 0, room: 0 }).unwrap_err();
-    /// assert_eq!(refused.refusal, Refusal::StepsExhausted);
-    /// # Ok::<(), Box<dyn std::error::Error>>(())
-    /// ```
-    pub fn verdict(
-        &self,
-        point: PointNo,
-        rule: RuleNo,
-        bindings: &Bindings,
-        limits: Limits,
-    ) -> Result<Answer<bool>, Refused> {
-        let told = self.asked(point, rule, self.complete(rule, bindings), limits, 0, |question, buffers| {
-            self.checked.verdict(question, buffers.workspace)
-        });
-        Ok(answer(told)?.map(|bits| bits == 1))
-    }
-
-    /// The number of an aggregate at a point: a count, or a sum clamped to 64 bits.
-    ///
-    /// ```
-    /// # use galivodern::{Bindings, Case, Limits, PointNo};
+    /// # use galivodern::{Answer, Bindings, Bound, Case, Limits, PointNo, Refusal};
     /// let case = Case::from_text(r#"
     ///     variables b
     ///     point 100 Review logged {board: "b1"}
     ///     point 105 Review logged {board: "b2"}
-    ///     point 110 Review logged {board: "b1"}
+    ///     point 110 Flash logged {n: 7}
+    ///     rule flashed(b) = Flash(n: b)
     ///     number boards = count for b where formerly within 1h Review(board: b)
     /// "#)?;
-    /// let boards = case.rule("boards").unwrap();
-    /// assert_eq!(case.number(PointNo(2), boards, &Bindings::new(), Limits::default())?.value, 2);
+    /// let [flashed, boards] = ["flashed", "boards"].map(|name| case.rule(name).unwrap());
+    /// let b = case.variable("b").unwrap();
+    ///
+    /// let seven = Bindings::new().with(b, Bound::Int(7));
+    /// assert_eq!(case.ask(PointNo(2), flashed, &seven, Limits::default())?.value, Answer::Verdict(true));
+    /// assert_eq!(case.ask(PointNo(2), boards, &Bindings::new(), Limits::default())?.number(), 2);
+    ///
+    /// let refused = case.ask(PointNo(2), flashed, &seven, Limits { steps: 0, room: 0 }).unwrap_err();
+    /// assert_eq!(refused.refusal, Refusal::StepsExhausted);
     /// # Ok::<(), Box<dyn std::error::Error>>(())
     /// ```
-    pub fn number(
+    pub fn ask(
         &self,
         point: PointNo,
         rule: RuleNo,
         bindings: &Bindings,
         limits: Limits,
-    ) -> Result<Answer<i64>, Refused> {
+    ) -> Result<Answered<Answer>, Refused> {
         let told = self.asked(point, rule, self.complete(rule, bindings), limits, 0, |question, buffers| {
-            self.checked.number(question, buffers.workspace)
+            self.checked.ask(question, buffers.workspace)
         });
-        Ok(answer(told)?.map(|bits| bits as i64))
+        let said = |bits| if told.fourth == 1 { Answer::Number(bits as i64) } else { Answer::Verdict(bits == 1) };
+        Ok(answered(told)?.map(said))
     }
 
     /// The rows that a condition finds at a point, on the variables in `binders`, each row once.
@@ -172,7 +148,7 @@ impl Case {
         binders: &[VariableNo],
         bindings: &Bindings,
         limits: Limits,
-    ) -> Result<Answer<Rows>, Refused> {
+    ) -> Result<Answered<Rows>, Refused> {
         // No more rows are given than are held, so the output takes whatever is found.
         let width = 2 * binders.len();
         let cells = width.saturating_mul(allowed_room(limits));
@@ -183,14 +159,14 @@ impl Case {
             given.extend_from_slice(&buffers.output[..width * told.answer as usize]);
             told
         });
-        Ok(answer(told)?.map(|count| Rows::new(binders.len(), count as usize, given)))
+        Ok(answered(told)?.map(|count| Rows::new(binders.len(), count as usize, given)))
     }
 
     /// Which event carried the yes: the verdict of a node that is itself a Formerly, Previous or Since,
     /// and the points that decided it. Other nodes are refused, [`NoSuchNode`].
     ///
     /// The limits hold for each verdict that the node asks of its parts at one point, not for all of
-    /// them together: a long log may be answered here where [`Case::verdict`] runs out of steps.
+    /// them together: a long log may be answered here where [`Case::ask`] runs out of steps.
     ///
     /// ```
     /// # use galivodern::{Bindings, Case, Limits, PointNo};
@@ -225,11 +201,11 @@ impl Case {
         let cells = 2 * (point.0.min(self.contents().points) + 1);
         let mut points = Vec::new();
         let told = self.asked(point, rule, self.complete(rule, bindings), limits, cells, |question, buffers| {
-            let (told, filled) = self.checked.carried(question, buffers.workspace, buffers.output);
-            points.extend(buffers.output[..filled].iter().map(|&cell| PointNo(cell as usize)));
+            let told = self.checked.carried(question, buffers.workspace, buffers.output);
+            points.extend(buffers.output[..told.fourth as usize].iter().map(|&cell| PointNo(cell as usize)));
             told
         });
-        Ok(Carried { verdict: answer(told)?.value == 1, points })
+        Ok(Carried { verdict: answered(told)?.value == 1, points })
     }
 
     /// The bindings, if they bind every parameter of the rule.
@@ -288,17 +264,17 @@ impl Case {
     }
 
     /// The parameters that the case's text gives a rule or number, as `b` in `rule ready(b) = ..`. A
-    /// verdict or number is refused, [`BadStart`], where one of them is not bound; rows are not.
+    /// question is refused, [`BadStart`], where one of them is not bound; rows are not.
     ///
     /// ```
     /// # use galivodern::{Bindings, Bound, Case, Limits, PointNo, Refusal};
     /// let case = Case::from_text("variables n\npoint 5 Flash logged {n: 7}\nrule flashed(n) = Flash(n: n)")?;
     /// let flashed = case.rule("flashed").unwrap();
-    /// let refused = case.verdict(PointNo(0), flashed, &Bindings::new(), Limits::default()).unwrap_err();
+    /// let refused = case.ask(PointNo(0), flashed, &Bindings::new(), Limits::default()).unwrap_err();
     /// assert_eq!(refused.refusal, Refusal::BadStart);
     ///
     /// let start = Bindings::new().with(case.parameters(flashed)[0], Bound::Int(7));
-    /// assert!(case.verdict(PointNo(0), flashed, &start, Limits::default())?.value);
+    /// assert!(case.ask(PointNo(0), flashed, &start, Limits::default())?.verdict());
     /// # Ok::<(), Box<dyn std::error::Error>>(())
     /// ```
     ///
@@ -419,11 +395,11 @@ fn start_cells<'a>(bound: &'a [u64], variables: usize, padded: &'a mut [u64; 2 *
     &padded[..2 * variables]
 }
 
-fn answer(told: Told) -> Result<Answer<u64>, Refused> {
-    let Told { returned, answer, steps, held } = told;
+fn answered(told: Told) -> Result<Answered<u64>, Refused> {
+    let Told { returned, answer, steps, held, .. } = told;
     let held = held as usize;
     match Refusal::of_return(returned) {
-        None => Ok(Answer { value: answer, steps, held }),
+        None => Ok(Answered { value: answer, steps, held }),
         Some(refusal) => Err(Refused { refusal, steps, held }),
     }
 }

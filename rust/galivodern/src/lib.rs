@@ -3,9 +3,9 @@
 //! that gives it is proved to be what its definition says, for every case and every question.
 //!
 //! A [`Case`] is one file, with the log and the rules as numbered nodes. It is checked once, when
-//! it is made. After that you ask it: [`Case::verdict`] of a condition, [`Case::number`] of an
-//! aggregate, [`Case::rows`] that a condition finds, and [`Case::carried`], which past event carried a
-//! yes. You set [`Limits`] to the steps and rows that
+//! it is made. After that you ask it: [`Case::ask`] says yes or no of a condition and gives the number
+//! of an aggregate, [`Case::rows`] gives what a condition finds, and [`Case::carried`] says which past
+//! event carried a yes. You set [`Limits`] to the steps and rows that
 //! an answer may take; none takes more, and every answer says how many it took.
 //!
 //! ```
@@ -18,8 +18,8 @@
 //! "#)?;
 //! let reviewed = case.rule("reviewed").expect("the rule is named so");
 //!
-//! let answer = case.verdict(PointNo(1), reviewed, &Bindings::new(), Limits::default())?;
-//! assert!(answer.value);
+//! let answer = case.ask(PointNo(1), reviewed, &Bindings::new(), Limits::default())?;
+//! assert!(answer.verdict());
 //! assert_eq!((answer.steps, answer.held), (3, 0));
 //! # Ok::<(), Box<dyn std::error::Error>>(())
 //! ```
@@ -52,7 +52,7 @@ mod rows;
 mod sys;
 mod window;
 
-pub use answer::Answer;
+pub use answer::{Answer, Answered};
 pub use bindings::{Bindings, Bound};
 pub use carried::Carried;
 pub use case::{Case, Contents};

@@ -14,7 +14,7 @@ pub struct PointNo(pub usize);
 /// ```compile_fail,E0308
 /// # use galivodern::{Bindings, Case, Limits, PointNo, RuleNo};
 /// # fn asks(case: &Case, point: PointNo, rule: RuleNo) {
-/// case.verdict(rule, point, &Bindings::new(), Limits::default());
+/// case.ask(rule, point, &Bindings::new(), Limits::default());
 /// # }
 /// ```
 ///

@@ -1,20 +1,20 @@
 //! Reads records of a case that has passed the check. Such a case has its tables where its contents
 //! say, so nothing here looks whether they are there.
 
-/// What a node is, and so which question it answers.
+/// What a node is, and so what it answers.
 #[derive(Clone, Copy, Debug, PartialEq, Eq, Hash)]
 #[non_exhaustive]
 pub enum Sort {
-    /// Asked by [`Case::verdict`] and [`Case::rows`].
+    /// Asked by [`Case::ask`] for yes or no, and by [`Case::rows`].
     ///
-    /// [`Case::verdict`]: crate::Case::verdict
+    /// [`Case::ask`]: crate::Case::ask
     /// [`Case::rows`]: crate::Case::rows
     Condition,
     /// Part of a condition; answers nothing by itself.
     Term,
-    /// A count or a sum, asked by [`Case::number`].
+    /// A count or a sum, asked by [`Case::ask`] for its number.
     ///
-    /// [`Case::number`]: crate::Case::number
+    /// [`Case::ask`]: crate::Case::ask
     Aggregate,
 }
 

@@ -20,7 +20,7 @@ pub enum Refusal {
     BadNodes = 6,
     /// The case has no such point.
     NoSuchPoint = 7,
-    /// The case has no such node, or it is not of the sort that the call answers.
+    /// The case has no such node, or it is a term; for rows, an aggregate too.
     NoSuchNode = 8,
     /// The starting bindings are malformed, or leave a parameter of the rule unbound.
     BadStart = 9,
@@ -86,8 +86,7 @@ impl fmt::Display for Refusal {
             Refusal::BadNodes => "a node breaks a rule of the case file, or a node is more than 64 high",
             Refusal::NoSuchPoint => "the case has no such point",
             Refusal::NoSuchNode => {
-                "the case has no such node, or it is of another sort: verdicts and rows are asked of conditions, \
-                 numbers of counts and sums"
+                "the case has no such node, or it cannot be asked: a term, or for rows a count or a sum"
             }
             Refusal::BadStart => {
                 "a starting binding is malformed: no such variable, no such value or string, an integer given as a \

@@ -4,44 +4,13 @@ use crate::limits::Limits;
 
 /// Cells that the check fills: V, and how many strings, values, points and nodes there are.
 const CONTENTS_CELLS: usize = 5;
-/// Cells that a question is told in: answer, steps, rows held.
-const TOLD_CELLS: usize = 3;
-
-/// `galivodern_checked_verdict` and `galivodern_checked_number` take the same.
-type Ask = unsafe extern "C" fn(
-    file: *const u8,
-    file_len: usize,
-    point: usize,
-    node: u32,
-    start: *const u64,
-    start_len: usize,
-    steps: u64,
-    room: usize,
-    work: *mut u64,
-    work_len: usize,
-    told: *mut u64,
-    told_len: usize,
-) -> u64;
+/// Cells that a question is told in: answer, steps, rows held, and the call's own fourth.
+const TOLD_CELLS: usize = 4;
 
 extern "C" {
     fn galivodern_check(file: *const u8, file_len: usize, contents: *mut u64, contents_len: usize) -> u64;
 
-    fn galivodern_checked_verdict(
-        file: *const u8,
-        file_len: usize,
-        point: usize,
-        node: u32,
-        start: *const u64,
-        start_len: usize,
-        steps: u64,
-        room: usize,
-        work: *mut u64,
-        work_len: usize,
-        told: *mut u64,
-        told_len: usize,
-    ) -> u64;
-
-    fn galivodern_checked_number(
+    fn galivodern_checked_ask(
         file: *const u8,
         file_len: usize,
         point: usize,
@@ -121,12 +90,14 @@ pub(crate) struct Told {
     pub answer: u64,
     pub steps: u64,
     pub held: u64,
+    /// Of `ask`: 1 where the answer is a number.
+    pub fourth: u64,
 }
 
 impl Told {
     fn new(returned: u64, told: [u64; TOLD_CELLS]) -> Told {
-        let [answer, steps, held] = told;
-        Told { returned, answer, steps, held }
+        let [answer, steps, held, fourth] = told;
+        Told { returned, answer, steps, held, fourth }
     }
 }
 
@@ -156,21 +127,13 @@ impl Checked {
         self.contents
     }
 
-    pub fn verdict(&self, question: Question, work: &mut [u64]) -> Told {
-        self.ask(galivodern_checked_verdict, question, work)
-    }
-
-    pub fn number(&self, question: Question, work: &mut [u64]) -> Told {
-        self.ask(galivodern_checked_number, question, work)
-    }
-
-    fn ask(&self, call: Ask, question: Question, work: &mut [u64]) -> Told {
+    pub fn ask(&self, question: Question, work: &mut [u64]) -> Told {
         let Question { point, node, start, limits } = question;
         let mut told = [0; TOLD_CELLS];
         // SAFETY: the bytes have passed the check and are unchanged since (see `Checked`); every slice
         // is live for the call, and those that are written to are borrowed for it alone.
         let returned = unsafe {
-            call(
+            galivodern_checked_ask(
                 self.bytes.as_ptr(),
                 self.bytes.len(),
                 point,
@@ -214,13 +177,11 @@ impl Checked {
         };
         Told::new(returned, told)
     }
-}
 
-impl Checked {
-    /// What the call told, and how many cells of the list it filled.
-    pub fn carried(&self, question: Question, work: &mut [u64], list: &mut [u64]) -> (Told, usize) {
+    /// The fourth cell tells how many cells of the list were filled.
+    pub fn carried(&self, question: Question, work: &mut [u64], list: &mut [u64]) -> Told {
         let Question { point, node, start, limits } = question;
-        let mut told = [0; 4];
+        let mut told = [0; TOLD_CELLS];
         // SAFETY: as in `ask`.
         let returned = unsafe {
             galivodern_checked_carried(
@@ -240,8 +201,7 @@ impl Checked {
                 told.len(),
             )
         };
-        let [answer, steps, held, filled] = told;
-        (Told { returned, answer, steps, held }, filled as usize)
+        Told::new(returned, told)
     }
 }
 

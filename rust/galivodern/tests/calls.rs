@@ -3,7 +3,8 @@
 use std::error::Error;
 
 use galivodern::{
-    Answer, Bindings, Bound, Case, Contents, Limits, PointNo, Refusal, Refused, RuleNo, Sort, Value, VariableNo,
+    Answer, Answered, Bindings, Bound, Case, Contents, Limits, PointNo, Refusal, Refused, RuleNo, Sort, Value,
+    VariableNo,
 };
 
 const TEXT: &str = r#"
@@ -32,7 +33,7 @@ fn rule(name: &str) -> RuleNo {
     case().rule(name).expect("the text names it")
 }
 
-fn refusal<T: std::fmt::Debug>(said: Result<Answer<T>, Refused>) -> Refusal {
+fn refusal<T: std::fmt::Debug>(said: Result<Answered<T>, Refused>) -> Refusal {
     said.expect_err("the call is refused").refusal
 }
 
@@ -76,7 +77,7 @@ fn a_part_of_an_entity_is_a_row_too() {
     let Some(Bound::Part(string)) = found.value.get(0).expect("one row").get(0) else { panic!("an own part") };
     assert_eq!(case.string(string), Some("ann"));
     let ann = Bindings::new().with(B, Bound::Part(string));
-    assert!(case.verdict(PointNo(0), rule("owner"), &ann, Limits::default()).expect("an answer").value);
+    assert!(case.ask(PointNo(0), rule("owner"), &ann, Limits::default()).expect("an answer").verdict());
 }
 
 #[test]
@@ -101,19 +102,20 @@ fn each_refusal_of_a_question_is_given() {
     let case = case();
     let (limits, unbound) = (Limits::default(), Bindings::new());
     let (reviewed, boards) = (rule("reviewed"), rule("boards"));
-    let verdict = |point, rule, start: &Bindings, limits| case.verdict(PointNo(point), rule, start, limits);
-    assert_eq!(refusal(verdict(2, reviewed, &unbound, limits)), Refusal::NoSuchPoint);
-    assert_eq!(refusal(verdict(usize::MAX, reviewed, &unbound, limits)), Refusal::NoSuchPoint);
-    assert_eq!(refusal(verdict(0, RuleNo(u32::MAX), &unbound, limits)), Refusal::NoSuchNode);
-    assert_eq!(refusal(verdict(0, boards, &unbound, limits)), Refusal::NoSuchNode);
-    assert_eq!(refusal(case.number(PointNo(0), reviewed, &unbound, limits)), Refusal::NoSuchNode);
+    let ask = |point, rule, start: &Bindings, limits| case.ask(PointNo(point), rule, start, limits);
+    assert_eq!(refusal(ask(2, reviewed, &unbound, limits)), Refusal::NoSuchPoint);
+    assert_eq!(refusal(ask(usize::MAX, reviewed, &unbound, limits)), Refusal::NoSuchPoint);
+    assert_eq!(refusal(ask(0, RuleNo(u32::MAX), &unbound, limits)), Refusal::NoSuchNode);
+    assert_eq!(case.sort(RuleNo(0)), Some(Sort::Term));
+    assert_eq!(refusal(ask(0, RuleNo(0), &unbound, limits)), Refusal::NoSuchNode);
+    assert_eq!(refusal(case.rows(PointNo(0), boards, &[B], &unbound, limits)), Refusal::NoSuchNode);
     for start in [
         Bindings::new().with(VariableNo(2), Bound::Int(1)),
         Bindings::new().with(VariableNo(u16::MAX), Bound::Int(1)),
         Bindings::new().with(B, Bound::Value(u32::MAX)),
         Bindings::new().with(B, Bound::Part(u32::MAX)),
     ] {
-        assert_eq!(refusal(verdict(0, reviewed, &start, limits)), Refusal::BadStart);
+        assert_eq!(refusal(ask(0, reviewed, &start, limits)), Refusal::BadStart);
     }
     for limits in [
         Limits { steps: Limits::MOST_STEPS + 1, room: 0 },
@@ -121,10 +123,10 @@ fn each_refusal_of_a_question_is_given() {
         Limits { steps: 1, room: Limits::MOST_ROOM + 1 },
         Limits { steps: 1, room: usize::MAX },
     ] {
-        assert_eq!(refusal(verdict(0, reviewed, &unbound, limits)), Refusal::BadLimits);
+        assert_eq!(refusal(ask(0, reviewed, &unbound, limits)), Refusal::BadLimits);
         assert_eq!(refusal(case.rows(PointNo(0), reviewed, &[B], &unbound, limits)), Refusal::BadLimits);
     }
-    let number = |limits| case.number(PointNo(1), boards, &unbound, limits);
+    let number = |limits| case.ask(PointNo(1), boards, &unbound, limits);
     let starved = number(Limits { steps: 1, room: 9 }).expect_err("one step is too few");
     assert_eq!((starved.refusal, starved.steps, starved.held), (Refusal::StepsExhausted, 1, 0));
     let cramped = number(Limits { steps: 99, room: 0 }).expect_err("a row is needed");
@@ -132,14 +134,25 @@ fn each_refusal_of_a_question_is_given() {
     let binders = [B, VariableNo(2)];
     let wrong = case.rows(PointNo(1), reviewed, &binders, &unbound, limits).expect_err("there is no third variable");
     assert_eq!((wrong.refusal, wrong.held), (Refusal::BadOutput, 1));
-    assert!(verdict(1, reviewed, &unbound, Limits::MOST).expect("the most is allowed").value);
+    assert!(ask(1, reviewed, &unbound, Limits::MOST).expect("the most is allowed").verdict());
+}
+
+#[test]
+fn an_answer_tells_a_verdict_from_a_number() {
+    let case = case();
+    let ask = |name: &str| case.ask(PointNo(1), rule(name), &Bindings::new(), Limits::default()).expect("an answer");
+    assert_eq!((ask("reviewed").value, ask("boards").value), (Answer::Verdict(true), Answer::Number(1)));
+    let read = |reading: fn(Answer) -> i64, name| std::panic::catch_unwind(|| reading(ask(name).value)).ok();
+    assert_eq!((read(Answer::number, "boards"), read(Answer::number, "reviewed")), (Some(1), None));
+    let verdict = |answer: Answer| i64::from(answer.verdict());
+    assert_eq!((read(verdict, "reviewed"), read(verdict, "boards")), (Some(1), None));
 }
 
 #[test]
 fn an_answer_takes_what_it_says() {
     let case = case();
     let (boards, unbound) = (rule("boards"), Bindings::new());
-    let number = |limits| case.number(PointNo(1), boards, &unbound, limits);
+    let number = |limits| case.ask(PointNo(1), boards, &unbound, limits);
     let answer = number(Limits::default()).expect("an answer");
     let just = Limits { steps: answer.steps, room: answer.held };
     assert_eq!(number(just), Ok(answer));
@@ -158,7 +171,7 @@ fn refusals_have_numbers_and_words() {
         assert_eq!(words.iter().filter(|other| **other == words[k]).count(), 1);
     }
     let limits = Limits { steps: 1, room: 9 };
-    let refused = case().number(PointNo(1), rule("boards"), &Bindings::new(), limits).expect_err("one step is too few");
+    let refused = case().ask(PointNo(1), rule("boards"), &Bindings::new(), limits).expect_err("one step is too few");
     assert_eq!(refused.to_string(), "the answer takes more steps than allowed (1 step spent, at most 0 rows held)");
     assert_eq!(refused.source().map(ToString::to_string), Some(Refusal::StepsExhausted.to_string()));
     let refused = Refused::from(Refusal::NoSuchPoint);
@@ -175,8 +188,8 @@ fn a_shared_case_answers_each_thread() {
             scope.spawn(move || {
                 for k in 0..500 {
                     let limits = Limits { steps: 1_000, room: 1 + (7 * k + thread) % 50 };
-                    let count = case.number(PointNo(1), boards, unbound, limits).expect("an answer");
-                    assert_eq!((count.value, count.held), (1, 1));
+                    let count = case.ask(PointNo(1), boards, unbound, limits).expect("an answer");
+                    assert_eq!((count.number(), count.held), (1, 1));
                     let rows = case.rows(PointNo(1), reviewed, &[B, N], unbound, limits).expect("an answer").value;
                     assert_eq!(rows.get(0).and_then(|row| row.get(1)), Some(Bound::Int(3)));
                 }
@@ -191,7 +204,7 @@ fn a_rule_of_the_greatest_height_needs_little_stack() {
     let points = "point 1 A logged {n: 1}\n".repeat(2);
     let rule = format!("loose rule tall = {}A(n: x)", "exists x formerly within 1h ".repeat(31));
     let case = Case::from_text(&format!("variables x\n{points}{rule}")).expect("height 64 passes the check");
-    let asked = move || case.verdict(PointNo(1), case.last_rule()?, &Bindings::new(), Limits::default()).ok();
+    let asked = move || case.ask(PointNo(1), case.last_rule()?, &Bindings::new(), Limits::default()).ok();
     let thread = std::thread::Builder::new().stack_size(1 << 20).spawn(asked).expect("a thread");
-    assert_eq!(thread.join().expect("no overflow").map(|answer| answer.value), Some(true));
+    assert_eq!(thread.join().expect("no overflow").map(|answer| answer.verdict()), Some(true));
 }

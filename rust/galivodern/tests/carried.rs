@@ -66,7 +66,7 @@ fn limits_are_afresh_for_each_question() {
     let case = case();
     let verdict = |steps| {
         let rule = case.rule("reviewed_b1").expect("the text names it");
-        case.verdict(PointNo(3), rule, &Bindings::new(), Limits { steps, room: 9 }).map(|answer| answer.value)
+        case.ask(PointNo(3), rule, &Bindings::new(), Limits { steps, room: 9 }).map(|answer| answer.verdict())
     };
     assert_eq!(verdict(5), Ok(true));
     assert_eq!(verdict(4).expect_err("five are needed").refusal, Refusal::StepsExhausted);

@@ -2,7 +2,7 @@
 
 use std::path::{Path, PathBuf};
 
-use galivodern::{Bindings, Bound, Case, Limits, PointNo, Refused, Sort};
+use galivodern::{Bindings, Bound, Case, Limits, PointNo, Refused};
 
 fn root() -> PathBuf {
     Path::new(env!("CARGO_MANIFEST_DIR")).join("../..")
@@ -57,23 +57,11 @@ fn hold(case: &Case, question: &str) -> bool {
         }
     }
     let point = point.expect("a point");
-    let said = match case.sort(rule) {
-        Some(Sort::Aggregate) => case.number(point, rule, &start, limits).map(|answer| answer.map(|n| n.to_string())),
-        _ => case.verdict(point, rule, &start, limits).map(|answer| answer.map(|yes| verdict(yes).to_string())),
-    };
-    let (said, steps, held) = match said {
-        Ok(answer) => (answer.value, answer.steps, answer.held),
+    let (said, steps, held) = match case.ask(point, rule, &start, limits) {
+        Ok(answer) => (answer.value.to_string(), answer.steps, answer.held),
         Err(Refused { refusal, steps, held, .. }) => (format!("refused {}", refusal.number()), steps, held),
     };
     expected == said || expected == format!("{said} {steps} {held}")
-}
-
-fn verdict(yes: bool) -> &'static str {
-    if yes {
-        "yes"
-    } else {
-        "no"
-    }
 }
 
 /// Asks every `#?` line of a document; gives their number.

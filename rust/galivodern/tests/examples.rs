@@ -1,9 +1,8 @@
 //! The examples of document 01, and the files that break each rule of the check, through the crate.
 
-use galivodern::{Bindings, Bound, Case, Limits, PointNo, Refusal, RuleNo, VariableNo};
+use galivodern::{Answer, Bindings, Bound, Case, Limits, PointNo, Refusal, RuleNo, VariableNo};
 use generate::examples::{examples, Example};
 use generate::rules::rule_files;
-use generate::Kind;
 
 /// The starting cells as bindings: the examples bind integers only.
 fn bindings(start: &[u64]) -> Bindings {
@@ -13,17 +12,20 @@ fn bindings(start: &[u64]) -> Bindings {
     })
 }
 
+fn bits(answer: Answer) -> u64 {
+    match answer {
+        Answer::Verdict(yes) => u64::from(yes),
+        Answer::Number(number) => number as u64,
+    }
+}
+
 /// Refusal or 0, answer's bits, steps and rows held.
 fn ask(case: &Case, example: &Example) -> (u8, u64, (u64, u64)) {
     let call = &example.call;
     let (point, rule, bindings) = (PointNo(call.point as usize), RuleNo(call.node), bindings(&call.start));
     let limits = Limits { steps: call.limit, room: call.room as usize };
-    let said = match call.kind {
-        Kind::Number => case.number(point, rule, &bindings, limits).map(|answer| answer.map(|n| n as u64)),
-        _ => case.verdict(point, rule, &bindings, limits).map(|answer| answer.map(u64::from)),
-    };
-    match said {
-        Ok(answer) => (0, answer.value, (answer.steps, answer.held as u64)),
+    match case.ask(point, rule, &bindings, limits) {
+        Ok(answer) => (0, bits(answer.value), (answer.steps, answer.held as u64)),
         Err(refused) => (refused.refusal.number(), 0, (refused.steps, refused.held as u64)),
     }
 }

@@ -27,7 +27,7 @@ fn nothing_public_goes_undocumented_or_unused() {
 }
 
 /// Those who match an enum, or take an answer apart, are told to leave room for what may come. A window
-/// is three and stays so.
+/// is three and an answer two, and they stay so.
 #[test]
 fn what_may_grow_is_marked() {
     let mut marked = 0;
@@ -36,7 +36,7 @@ fn what_may_grow_is_marked() {
         for item in ["pub enum ", "pub struct Answer", "pub struct Contents", "pub struct Refused", "pub struct Fault"]
         {
             for (before, after) in source.match_indices(&format!("\n{item}")).map(|(at, _)| source.split_at(at)) {
-                if after.starts_with("\npub enum Window {") {
+                if after.starts_with("\npub enum Window {") || after.starts_with("\npub enum Answer {") {
                     continue;
                 }
                 let attributes = before.rsplit("\n\n").next().unwrap_or_default();

@@ -47,23 +47,22 @@ fn parameters_are_bound_when_a_rule_is_asked() {
     let [ready, reviews] = ["ready", "reviews"].map(|name| case.rule(name).expect("it is named"));
     let (b, limits, unbound) = (case.variable("b").expect("it is declared"), Limits::default(), Bindings::new());
     assert_eq!((case.parameters(ready), case.parameters(RuleNo(0)).len()), (&[b][..], 0));
-    let refusal =
-        |point, start: &Bindings| case.verdict(point, ready, start, limits).map_err(|refused| refused.refusal);
+    let refusal = |point, start: &Bindings| case.ask(point, ready, start, limits).map_err(|refused| refused.refusal);
     assert_eq!(refusal(PointNo(1), &unbound), Err(Refusal::BadStart));
     assert_eq!(refusal(PointNo(2), &unbound), Err(Refusal::NoSuchPoint));
     let other = Bindings::new().with(case.variable("t").expect("it is declared"), Bound::Int(0));
     assert_eq!(refusal(PointNo(1), &other), Err(Refusal::BadStart));
-    let number = |start: &Bindings| case.number(PointNo(1), reviews, start, limits);
+    let number = |start: &Bindings| case.ask(PointNo(1), reviews, start, limits);
     assert_eq!(number(&unbound).map_err(|refused| refused.refusal), Err(Refusal::BadStart));
     let found = case.rows(PointNo(1), ready, &[b], &unbound, limits).expect("an answer").value;
     assert!(found.is_empty());
     let board = (0..).find(|&number| case.value(number) == Some(Value::String("b1"))).expect("it is there");
     let b1 = Bindings::new().with(b, Bound::Value(board));
-    assert!(!case.verdict(PointNo(1), ready, &b1, limits).expect("an answer").value);
-    assert_eq!(number(&b1).expect("an answer").value, 1);
+    assert!(!case.ask(PointNo(1), ready, &b1, limits).expect("an answer").verdict());
+    assert_eq!(number(&b1).expect("an answer").number(), 1);
     // A case file has no names, and so no parameters: it is asked as document 01 says.
     let unnamed = Case::new(case.bytes()).expect("it passed before");
-    assert!(unnamed.verdict(PointNo(1), ready, &unbound, limits).expect("an answer").value);
+    assert!(unnamed.ask(PointNo(1), ready, &unbound, limits).expect("an answer").verdict());
 }
 
 #[test]

@@ -1,16 +1,24 @@
 use borrow.Author.Needs.{needs}
-use Rattle.capi.proofs.Seeing.{rows-told, rows-unasked}
+use Rattle.capi.proofs.Seeing.{unasked, rows-told}
 use Rattle.capi.proofs.galivodern_rows.Statement.{statement}
 use Rattle.capi.proofs.galivodern_rows.Tie as tie
+use Rattle.capi.proofs.galivodern_rows.Reads as reads
+use Rattle.capi.proofs.galivodern_rows.Lts as lts
+use Rattle.calls.proofs.rows.Reads as rows-reads
+use Rattle.capi.proofs.telling.of_rows.Reads as of-rows-reads
+use Rattle.capi.proofs.telling.tell.Reads as tell-reads
 
 returns : tie.Need-returns
-returns c = rows-unasked _ _ (c .before .before .before .before .before .before .before .args .output .now) (c .before .before .before .before .before .before .before .args .told .now) (c .if1 .taken)
+returns c = search (unasked, needs)
 
 rows-requires : tie.Need-rows-requires
 rows-requires c κs = search needs
 
-tell-rows-requires : tie.Need-tell-rows-requires
-tell-rows-requires c κs = search needs
+of-rows-requires : tie.Need-of-rows-requires
+of-rows-requires c κs = search needs
+
+tell-requires : tie.Need-tell-requires
+tell-requires c κs = search needs
 
 same-length : tie.Need-same-length
 same-length c = search needs
@@ -22,7 +30,7 @@ same-length-3 : tie.Need-same-length-3
 same-length-3 c = search needs
 
 returns-2 : tie.Need-returns-2
-returns-2 c = rows-told (c .before .before .before .before .before .before .before .before .before .before .before .if1 .left) (c .before .before .before .before .before .before .before .before .rows .ensures) (c .before .before .tell-rows .ensures .0) (c .before .before .tell-rows .ensures .1)
+returns-2 c = search (rows-told, needs)
 
 pub galivodern-rows-spec : {M : Type 1} → statement M
 galivodern-rows-spec =
@@ -30,7 +38,8 @@ galivodern-rows-spec =
     (tie.spec
     returns
     rows-requires
-    tell-rows-requires
+    of-rows-requires
+    tell-requires
     same-length
     same-length-2
     same-length-3

@@ -1,70 +1,46 @@
 -- Demand 3: an asking call answers exactly when its limits reach the walk's numbers, and then with that answer and those numbers
 use mathlib.Core.Path.{_≡_, refl, sym, _∙_, ap}
-use mathlib.Core.Bool.{Bool, true}
+use mathlib.Core.Bool.{Bool, true, false}
 use mathlib.Core.List.{List, [], _∷_, _++_}
 use mathlib.Core.Option.{none, some}
 use Prim.Native.Nat.{ℕ, _*_, _≤_}
 use lib.Dec.{leb}
 use lib.ListN.{length, drop}
 use lib.IntN.{ℤ}
+use mir.Val.{ofZ}
+use mir.Syntax.{w64}
 use borrow.Author.Tests.{lt-ltb, le-leb, ltb-true, leb-true}
 use Rattle.meaning.specs.declared.Limits.{Limits}
+use Rattle.meaning.specs.declared.Node.{Node}
 use Rattle.meaning.specs.declared.Refusal.{Refusal}
 use Rattle.meaning.specs.declared.Refusal.the-variants.{BadContents, TooLarge, BadStrings, BadValues, BadPoints, BadNodes, NoSuchPoint, NoSuchNode, BadStart, BadLimits, StepsExhausted, RoomExhausted, BadOutput}
-use Rattle.meaning.specs.Tests.{_and_, choose, pick}
+use Rattle.meaning.specs.Tests.{_and_, _or_, choose, pick}
 use Rattle.meaning.specs.Walk.{W, started, spent, most, Outcome, answered, refused, outcome}
-use Rattle.meaning.specs.Case.{Sort, conditions, terms, aggregates, broken, isSort, vars}
+use Rattle.meaning.specs.Case.{Sort, conditions, terms, aggregates, broken, isSort, sortOf, vars, nodeAt}
 use Rattle.meaning.specs.Check.{check, Checked, bodies, mosts, stringRules, valueRules, pointRules, nodeRules}
 use Rattle.meaning.specs.Rows.{Row}
 use Rattle.meaning.specs.Meaning.{Meaning, Question}
-use Rattle.meaning.specs.Calls.{numberOf, Call, Said, gives, refuses, against, walkOf, told, unlessRefused, asking, cleared, workspaceAfter, result, inBits, filled, projected, outputFits, rowsGiven, rowsCall}
+use Rattle.meaning.specs.Calls.{numberOf, Call, Said, gives, refuses, isCondition, isAggregate, answerable, against, walkOf, told, unlessRefused, unlessAgainst, asking, cleared, workspaceAfter, result, saying, askCall, verdict, number, filled, projected, outputFits, rowsGiven, rowsCall}
 use Rattle.meaning.specs.Demands.{Askable, steps-out, room-out, Tells}
 use Rattle.meaning.specs.Laws.Tests.{both, unbroken, either}
 use Rattle.meaning.specs.Laws.Walk.{answers, tells, Told}
 
 -- ---- 7 to 10: nothing is against a call exactly where document 01's conditions hold
 
-own-sort : (a : Sort) → isSort a a ≡ true
-unfolding isSort
-own-sort conditions = refl
-own-sort terms = refl
-own-sort aggregates = refl
-own-sort broken = refl
-
-same-sort : (a b : Sort) → isSort a b ≡ true → b ≡ a
-unfolding isSort
-same-sort conditions conditions e = refl
-same-sort conditions terms e = cc
-same-sort conditions aggregates e = cc
-same-sort conditions broken e = cc
-same-sort terms conditions e = cc
-same-sort terms terms e = refl
-same-sort terms aggregates e = cc
-same-sort terms broken e = cc
-same-sort aggregates conditions e = cc
-same-sort aggregates terms e = cc
-same-sort aggregates aggregates e = refl
-same-sort aggregates broken e = cc
-same-sort broken conditions e = cc
-same-sort broken terms e = cc
-same-sort broken aggregates e = cc
-same-sort broken broken e = refl
-
-pub nothing-against : {sort : Sort} {c : Call} → Askable sort c → against sort c ≡ none
+pub nothing-against : {wanted : Node → Bool} {c : Call} → Askable wanted c → against wanted c ≡ none
 unfolding against choose _and_
-nothing-against {sort} ok =
+nothing-against ok =
     rw (
       lt-ltb _ _ (ok .point),
       lt-ltb _ _ (ok .node),
-      ok .of-sort,
-      own-sort sort,
+      ok .one,
       ok .start,
       le-leb _ _ (ok .steps),
       le-leb _ _ (ok .room),
       le-leb _ _ (ok .cells),
     ) refl
 
-pub askable : {sort : Sort} {c : Call} → Checked (c .file) → against sort c ≡ none → Askable sort c
+pub askable : {wanted : Node → Bool} {c : Call} → Checked (c .file) → against wanted c ≡ none → Askable wanted c
 unfolding against
 askable checked e =
     let h7 = unbroken _ _ _ e in
@@ -75,7 +51,7 @@ askable checked e =
       checked = checked;
       point = ltb-true _ _ (h7 .0);
       node = ltb-true _ _ (both _ _ (h8 .0) .0);
-      of-sort = same-sort _ _ (both _ _ (h8 .0) .1);
+      one = both _ _ (h8 .0) .1;
       start = h9 .0;
       steps = leb-true _ _ (limits .0);
       room = leb-true _ _ (both _ _ (limits .1) .0);
@@ -98,9 +74,9 @@ check-early s n e =
     (either early (nodeRules s) _ _ refl
     (λ k none-is. cc)))))) n e
 
-pub against-early : (sort : Sort) (c : Call) (n : Refusal) → against sort c ≡ some n → leb (numberOf n) 10 ≡ true
+pub against-early : (wanted : Node → Bool) (c : Call) (n : Refusal) → against wanted c ≡ some n → leb (numberOf n) 10 ≡ true
 unfolding against numberOf
-against-early sort c n e =
+against-early wanted c n e =
     either early _ _ _ refl
     (either early _ _ _ refl
     (either early _ _ _ refl
@@ -126,28 +102,28 @@ module _ {A : Type 0} (c : Call) (l : Limits) (w : W A) where
       go (refused n m) (steps-out e _ _) = rw e refl
       go (refused n m) (room-out e _ _) = rw e refl
 
-pub bits-clear : (c : Call) (said : Said ℤ) → workspaceAfter c (inBits said) ≡ workspaceAfter c said
-unfolding workspaceAfter inBits
-bits-clear c (gives z steps most) = refl
-bits-clear c (refuses n steps most) = refl
+pub saying-clears : {A B : Type 0} (f : A → B) (c : Call) (said : Said A) → workspaceAfter c (saying f said) ≡ workspaceAfter c said
+unfolding workspaceAfter saying
+saying-clears f c (gives a steps most) = refl
+saying-clears f c (refuses n steps most) = refl
 
 -- ---- an answer exactly when the limits suffice
 
-module _ {A : Type 0} (sort : Sort) (manner : Meaning → Question → W A) (c : Call) (ok : Askable sort c) where
+module _ {A : Type 0} (wanted : Node → Bool) (manner : Meaning → Question → W A) (c : Call) (ok : Askable wanted c) where
   abbrev theWalk : W A
   theWalk = walkOf manner (c .file) (c .point) (c .node) (c .start)
 
-  asking-is : asking sort manner c ≡ told (outcome (c .limits) started theWalk)
-  unfolding asking unlessRefused
+  asking-is : asking wanted manner c ≡ told (outcome (c .limits) started theWalk)
+  unfolding asking unlessAgainst unlessRefused
   asking-is = rw (ok .checked .passes, nothing-against ok) refl
 
   -- enough of both: the definition's answer, with its numbers
-  pub answers-when : spent theWalk ≤ c .limits .steps → most theWalk ≤ c .limits .room → asking sort manner c ≡ gives (theWalk .answer) (spent theWalk) (most theWalk)
+  pub answers-when : spent theWalk ≤ c .limits .steps → most theWalk ≤ c .limits .room → asking wanted manner c ≡ gives (theWalk .answer) (spent theWalk) (most theWalk)
   unfolding told spent most
   answers-when hs hr = asking-is ∙ ap told (answers (c .limits) theWalk hs hr)
 
   -- and only then; else 11 with all steps spent, or 12 with all room held
-  pub answers-only-when : Tells (c .limits) theWalk (asking sort manner c)
+  pub answers-only-when : Tells (c .limits) theWalk (asking wanted manner c)
   unfolding told
   answers-only-when = rw asking-is (go (outcome (c .limits) started theWalk) (tells (c .limits) theWalk))
     where
@@ -155,8 +131,39 @@ module _ {A : Type 0} (sort : Sort) (manner : Meaning → Question → W A) (c :
       go (answered a m) h = h
       go (refused n m) h = h
 
+-- ---- one ask call: of a condition its verdict, of an aggregate its number
+
+conditions-are : (n : Node) → isCondition n ≡ true → (answerable n ≡ true) × (isAggregate n ≡ false)
+unfolding answerable isCondition isAggregate isSort _or_
+conditions-are n e = (rw e refl, go (sortOf n) e)
+  where
+    go : (s : Sort) → isSort conditions s ≡ true → isSort aggregates s ≡ false
+    go conditions e = refl
+    go terms e = cc
+    go aggregates e = cc
+    go broken e = cc
+
+aggregates-are : (n : Node) → isAggregate n ≡ true → answerable n ≡ true
+unfolding answerable _or_
+aggregates-are n e = go (isCondition n)
+  where
+    go : (b : Bool) → (b or isAggregate n) ≡ true
+    go true = refl
+    go false = e
+
+also : {wanted wanted′ : Node → Bool} {c : Call} → (wanted′ (nodeAt (c .file) (c .node)) ≡ true) → Askable wanted c → Askable wanted′ c
+also e ok = record { checked = ok .checked; point = ok .point; node = ok .node; one = e; start = ok .start; steps = ok .steps; room = ok .room; cells = ok .cells }
+
+pub condition-asked : {c : Call} → Askable isCondition c → Askable answerable c × (askCall c .said ≡ saying verdict (asking answerable (λ m q. m .verdict q) c))
+unfolding askCall result choose
+condition-asked ok = let are = conditions-are _ (ok .one) in (also (are .0) ok, rw (are .1) refl)
+
+pub aggregate-asked : {c : Call} → Askable isAggregate c → Askable answerable c × (askCall c .said ≡ saying (λ z. number (ofZ w64 z)) (asking answerable (λ m q. m .number q) c))
+unfolding askCall result choose
+aggregate-asked ok = (also (aggregates-are _ (ok .one)) ok, rw (ok .one) refl)
+
 -- the rows call, with binders the case has and an output long enough for its rows
-pub rows-when : (c : Call) (binders output : List ℕ) → Askable conditions c
+pub rows-when : (c : Call) (binders output : List ℕ) → Askable isCondition c
     → let w : W (List Row) = walkOf (λ m q. m .rows q) (c .file) (c .point) (c .node) (c .start) in
     let kept : List Row = projected (c .file) binders (w .answer) in
     outputFits (c .file) binders output kept ≡ true
@@ -168,7 +175,7 @@ pub rows-when : (c : Call) (binders output : List ℕ) → Askable conditions c
     }
 unfolding rowsCall rowsGiven result workspaceAfter choose
 rows-when c binders output ok fits hs hr =
-    ap (rowsGiven c binders output) (answers-when conditions (λ m q. m .rows q) c ok hs hr) ∙ rw fits refl
+    ap (rowsGiven c binders output) (answers-when isCondition (λ m q. m .rows q) c ok hs hr) ∙ rw fits refl
 
 -- ---- no two refusals share a number
 

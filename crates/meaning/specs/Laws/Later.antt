@@ -1,5 +1,6 @@
--- Points added after the one asked about change nothing in what the three asking calls say
+-- Points added after the one asked about change nothing in what the asking calls say
 use mathlib.Core.Path.{_≡_, refl, sym, _∙_, ap, fun-ext}
+use mathlib.Core.Bool.{Bool}
 use mathlib.Core.List.{List, [], _∷_, _++_, append-nil}
 use Prim.Native.Nat.{ℕ, zero, suc, _+_, _*_, _/_, _≤_, _<_}
 use native.Mathlib.Omega.{arith}
@@ -7,13 +8,14 @@ use lib.Dec.{lit<}
 use lib.ListN.{length, getD, take, drop, length-append, take-append-drop}
 use lib.Seq.{length-take-le, take-append-le}
 use borrow.Author.Tests.{lt-ltb}
+use Rattle.meaning.specs.declared.Node.{Node}
 use Rattle.meaning.specs.declared.Refusal.the-variants.{BadOutput}
 use Rattle.meaning.specs.Walk.{W}
-use Rattle.meaning.specs.Case.{Case, Sort, conditions, aggregates, words, size, vars, strings, values, points, nodes, body, bodyWord, stringWord, valueWord, memberWord, pointWord, nodeWord, list, text, valueFrom, nodeFrom, partAt, valueAt, entityAt, pointAt, nodeAt, caseOf}
+use Rattle.meaning.specs.Case.{Case, words, size, vars, strings, values, points, nodes, body, bodyWord, stringWord, valueWord, memberWord, pointWord, nodeWord, list, text, valueFrom, nodeFrom, partAt, valueAt, entityAt, pointAt, nodeAt, caseOf}
 use Rattle.meaning.specs.Check.{Checked}
 use Rattle.meaning.specs.Rows.{Row}
 use Rattle.meaning.specs.Meaning.{Meaning, Question}
-use Rattle.meaning.specs.Calls.{numberOf, Call, Said, gives, refuses, wellFormed, startRow, startOr, against, walkOf, asking, workspaceAfter, result, verdictCall, inBits, numberCall, filled, projected, outputFits, rowsGiven, rowsCall}
+use Rattle.meaning.specs.Calls.{numberOf, Call, Said, gives, refuses, wellFormed, startRow, startOr, isCondition, isAggregate, answerable, against, walkOf, unlessAgainst, asking, workspaceAfter, result, verdict, number, saying, askCall, filled, projected, outputFits, rowsGiven, rowsCall}
 use Rattle.meaning.specs.Demands.{SameTables, bytesUpTo, SameUpTo, SameAnswers, ofFile}
 use Rattle.meaning.specs.Laws.Words.{words-first}
 use Rattle.meaning.specs.Laws.Bodies.{body-length}
@@ -55,9 +57,9 @@ module _ (c : Call) (s t : List ℕ) (alike : Alike s t (c .point)) where
   start-same : startRow s (vars s) (c .start) ≡ startRow t (vars t) (c .start)
   start-same = row-same (vars s) (c .start) ∙ ap (λ (v : ℕ). startRow t v (c .start)) (alike .vars)
 
-  against-same : (sort : Sort) → against sort (ofFile c s) ≡ against sort (ofFile c t)
+  against-same : (wanted : Node → Bool) → against wanted (ofFile c s) ≡ against wanted (ofFile c t)
   unfolding against ofFile
-  against-same sort =
+  against-same wanted =
       cc (lt-ltb _ _ (alike .here), lt-ltb _ _ (alike .there), alike .nodes, node-same (c .node), start-same, alike .vars)
 
   walk-same : {A : Type 0} (manner : Meaning → Question → W A) → walkOf manner s (c .point) (c .node) (c .start) ≡ walkOf manner t (c .point) (c .node) (c .start)
@@ -66,9 +68,13 @@ module _ (c : Call) (s t : List ℕ) (alike : Alike s t (c .point)) where
       cc (alike .case, start-same, later-points (pointAt s) (pointAt t) (c .point) (startOr (startRow t (vars t) (c .start))) (alike .point))
 
   module _ (hs : Checked s) (ht : Checked t) where
-    asking-same : {A : Type 0} (sort : Sort) (manner : Meaning → Question → W A) → asking sort manner (ofFile c s) ≡ asking sort manner (ofFile c t)
+    unless-same : {A : Type 0} (wanted : Node → Bool) {said said′ : Said A} → said ≡ said′ → unlessAgainst wanted (ofFile c s) said ≡ unlessAgainst wanted (ofFile c t) said′
+    unfolding unlessAgainst ofFile
+    unless-same wanted e = cc (hs .passes, ht .passes, against-same wanted, e)
+
+    asking-same : {A : Type 0} (wanted : Node → Bool) (manner : Meaning → Question → W A) → asking wanted manner (ofFile c s) ≡ asking wanted manner (ofFile c t)
     unfolding asking ofFile
-    asking-same sort manner = cc (hs .passes, ht .passes, against-same sort, walk-same manner)
+    asking-same wanted manner = unless-same wanted (cc (walk-same manner))
 
     workspace-same : {A : Type 0} (said : Said A) → workspaceAfter (ofFile c s) said ≡ workspaceAfter (ofFile c t) said
     unfolding workspaceAfter ofFile
@@ -79,13 +85,9 @@ module _ (c : Call) (s t : List ℕ) (alike : Alike s t (c .point)) where
     unfolding result
     result-same output {said} e = cc (e, workspace-same said)
 
-    verdict-same : verdictCall (ofFile c s) ≡ verdictCall (ofFile c t)
-    unfolding verdictCall
-    verdict-same = result-same [] (asking-same conditions (λ m q. m .verdict q))
-
-    number-same : numberCall (ofFile c s) ≡ numberCall (ofFile c t)
-    unfolding numberCall
-    number-same = result-same [] (ap inBits (asking-same aggregates (λ m q. m .number q)))
+    ask-same : askCall (ofFile c s) ≡ askCall (ofFile c t)
+    unfolding askCall ofFile
+    ask-same = result-same [] (cc (node-same (c .node), asking-same answerable (λ m q. m .number q), asking-same answerable (λ m q. m .verdict q)))
 
     given-same : (binders output : List ℕ) (said : Said (List Row)) → rowsGiven (ofFile c s) binders output said ≡ rowsGiven (ofFile c t) binders output said
     unfolding rowsGiven projected outputFits ofFile
@@ -101,7 +103,7 @@ module _ (c : Call) (s t : List ℕ) (alike : Alike s t (c .point)) where
 
     rows-same : (binders output : List ℕ) → rowsCall binders output (ofFile c s) ≡ rowsCall binders output (ofFile c t)
     unfolding rowsCall
-    rows-same binders output = ap (rowsGiven (ofFile c s) binders output) (asking-same conditions (λ m q. m .rows q)) ∙ given-same binders output _
+    rows-same binders output = ap (rowsGiven (ofFile c s) binders output) (asking-same isCondition (λ m q. m .rows q)) ∙ given-same binders output _
 
 -- a case by its bodies
 abbrev at : List ℕ → ℕ → ℕ
@@ -186,7 +188,7 @@ module _ (s t : List ℕ) (hs : Checked s) (ht : Checked t) (i : ℕ) (up : Same
 pub later-points-change-nothing : (s t : List ℕ) → Checked s → Checked t → (c : Call) → SameUpTo (c .point) s t → SameAnswers c s t
 later-points-change-nothing s t hs ht c up =
     let a = alike-up-to s t hs ht (c .point) up in
-    (verdict-same c s t a hs ht, number-same c s t a hs ht, rows-same c s t a hs ht)
+    (ask-same c s t a hs ht, rows-same c s t a hs ht)
 
 -- ---- two ways to come by such files
 

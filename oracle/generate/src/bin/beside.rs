@@ -1,5 +1,6 @@
 //! `beside PROGRAM N SEED` puts the program `bench` beside the model: N case files, valid, damaged,
-//! too long, without a condition as their last node, or with walks that reach refusals 11 and 12.
+//! too long, with a condition, an aggregate, a term or nothing as their last node, or with walks
+//! that reach refusals 11 and 12.
 //! Every second file goes in by its name, the others by standard input. Prints counts by what the
 //! model writes, and each file on which the program writes something else.
 
@@ -90,7 +91,7 @@ fn table(file: &[u8]) -> String {
     }
     let tables = Tables::decode(file).expect("the file passed the check");
     let last = tables.nodes.last().and_then(|&words| Node::read(words));
-    if !last.is_some_and(Node::is_condition) {
+    if !last.is_some_and(|node| node.is_condition() || node.is_aggregate()) {
         return "refused 8\n".to_string();
     }
     let start = vec![0; 2 * tables.variables as usize];
@@ -99,8 +100,9 @@ fn table(file: &[u8]) -> String {
         let node = tables.nodes.len() as u32 - 1;
         let question = Question { case: file, point, node, start: &start, limit: STEPS, room: ROOM };
         let mut workspace = vec![0; start.len() * ROOM as usize];
-        let said = model.verdict(&question, &mut workspace);
+        let said = model.ask(&question, &mut workspace);
         let verdict = match (said.refusal, said.answer) {
+            (0, bits) if said.number => (bits as i64).to_string(),
             (0, 1) => "yes".to_string(),
             (0, _) => "no".to_string(),
             (refusal, _) => format!("refused {refusal}"),
@@ -131,10 +133,12 @@ fn random_file(random: &mut Random) -> (&'static str, Vec<u8>) {
     let profile = if random.percent(70) { Profile::USUAL } else { Profile::SMALL };
     let mut tables = random_case(random, profile).tables;
     match random.below(1000) {
-        0..=399 => ("random", condition_last(tables).encode()),
+        0..=249 => ("random", up_to_last(tables, Node::is_condition).encode()),
+        250..=389 => ("aggregate last", up_to_last(tables, Node::is_aggregate).encode()),
+        390..=399 => ("extreme sum last", extreme_sum(random).encode()),
         400..=599 => ("as made", tables.encode()),
         600..=889 => {
-            let whole = condition_last(tables).encode();
+            let whole = up_to_last(tables, Node::is_condition).encode();
             ("damaged", damaged(random, &whole))
         }
         890..=919 => {
@@ -148,29 +152,29 @@ fn random_file(random: &mut Random) -> (&'static str, Vec<u8>) {
         }
         960..=984 => {
             tables.points.clear();
-            ("no points", condition_last(tables).encode())
+            ("no points", up_to_last(tables, Node::is_condition).encode())
         }
         985..=989 => ("nested scans", nested_scans(random).encode()),
         _ => ("many rows", many_rows(random).encode()),
     }
 }
 
-/// The case up to its last condition.
-fn condition_last(mut tables: Tables) -> Tables {
-    let is_condition = |words: &[u32; 8]| Node::read(*words).is_some_and(Node::is_condition);
-    let end = tables.nodes.iter().rposition(is_condition).map_or(0, |last| last + 1);
+/// The case up to its last node of a sort.
+fn up_to_last(mut tables: Tables, sort: fn(Node) -> bool) -> Tables {
+    let is_of = |words: &[u32; 8]| Node::read(*words).is_some_and(sort);
+    let end = tables.nodes.iter().rposition(is_of).map_or(0, |last| last + 1);
     tables.nodes.truncate(end);
     tables
 }
 
-/// Points whose logged `n` is their number, and a Predicate on `n`.
-fn numbered(random: &mut Random, points: usize, term: impl Fn(&mut Builder) -> u32) -> (Builder, u32) {
+/// A point for each logged `n`, and a Predicate on `n`.
+fn numbered(logged: impl IntoIterator<Item = i64>, term: impl Fn(&mut Builder) -> u32) -> (Builder, u32) {
     let mut builder = Builder::new(1);
     let context = builder.object(&[]);
     let (action, kind) = (builder.string("Flash"), builder.string("request"));
     let none = Run { first: 0, count: 0 };
-    for k in 0..points {
-        let n = builder.int(if random.percent(90) { k as i64 } else { 0 });
+    for (k, n) in logged.into_iter().enumerate() {
+        let n = builder.int(n);
         let logged = builder.object(&[("n", n)]);
         let time = k as i64;
         let point = Point {
@@ -194,12 +198,17 @@ fn numbered(random: &mut Random, points: usize, term: impl Fn(&mut Builder) -> u
     (builder, predicate)
 }
 
+/// The points' own numbers, now and then 0.
+fn mostly_rising(random: &mut Random, points: usize) -> Vec<i64> {
+    (0..points as i64).map(|k| if random.percent(90) { k } else { 0 }).collect()
+}
+
 const DAY: Within = Within { amount: 1, unit: 3 };
 
 /// Scans in scans that find nothing: steps grow with a power of the points.
 fn nested_scans(random: &mut Random) -> Tables {
     let points = random.between(10, 17);
-    let (mut builder, mut body) = numbered(random, points, |builder| {
+    let (mut builder, mut body) = numbered(mostly_rising(random, points), |builder| {
         let never = builder.int(-1);
         builder.node(Node::Literal { value: never })
     });
@@ -212,8 +221,21 @@ fn nested_scans(random: &mut Random) -> Tables {
 /// Rows for each point before.
 fn many_rows(random: &mut Random) -> Tables {
     let points = random.between(200, 300);
-    let (mut builder, predicate) = numbered(random, points, |builder| builder.node(Node::Variable { variable: 0 }));
+    let variable = |builder: &mut Builder| builder.node(Node::Variable { variable: 0 });
+    let (mut builder, predicate) = numbered(mostly_rising(random, points), variable);
     let body = builder.node(Node::Formerly { within: DAY, body: predicate });
     builder.node(Node::Exists { variable: 0, body });
+    builder.finish()
+}
+
+/// A sum that reaches the ends of 64 bits, both ways.
+fn extreme_sum(random: &mut Random) -> Tables {
+    let ends = [i64::MIN, i64::MIN + 1, -1, 0, 1, i64::MAX - 1, i64::MAX];
+    let logged: Vec<i64> = (0..random.between(1, 6)).map(|_| random.pick(&ends)).collect();
+    let variable = |builder: &mut Builder| builder.node(Node::Variable { variable: 0 });
+    let (mut builder, predicate) = numbered(logged, variable);
+    let body = builder.node(Node::Formerly { within: DAY, body: predicate });
+    let binders = builder.binders(&[0]);
+    builder.node(Node::Sum { variable: 0, binders, body });
     builder.finish()
 }

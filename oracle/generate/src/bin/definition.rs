@@ -136,8 +136,7 @@ fn asked(call: &Call, bytes: &[u8]) -> Claim {
     let said = said(call.kind, &done.outcome);
     let (workspace, output) = (list(done.workspace.iter().copied()), list(done.output.iter().copied()));
     let left = match call.kind {
-        Kind::Verdict => format!("given (verdictCall·Calls {lent})"),
-        Kind::Number => format!("given (numberCall·Calls {lent})"),
+        Kind::Ask => format!("given (askCall·Calls {lent})"),
         Kind::Rows | Kind::Check => {
             let binders = list(call.binders.iter().map(|&x| u64::from(x)));
             let before = list((0..call.output).map(output_fill));
@@ -148,9 +147,10 @@ fn asked(call: &Call, bytes: &[u8]) -> Claim {
 }
 
 fn said(kind: Kind, outcome: &Outcome) -> String {
-    let Outcome { refusal, answer, steps, rows } = *outcome;
+    let Outcome { refusal, answer, steps, rows, number } = *outcome;
     match (refusal, kind) {
-        (0, Kind::Verdict) => format!("gives {} {steps} {rows}", answer == 1),
+        (0, Kind::Ask) if number => format!("gives (number {answer}) {steps} {rows}"),
+        (0, Kind::Ask) => format!("gives (verdict {}) {steps} {rows}", answer == 1),
         (0, _) => format!("gives {answer} {steps} {rows}"),
         _ => format!("refuses {refusal} {steps} {rows}"),
     }

@@ -80,5 +80,6 @@ fn differs(model: Model, example: &Example, packed: &Packed) -> Option<String> {
     call.fit_workspace(packed.tables.variables);
     let Shown { done, filled } = ask_carried(&call, model, &packed.tables.encode());
     let said = (done.outcome, &done.output[..filled as usize]);
-    (said != (Outcome { refusal, answer, steps, rows }, list)).then(|| format!("{rule} at {point}: {said:?}"))
+    (said != (Outcome { refusal, answer, steps, rows, number: false }, list))
+        .then(|| format!("{rule} at {point}: {said:?}"))
 }

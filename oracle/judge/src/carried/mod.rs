@@ -215,10 +215,12 @@ fn compare_list(call: &Call, shown: &Shown, single: &mut Single) -> Result<Found
     let Shown { done, filled } = shown;
     let (yes, points) = single.listed()?;
     let said = match done.outcome {
-        Outcome { refusal: 0, answer, steps: 0, rows: 0 } => {
+        Outcome { refusal: 0, answer, steps: 0, rows: 0, number: false } => {
             (answer == 1) == yes && done.output[..*filled as usize] == points[..]
         }
-        Outcome { refusal: 15, answer: 0, steps: 0, rows: 0 } => points.len() > call.output && *filled == 0,
+        Outcome { refusal: 15, answer: 0, steps: 0, rows: 0, number: false } => {
+            points.len() > call.output && *filled == 0
+        }
         _ => false,
     };
     if !said {

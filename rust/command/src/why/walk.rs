@@ -64,7 +64,7 @@ impl<'a> Walk<'a> {
 
     fn verdict(&self, node: u32, start: &Bindings) -> Result<bool, Refused> {
         let Question { opened, point, limits, .. } = self.question;
-        Ok(opened.case.verdict(PointNo(*point), RuleNo(node), start, *limits)?.value)
+        Ok(opened.case.ask(PointNo(*point), RuleNo(node), start, *limits)?.verdict())
     }
 
     fn part(&self, node: u32, start: &Bindings) -> Result<Part, Refused> {

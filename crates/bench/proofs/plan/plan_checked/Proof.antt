@@ -9,8 +9,8 @@ returns c = search (no-last, needs)
 sub-t6 : tie.Need-sub-t6
 sub-t6 c = search needs
 
-is-condition-requires : tie.Need-is-condition-requires
-is-condition-requires c κs = search needs
+is-answerable-requires : tie.Need-is-answerable-requires
+is-answerable-requires c κs = search needs
 
 returns-2 : tie.Need-returns-2
 returns-2 c = search (wrong-last, needs)
@@ -26,4 +26,4 @@ returns-3 c = search (right-last, needs)
 
 pub plan-checked-spec : {M : Type 1} → statement M
 plan-checked-spec =
-    tie.close (tie.spec returns sub-t6 is-condition-requires returns-2 cast-t9 cast-t10 returns-3)
+    tie.close (tie.spec returns sub-t6 is-answerable-requires returns-2 cast-t9 cast-t10 returns-3)

@@ -12,17 +12,17 @@ mul-cells c = let p = c .before .before .before .pre in omega (arith, few _ _ (p
 array-share-prefix-unbound : tie.Need-array-share-prefix-unbound
 array-share-prefix-unbound c = let p = c .before .before .before .pre in omega (arith, few _ _ (p .0) (p .1))
 
-slice-aggregate-verdict : tie.Need-slice-aggregate-verdict
-slice-aggregate-verdict c = let p = c .before .before .before .before .pre in sym (length-take-le _ _ (omega (arith, few _ _ (p .0) (p .1))))
+slice-aggregate-ask : tie.Need-slice-aggregate-ask
+slice-aggregate-ask c = let p = c .before .before .before .before .pre in sym (length-take-le _ _ (omega (arith, few _ _ (p .0) (p .1))))
 
-verdict-requires : tie.Need-verdict-requires
-verdict-requires c κs = search needs
+ask-requires : tie.Need-ask-requires
+ask-requires c κs = search needs
 
 same-length : tie.Need-same-length
 same-length c = search needs
 
 returns : tie.Need-returns
-returns c = let p = c .before .before .before .before .before .before .before .before .pre in asked-at _ _ (p .0) (p .1) _ _ _ _ (c .before .before .verdict .ensures)
+returns c = let p = c .before .before .before .before .before .before .before .before .pre in asked-at _ _ (p .0) (p .1) _ _ _ _ (c .before .before .ask .ensures)
 
 pub at-point-spec : {M : Type 1} → statement M
 at-point-spec =
@@ -30,7 +30,7 @@ at-point-spec =
     (tie.spec
     mul-cells
     array-share-prefix-unbound
-    slice-aggregate-verdict
-    verdict-requires
+    slice-aggregate-ask
+    ask-requires
     same-length
     returns)

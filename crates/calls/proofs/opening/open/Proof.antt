@@ -1,8 +1,16 @@
-use Rattle.meaning.specs.Laws.Checked.{checked-bodies}
-use Rattle.calls.proofs.Openings.{no-such-point, no-such-node, bad-start, bad-limits, opened}
 use borrow.Author.Needs.{needs}
 use Rattle.calls.proofs.opening.open.Statement.{statement}
 use Rattle.calls.proofs.opening.open.Tie as tie
+use Rattle.calls.proofs.opening.open.Reads as reads
+use Rattle.calls.proofs.opening.open.Lts as lts
+use Rattle.calls.proofs.opening.beyond.Reads as beyond-reads
+use Rattle.calls.proofs.opening.is_wanted.Reads as is-wanted-reads
+use Rattle.calls.proofs.opening.refused.Reads as refused-reads
+use Rattle.calls.proofs.start.start_env.Reads as start-env-reads
+use Rattle.stringcheck.proofs.point_count.Reads as point-count-reads
+use Rattle.tables.proofs.node_at.Reads as node-at-reads
+use Rattle.meaning.specs.Laws.Checked.{checked-bodies}
+use Rattle.calls.proofs.Openings.{few-vars, many-cells, no-such-point, no-such-node, bad-start, bad-limits, opened}
 
 start-env-requires : tie.Need-start-env-requires
 start-env-requires c κs = search needs
@@ -22,8 +30,8 @@ returns c = search (no-such-point, needs)
 node-at-requires : tie.Need-node-at-requires
 node-at-requires c κs = search (checked-bodies, needs)
 
-is-sort-requires : tie.Need-is-sort-requires
-is-sort-requires c κs = search needs
+is-wanted-requires : tie.Need-is-wanted-requires
+is-wanted-requires c κs = search needs
 
 refused-requires-2 : tie.Need-refused-requires-2
 refused-requires-2 c κs = search needs
@@ -46,6 +54,12 @@ refused-requires-4 c κs = search needs
 returns-4 : tie.Need-returns-4
 returns-4 c = search (bad-limits, needs)
 
+mul-t16 : tie.Need-mul-t16
+mul-t16 c = search (few-vars, needs)
+
+mul-t24 : tie.Need-mul-t24
+mul-t24 c = search (many-cells, needs)
+
 returns-5 : tie.Need-returns-5
 returns-5 c = search (opened, needs)
 
@@ -59,7 +73,7 @@ open-spec =
     refused-requires
     returns
     node-at-requires
-    is-sort-requires
+    is-wanted-requires
     refused-requires-2
     returns-2
     refused-requires-3
@@ -67,4 +81,6 @@ open-spec =
     beyond-requires
     refused-requires-4
     returns-4
+    mul-t16
+    mul-t24
     returns-5)

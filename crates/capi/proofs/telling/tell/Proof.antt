@@ -1,25 +1,35 @@
 use borrow.Author.Needs.{needs}
-use native.Mathlib.Omega.{arith}
-use lib.ListN.{length-set}
-use Rattle.capi.proofs.Cells.{three}
+use Rattle.capi.proofs.Cells.{second, third, four}
 use Rattle.capi.proofs.telling.tell.Statement.{statement}
 use Rattle.capi.proofs.telling.tell.Tie as tie
+use Rattle.capi.proofs.telling.tell.Reads as reads
+use Rattle.capi.proofs.telling.tell.Lts as lts
 
 slice-write-lent : tie.Need-slice-write-lent
 slice-write-lent c = search needs
 
 slice-write-lent-2 : tie.Need-slice-write-lent-2
-slice-write-lent-2 c = omega (arith, length-set (c .args .lent .now) 0 (c .args .answer), c .pre)
+slice-write-lent-2 c = search (second, needs)
 
 slice-write-lent-3 : tie.Need-slice-write-lent-3
-slice-write-lent-3 c = search needs
+slice-write-lent-3 c = search (third, needs)
+
+slice-write-lent-4 : tie.Need-slice-write-lent-4
+slice-write-lent-4 c = search needs
 
 same-length : tie.Need-same-length
 same-length c = search needs
 
 returns : tie.Need-returns
-returns c = three _ _ _ (c .args .lent .now) (c .pre)
+returns c = search (four, needs)
 
 pub tell-spec : {M : Type 1} → statement M
 tell-spec =
-    tie.close (tie.spec slice-write-lent slice-write-lent-2 slice-write-lent-3 same-length returns)
+    tie.close
+    (tie.spec
+    slice-write-lent
+    slice-write-lent-2
+    slice-write-lent-3
+    slice-write-lent-4
+    same-length
+    returns)

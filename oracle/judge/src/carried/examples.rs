@@ -24,6 +24,7 @@ rule before = previous within 1h Review()
 rule before_in_time = previous within 5s Review()
 rule inside_and = Flash() and @reviewed
 rule never = formerly within -1s Flash()
+rule costly = Review(board: "b1") since within 1h (Review() or (Flash(n: 4) and (Flash() and (Flash() and Flash()))))
 rule unlike = formerly within 1h ((exists x Flash(n: x) and 1 == 2) or (Review() and (Review() and (Review() and Review()))))
 "#;
 
@@ -32,7 +33,7 @@ type Example = (&'static str, u32, u64, u64, usize, u32, u64, (u64, u64), &'stat
 
 const AMPLE: u64 = 1_000;
 
-const EXAMPLES: [Example; 26] = [
+const EXAMPLES: [Example; 28] = [
     ("reviewed", 3, AMPLE, 9, 8, 0, 1, (0, 0), &[2]),
     ("since_20", 3, AMPLE, 9, 8, 0, 1, (0, 0), &[0, 1, 2, 3]),
     ("since_19", 3, AMPLE, 9, 8, 0, 0, (0, 0), &[]),
@@ -61,6 +62,9 @@ const EXAMPLES: [Example; 26] = [
     ("failing", 3, AMPLE, 9, 3, 15, 0, (0, 0), &[]),
     ("failing", 3, AMPLE, 9, 4, 0, 0, (0, 0), &[2, 3, 0, 1]),
     ("failing", 3, 0, 9, 0, 11, 0, (0, 0), &[]),
+    // The anchor at 2 fails and finds no cell; at 1 right takes more steps than it may.
+    ("costly", 3, 4, 9, 0, 11, 0, (4, 0), &[]),
+    ("costly", 3, 9, 9, 0, 15, 0, (0, 0), &[]),
     ("since_20", 3, 1, 9, 0, 11, 0, (1, 0), &[]),
     ("reviewed", 0, AMPLE, 9, 1, 0, 1, (0, 0), &[0]),
 ];

@@ -56,7 +56,8 @@ fn bench(rule: &str) -> (i32, String) {
 
 /// The words without what the proved calls do not decide: the table's heading, and its lines' fields.
 fn remarks(output: &str) -> Vec<String> {
-    let remark = |line: &str| line.split("  ").map(str::trim).filter(|part| !part.is_empty()).last().unwrap_or("").to_string();
+    let remark =
+        |line: &str| line.split("  ").map(str::trim).filter(|part| !part.is_empty()).last().unwrap_or("").to_string();
     output
         .lines()
         .filter(|line| line.trim_start().starts_with(['*', '!', 'x', '|', '.', ':', '-']))
@@ -239,6 +240,8 @@ fn what_an_event_lends_is_shown() {
     assert_eq!(parts(&output), ["  no: formerly within 10s Review(board: b) with b = \"b1\""]);
     let (_, json) = why(BENCH, &["--rule", "lending", "--json"]);
     assert!(json.contains(r#""bound":{"b":"b1"}"#), "{json}");
+    // `ask` holds no row for it, and `why` answers under the same limits.
+    assert_eq!(why(BENCH, &["--rule", "lending", "--room", "0"]).0, 0);
     // Bound at the start, it is not lent.
     let (_, output) = why(BENCH, &["--rule", "lending", "--bind", "b=b1"]);
     assert_eq!(parts(&output)[1], "  yes: formerly within 1h Review(board: b)");
@@ -559,6 +562,19 @@ fn warnings_are_told_and_strict_makes_them_errors() {
     assert_eq!(status, 2);
     assert!(error.contains("1 warning is an error here (--strict)"), "{error}");
     assert!(run(&["why", &case, "--json"]).1.contains("\"warnings\":[{"));
+}
+
+/// What README shows is what the command says.
+#[test]
+fn readme_shows_what_why_says() {
+    let root = concat!(env!("CARGO_MANIFEST_DIR"), "/../..");
+    let readme = std::fs::read_to_string(format!("{root}/README.md")).expect("it is there");
+    let shown = readme.split("galivodern why ../examples/headline.case --point 4 --svg why.svg\n\n").nth(1);
+    let shown: Vec<&str> = shown.expect("README shows it").lines().take_while(|line| !line.is_empty()).collect();
+    let said = run(&["why", &format!("{root}/examples/headline.case"), "--point", "4"]).1;
+    let said: Vec<&str> = said.lines().collect();
+    let same = |(shown, said): (&&str, &&str)| shown.trim_start() == said.trim_start();
+    assert!(shown.len() == 7 && shown.iter().rev().zip(said.iter().rev()).all(same), "{shown:#?}\n{said:#?}");
 }
 
 /// A packed case without its names is asked by its node.

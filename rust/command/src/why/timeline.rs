@@ -268,3 +268,52 @@ fn extent(line: Line) -> (usize, usize, usize) {
         Line::Mixed { from, to, in_vain } => (from, to, in_vain),
     }
 }
+
+#[cfg(test)]
+mod tests {
+    use super::*;
+
+    /// Points of every sort, in an order that a small generator of numbers makes.
+    fn moments(count: usize, seed: u64) -> Vec<Moment> {
+        let mut state = seed;
+        let mut below = |end: u64| {
+            state = state.wrapping_mul(6_364_136_223_846_793_005).wrapping_add(1_442_695_040_888_963_407);
+            (state >> 33) % end
+        };
+        let mut did = Did::No;
+        let mut made = Vec::new();
+        for point in 0..count {
+            if below(1 + seed % 9) == 0 {
+                did = [Did::No, Did::LeftHeld, Did::InVain(point + 1), Did::Failed, Did::NotAsked, Did::Outside]
+                    [below(6) as usize];
+            }
+            let seen = if did == Did::Outside { Seen::TooOld } else { Seen::Inside };
+            made.push(Moment { point, seen, did });
+        }
+        made
+    }
+
+    /// Every point stands in one line, in order; the carrying one has a line of its own, and so has the last.
+    #[test]
+    fn lines_hold_every_point_once() {
+        for seed in 0..200 {
+            let count = 1 + 17 * seed as usize;
+            let mut moments = moments(count, seed);
+            let carried = count / 3;
+            moments[carried].did = Did::Carried;
+            let lines = folded(&moments, count - 1);
+            let mut next = 0;
+            for &line in &lines {
+                let (from, to, _) = extent(line);
+                assert_eq!(from, next);
+                next = to + 1;
+            }
+            assert_eq!(next, count);
+            assert!(lines.contains(&Line::One(moments[carried])), "seed {seed}");
+            assert!(matches!(lines[lines.len() - 1], Line::One(_)), "seed {seed}");
+            assert!(lines.len() <= MOST_LINES + 3, "seed {seed}: {}", lines.len());
+            let in_vain = moments.iter().filter(|moment| matches!(moment.did, Did::InVain(_))).count();
+            assert_eq!(lines.iter().map(|&line| extent(line).2).sum::<usize>(), in_vain, "seed {seed}");
+        }
+    }
+}

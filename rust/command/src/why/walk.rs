@@ -5,7 +5,7 @@ use std::cell::Cell;
 
 use casefile::binding::Binding;
 use casefile::{Node, Variables};
-use galivodern::{Bindings, Bound, Carried, PointNo, Refused, RuleNo, VariableNo};
+use galivodern::{Bindings, Bound, Carried, Limits, PointNo, Refused, RuleNo, VariableNo};
 
 use crate::ask::Question;
 
@@ -124,7 +124,9 @@ impl<'a> Walk<'a> {
             return Ok(Vec::new());
         }
         let binders: Vec<VariableNo> = free.iter().map(|&v| VariableNo(v as u16)).collect();
-        let found = opened.case.rows(PointNo(*point), RuleNo(left), &binders, start, *limits)?.value;
+        // An event that lends holds no row, and here it gives one.
+        let limits = Limits { room: limits.room.max(1), ..*limits };
+        let found = opened.case.rows(PointNo(*point), RuleNo(left), &binders, start, limits)?.value;
         let row = found.iter().next();
         let bound = |(k, &v): (usize, &u32)| row.and_then(|row| row.get(k)).map(|bound| (v, bound));
         Ok(free.iter().enumerate().filter_map(bound).collect())
@@ -156,11 +158,11 @@ impl<'a> Walk<'a> {
             how = if found.len() > 1 { "it holds with the first that is found" } else { "it holds with what is found" };
         }
         let under = bound.iter().fold(under, |under, &(v, to)| under.with(VariableNo(v as u16), to));
-        let inner = Part { bound, ..self.part(body, &under)? };
-        Ok(if inner.verdict == verdict {
-            By::Parts(how, vec![inner])
-        } else {
-            By::Whole("what it asks for is put together from several events; list it with `rows`")
+        // The body is asked here in another manner than within the rule: its parts are shown if they come to the same.
+        Ok(match self.part(body, &under) {
+            Ok(inner) if inner.verdict == verdict => By::Parts(how, vec![Part { bound, ..inner }]),
+            Ok(_) => By::Whole("what it asks for is put together from several events; list it with `rows`"),
+            Err(_) => By::Whole("they take more than the limits allow; allow more with --steps and --room"),
         })
     }
 }

@@ -45,7 +45,7 @@ number reviews = count where @reviewed
 
 fn why(text: &str, arguments: &[&str]) -> (i32, String) {
     let (status, output, error) = run_with(&[&["why", "-"], arguments].concat(), text.as_bytes());
-    assert_eq!(error, "", "{arguments:?}");
+    assert!(error.is_empty() || status < 2 && error.contains(": warning: "), "{arguments:?}: {error}");
     (status, output)
 }
 
@@ -515,8 +515,15 @@ fn the_picture_is_written_as_every_file_is() {
     assert_eq!(std::fs::read_to_string(&case).expect("it is there"), HEADLINE);
     refused(&["why", &case, "--svg", "/nowhere/why.svg"], "/nowhere/why.svg: its folder does not exist: make it first");
     refused(&["why", &case, "--svg", "/tmp"], "this is a directory: name a file in it");
-    refused(&["why", &case, "--svg", "-", "--json"], "");
-    refused(&["why", &case, "--svg", "-", "--quiet"], "`--svg -` writes the picture to standard output");
+    let message =
+        "`--svg -` writes the picture to standard output, in place of the words: leave --json and --quiet out";
+    refused(&["why", &case, "--svg", "-", "--quiet"], message);
+    let (status, json, _) = run(&["why", &case, "--svg", "-", "--json"]);
+    assert_eq!(
+        (status, json.starts_with(&format!("{{\"error\":\"usage\",\"message\":\"{message}"))),
+        (2, true),
+        "{json}"
+    );
 }
 
 // ---- what is refused

@@ -62,7 +62,10 @@ fn case(file: &OsStr) -> Result<Opened, Failure> {
     let opened = Opened::of(file, bytes, names, source)?;
     match opened.case.last_rule().and_then(|node| opened.case.sort(node)) {
         Some(Sort::Condition | Sort::Aggregate) => Ok(opened),
-        _ => Err(refused(Refusal::NoSuchNode, "; `bench` asks the last node, which must be no term")),
+        _ => Err(refused(
+            Refusal::NoSuchNode,
+            "; `bench` asks the last node, which must be a condition, a count or a sum",
+        )),
     }
 }
 

@@ -33,9 +33,11 @@ fn a_table_has_status_0() {
 
 #[test]
 fn a_refused_case_has_status_2_and_its_limits() {
-    for (number, words) in
-        [(1, "this is no sound case"), (2, "at most 65,536 bytes"), (8, "the last node must be a condition")]
-    {
+    for (number, words) in [
+        (1, "this is no sound case"),
+        (2, "at most 65,536 bytes"),
+        (8, "the last node must be a condition, a count or a sum"),
+    ] {
         let printed = format!("refused {number}\n");
         let (status, output, error) = bench(&printed, &["my.bin"]);
         assert_eq!((status, output), (2, printed.clone()), "{error}");

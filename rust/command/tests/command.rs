@@ -65,7 +65,7 @@ fn bench_writes_document_01s_table() {
     answered(&["bench", &packed], 0, table);
     let bytes = std::fs::read(&packed).expect("it was packed");
     assert_eq!(run_with(&["bench", "-"], &bytes).1, table);
-    let (status, output, error) = run_with(&["bench", "-"], b"point 1 A number n = count where A()");
+    let (status, output, error) = run_with(&["bench", "-"], b"point 1 A term t = 3");
     assert_eq!((status, output.as_str()), (2, "refused 8\n"));
     assert!(error.contains("standard input: refused 8: "), "{error}");
     let (status, output, error) = run_with(&["bench", "-"], &vec![0; 65_537]);
@@ -75,6 +75,16 @@ fn bench_writes_document_01s_table() {
     let starved = "variables x point 1 A rule r = ".to_string() + &"formerly within 1h ".repeat(20) + "A()";
     let json = run_with(&["bench", "-", "--json"], starved.as_bytes()).1;
     assert!(json.ends_with("\"points\":[{\"point\":0,\"time\":1,\"date\":\"1970-01-01T00:00:01Z\",\"answer\":true,\"steps\":21,\"held\":0}]}\n"), "{json}");
+}
+
+#[test]
+fn bench_writes_a_number_in_the_verdicts_place() {
+    let sum = concat!(env!("CARGO_MANIFEST_DIR"), "/../../examples/sum.case");
+    answered(&["bench", sum], 0, "point verdict steps held\n0 3 3 1\n1 3 4 1\n2 6 4 2\n3 6 6 2\n");
+    let least = b"variables x point 1 A number n = sum x for x where (x == -9223372036854775807 or x == -9)";
+    assert_eq!(run_with(&["bench", "-"], least).1, "point verdict steps held\n0 -9223372036854775808 4 2\n");
+    let json = run_with(&["bench", "-", "--json"], least).1;
+    assert!(json.contains("\"answer\":-9223372036854775808,\"steps\":"), "{json}");
 }
 
 #[test]

@@ -14,7 +14,7 @@ use from_dogwood::{Conversion, Error};
 use galivodern::{Refusal, VariableNo};
 use generate::calls::random_call;
 use generate::cases::random_case;
-use generate::{Call, Kind, Profile, Random};
+use generate::{Call, Profile, Random};
 use judge::convert::{variable_name, Converter};
 use judge::rust::RustCase;
 
@@ -113,7 +113,7 @@ const MOST_VISITS: u64 = 20_000;
 /// What the Rust says and what the proved code says; None where the Rust makes too many visits.
 fn both(converter: &Converter, trace: &Trace, env: &Env, call: &Call) -> Option<(i64, Result<i64, Error>)> {
     let i = call.point as usize;
-    if call.kind == Kind::Number {
+    if converter.tables.nodes[call.node as usize][0] >= 30 {
         let aggregate = converter.aggregate(call.node);
         let (theirs, _) = visits::counted(MOST_VISITS, || counted::eval_agg_expr(trace, i, env, &aggregate))?;
         return Some((theirs, from_dogwood::eval_agg_expr(trace, i, env, &aggregate)));

@@ -121,8 +121,9 @@ formerly within 10s Review()
     let expected = ["not asked", "-- stamped later than point 2 --", "stamped later", "-- in the window again --"];
     assert_eq!(remarks(&output)[..4], expected.map(str::to_string));
     assert_eq!(remarks(&output)[4], "carried the yes (asked here)");
-    let negative = why("point 1 A\npoint 2 A\nloose rule r = formerly within 1s (previous within 5s A())", &[]);
-    assert!(negative.1.contains("within 1s: from 1 to 2; 2 of the 2 points"), "{}", negative.1);
+    let (status, output) = why("point 1 A\nrule r = formerly within -5s A()", &[]);
+    assert_eq!((status, remarks(&output)), (1, vec!["asked here".to_string()]));
+    assert!(output.contains("\n  within -5s: no point lies in a negative window\n"), "{output}");
 }
 
 #[test]
@@ -140,7 +141,8 @@ previous within 1m Flash()
     let (status, output) = why(BENCH, &["--rule", "before", "--point", "0"]);
     assert_eq!((status, remarks(&output)), (1, vec!["asked here".to_string()]));
     let (status, output) = why(BENCH, &["--rule", "before", "--point", "2"]);
-    assert_eq!((status, &remarks(&output)[2][..]), (1, "stamped later"));
+    let expected = [": 0: 1 point, not asked", "stamped later", "-- in the window --", "asked here"];
+    assert_eq!((status, remarks(&output)), (1, expected.map(str::to_string).to_vec()));
     let yes = why("point 1 A\npoint 2 B\nrule r = previous within 1s A()", &[]);
     assert_eq!((yes.0, remarks(&yes.1)), (0, ["carried the yes", "asked here"].map(str::to_string).to_vec()));
 }
@@ -327,8 +329,8 @@ fn why_says_what_ask_says() {
 fn json_tells_the_same() {
     let case = file("why-json.case", HEADLINE.as_bytes());
     let expected = format!(
-        "{}\"file\":\"{case}\",\"point\":1,\"time\":1200,\"date\":\"1970-01-01T00:20:00Z\",\"node\":8,\"rule\":\"ready\",\
-         \"answer\":true,\"why\":{}\"node\":8,\"rule\":\"(not Finding(board: context.board, what: \\\"duplicate\\\")) since \
+        "{}\"file\":\"{case}\",\"point\":1,\"time\":1200,\"date\":\"1970-01-01T00:20:00Z\",\"node\":6,\"rule\":\"ready\",\
+         \"answer\":true,\"why\":{}\"node\":6,\"rule\":\"(not Finding(board: context.board, what: \\\"duplicate\\\")) since \
          within 1h Review(board: context.board)\",\"answer\":true,\"kind\":\"since\",\"window\":{}\"seconds\":3600,\
          \"from\":-2400,\"to\":1200,\"inside\":2}},\"listed\":[0,1],\"timeline\":[{}\"point\":0,\"time\":0,\
          \"date\":\"1970-01-01T00:00:00Z\",\"event\":\"Review\",\"logged\":{}\"board\":\"b1\"}},\"seen\":\"inside\",\
@@ -364,17 +366,20 @@ fn long(points: usize) -> String {
 fn long_stretches_are_folded() {
     let (status, output) = why(&long(4_000), &["--rule", "reviewed"]);
     assert_eq!(status, 0);
-    let expected =
-        ["| 0 .. 4", "carried the yes", ": 6 to 3998: 3993 points, each: did not hold", "did not hold (asked here)"];
-    let remarks = remarks(&output);
-    assert_eq!(remarks[0], ": 0 to 4: 5 points, each: not asked", "{output}");
-    assert_eq!(remarks[1..], expected[1..].iter().map(|part| part.to_string()).collect::<Vec<_>>());
+    let expected = [
+        ": 0 to 4: 5 points, each: not asked",
+        "carried the yes",
+        ": 6 to 3998: 3993 points, each: did not hold",
+        "did not hold (asked here)",
+    ];
+    assert_eq!(remarks(&output), expected);
     let (status, output) = why(&long(4_000), &["--rule", "recent"]);
     assert_eq!(status, 1);
-    assert!(output.contains("\n  -- the window begins at 2025-10-09T18:53:10Z, 1h back --\n"), "{output}");
+    assert!(output.contains("\n  -- the window begins at 2025-10-09T18:59:50Z, 1h back --\n"), "{output}");
     assert!(output.contains("\n  : 0 to 3638: 3639 points, each: too old\n"), "{output}");
     // Twelve points and fewer are all shown.
-    assert_eq!(why(&long(12), &["--rule", "reviewed"]).1.lines().count(), 16);
+    assert_eq!(remarks(&why(&long(12), &["--rule", "reviewed"]).1).len(), 12);
+    assert_eq!(remarks(&why(&long(13), &["--rule", "reviewed"]).1).len(), 4);
 }
 
 #[test]
@@ -388,7 +393,7 @@ fn no_timeline_is_longer_than_can_be_read() {
     let (status, output) = why(&text, &[]);
     assert_eq!(status, 1);
     assert!(output.lines().count() < 50, "{output}");
-    assert!(output.contains("points; at 1183 of them right held, but left failed later\n"), "{output}");
+    assert!(output.contains("points; at 1785 of them right held, but left failed later\n"), "{output}");
 }
 
 // ---- the picture
@@ -531,12 +536,13 @@ fn the_picture_is_written_as_every_file_is() {
 #[test]
 fn refusals_say_what_to_do() {
     let case = file("why-refused.case", BENCH.as_bytes());
-    refused(&["why", &case, "--rule", "reviews"], "refused 8: the case has no such node, or it is of another sort");
+    refused(&["why", &case, "--rule", "reviews"], "refused 8: the case has no such node, or it cannot be asked: ");
     refused(
         &["why", &case, "--rule", "reviews"],
         "`why` shows what decided a yes or no: a count or sum is asked with `ask`",
     );
-    refused(&["why", &case, "--node", "0"], "refused 8");
+    let term = file("why-term.case", b"point 1 A\nterm t = 3\nrule r = A(n: @t)\n");
+    refused(&["why", &term, "--node", "0"], "refused 8");
     refused(
         &["why", &case, "--rule", "reviewed", "--steps", "0"],
         "refused 11: the answer takes more steps than allowed (0 steps spent, at most 0 rows held); allow more with --steps",

@@ -5,7 +5,7 @@ use std::collections::BTreeSet;
 
 use super::timeline::{seconds, Did, Line, Moment, Seen, Timeline};
 use super::told::{action, before, bound_words, clock, fields_words, window_words, yes_or_no, Told};
-use super::words::{at, Edges};
+use super::words::{at, stretch, Edges};
 use crate::ask::Question;
 use crate::opened::Opened;
 
@@ -84,8 +84,8 @@ fn rows(opened: &Opened, timeline: &Timeline) -> Vec<Row> {
                 let time = clock(opened.time(point).0);
                 Row::Point(moment, [point.to_string(), time, before, event, fields, cut(&says, MOST_SAYS)])
             }
-            Line::Alike(first, to) => Row::Folded(Some(first.seen), format!("{} to {to}: {says}", first.point)),
-            Line::Mixed { from, to, .. } => Row::Folded(None, format!("{from} to {to}: {says}")),
+            Line::Alike(first, to) => Row::Folded(Some(first.seen), format!("{}: {says}", stretch(first.point, to))),
+            Line::Mixed { from, to, .. } => Row::Folded(None, format!("{}: {says}", stretch(from, to))),
         });
     }
     rows

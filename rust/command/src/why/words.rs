@@ -105,9 +105,18 @@ fn row(opened: &Opened, timeline: &Timeline, line: Line) -> Row {
         }
         Line::Alike(Moment { point: from, .. }, to) | Line::Mixed { from, to, .. } => {
             let mut cells: [String; 5] = Default::default();
-            cells[0] = format!("{from} to {to}");
+            cells[0] = stretch(from, to);
             Row { mark: ":", cells, says }
         }
+    }
+}
+
+/// The numbers of a stretch of points.
+pub fn stretch(from: usize, to: usize) -> String {
+    if from == to {
+        from.to_string()
+    } else {
+        format!("{from} to {to}")
     }
 }
 
@@ -125,7 +134,8 @@ fn mark(moment: Moment) -> &'static str {
 #[derive(Default)]
 pub struct Edges {
     before: Option<Seen>,
-    begun: bool,
+    /// Whether a line before lies in the window.
+    inside: bool,
 }
 
 impl Edges {
@@ -136,15 +146,17 @@ impl Edges {
             Line::Mixed { .. } => None,
         };
         let was = std::mem::replace(&mut self.before, is);
+        let again = self.inside;
+        self.inside |= is == Some(Seen::Inside);
         let (span, now) = (super::timeline::seconds(timeline.within), opened.time(timeline.asked).0);
         let edge = match (was?, is?) {
             (was, is) if was == is => return None,
-            (Seen::TooOld, Seen::Inside) if !self.begun => {
-                self.begun = true;
+            (_, Seen::Inside) if again => "in the window again".to_string(),
+            (Seen::TooOld, Seen::Inside) => {
                 let from = now.checked_sub(span).map_or(String::new(), |from| format!(" at {}", clock(from)));
                 format!("the window begins{from}, {} back", lasting(span))
             }
-            (_, Seen::Inside) => "in the window again".to_string(),
+            (_, Seen::Inside) => "in the window".to_string(),
             (_, Seen::TooOld) => format!("more than {} back", lasting(span)),
             (_, Seen::Later) => format!("stamped later than point {}", timeline.asked),
         };

@@ -40,13 +40,13 @@ enum galivodern_refusal {
     GALIVODERN_BAD_POINTS = 5,       /* a point or entity rule is broken */
     GALIVODERN_BAD_NODES = 6,        /* a node rule is broken, or a node is too high */
     GALIVODERN_NO_SUCH_POINT = 7,    /* the case has no such point */
-    GALIVODERN_NO_SUCH_NODE = 8,     /* no such node, or a term; for rows an aggregate too */
+    GALIVODERN_NO_SUCH_NODE = 8,     /* no such node, or none that the call is about */
     GALIVODERN_BAD_START = 9,        /* the starting bindings are malformed */
     GALIVODERN_BAD_LIMITS = 10,      /* a limit above its most, or a workspace too small */
     GALIVODERN_STEPS_EXHAUSTED = 11, /* the answer takes more steps than allowed */
     GALIVODERN_ROOM_EXHAUSTED = 12,  /* the answer takes more rows than allowed */
     GALIVODERN_BAD_OUTPUT = 13,      /* output too short, or a binder that is no variable */
-    GALIVODERN_LIST_TOO_SHORT = 15,  /* the list is too short for the points that decided the answer */
+    GALIVODERN_LIST_TOO_SHORT = 15,  /* the list has fewer cells than there are points to show */
     /* of this layer alone: `contents` or `told` too short, and nothing was done */
     GALIVODERN_TOO_FEW_CELLS = 100
 };
@@ -71,10 +71,10 @@ enum galivodern_contents {
 /* What `told` holds after a call that returned 0 to 15, a refusal too. */
 enum galivodern_told {
     GALIVODERN_ANSWER = 0, /* see each call; 0 where it refused */
-    GALIVODERN_STEPS = 1,  /* steps spent; 0 for refusals 1 to 10 and 15 */
-    GALIVODERN_HELD = 2,   /* greatest number of rows held at once; 0 for refusals 1 to 10 and 15 */
+    GALIVODERN_STEPS = 1,  /* steps spent; 0 for refusals 1 to 10 */
+    GALIVODERN_HELD = 2,   /* greatest number of rows held at once; 0 for refusals 1 to 10 */
     GALIVODERN_SORT = 3,   /* of galivodern_ask: one of those below; 0 where it refused, and for rows */
-    GALIVODERN_FILLED = 3  /* of galivodern_carried: the cells of `list` that were filled; 0 where it refused */
+    GALIVODERN_FILLED = 3  /* of galivodern_carried: cells of the list that were filled; 0 where it refused */
 };
 
 /* What the answer of galivodern_ask is. */
@@ -105,7 +105,7 @@ int64_t galivodern_difference(int64_t from, int64_t to);
 
 /* The questions take:
  *
- *   point, node   where to ask, and what: a condition or, of galivodern_ask, an aggregate;
+ *   point, node   where to ask, and what: a condition or, not for rows, an aggregate;
  *   start         starting bindings, exactly 2 * V cells, two for each variable:
  *                   0, 0   unbound
  *                   1, n   the integer with the 64 bits n
@@ -136,24 +136,26 @@ uint64_t galivodern_rows(const uint8_t *file, size_t file_len, size_t point, uin
                          uint64_t *work, size_t work_len, const uint32_t *binders, size_t binders_len,
                          uint64_t *output, size_t output_len, uint64_t *told, size_t told_len);
 
-/* Which event carried the yes: whether a node that is itself a Formerly, Previous
- * or Since holds, 1 for yes, 0 for no, and the points that decided it. The limits
- * hold for each verdict that it asks of its parts at one point; an answer tells 0
- * steps and 0 rows. On 0 as many cells of `list` are filled as GALIVODERN_FILLED
- * says, one a point:
+/* Which event carried the yes: a node that is itself a formerly, a previous or a
+ * since is asked, the answer is 1 for yes, 0 for no, and `list` gets the numbers
+ * of the points that made it:
  *
- *   yes           the latest point that carries it; for Since all later ones up to
- *                 `point` behind it, at which left held;
- *   no of Since   for each point of the window at which right held, the latest
- *                 first: that point, and the first one after it at which left failed;
- *   any other no  none.
+ *   yes, formerly or previous   the point that carries: the latest in the window
+ *                               at which it holds;
+ *   yes, since                  that point, and each one after it up to `point`;
+ *   no, since                   each point in the window at which right held, the
+ *                               latest first, and after it the first later point
+ *                               at which left failed;
+ *   any other no                nothing.
  *
- * 2 * (point + 1) cells are always enough. Else, and beyond the cells filled,
- * `list` is unchanged. Any other node is refused, 8. */
+ * Each question that this takes is a walk of its own under the two limits: steps
+ * and rows are 0 where it answers, and those of the first question that is refused
+ * on 11 and 12. Any other node is refused 8. 15 comes last, with 0 and 0. `list`
+ * changes only on 0, in its first GALIVODERN_FILLED cells. */
 uint64_t galivodern_carried(const uint8_t *file, size_t file_len, size_t point, uint32_t node,
                             const uint64_t *start, size_t start_len, uint64_t steps, size_t room,
-                            uint64_t *work, size_t work_len, uint64_t *list, size_t list_len,
-                            uint64_t *told, size_t told_len);
+                            uint64_t *work, size_t work_len, uint64_t *list, size_t list_len, uint64_t *told,
+                            size_t told_len);
 
 /* The same on a case that has passed galivodern_check, for those who ask many
  * questions of one case: what the calls above give, without checking again.
@@ -193,7 +195,8 @@ static inline const char *galivodern_refusal_text(uint64_t returned) {
     case GALIVODERN_NO_SUCH_POINT:
         return "the case has no such point";
     case GALIVODERN_NO_SUCH_NODE:
-        return "the case has no such node, or it cannot be asked: a term, or for rows a count or a sum";
+        return "the case has no such node, or it is none that this call is about: a term, for rows a count or a sum, "
+               "for carried what is no formerly, previous or since";
     case GALIVODERN_BAD_START:
         return "a starting binding is malformed: no such variable, no such value or string, or an integer given as a "
                "value's number";
@@ -207,7 +210,7 @@ static inline const char *galivodern_refusal_text(uint64_t returned) {
     case GALIVODERN_BAD_OUTPUT:
         return "rows are asked for a variable that the case does not have, or the output is too short";
     case GALIVODERN_LIST_TOO_SHORT:
-        return "the list is too short for the points that decided the answer";
+        return "the list is too short for the points that made the answer";
     case GALIVODERN_TOO_FEW_CELLS:
         return "`contents` or `told` has too few cells: nothing was done";
     default:

@@ -536,7 +536,10 @@ fn the_picture_is_written_as_every_file_is() {
 #[test]
 fn refusals_say_what_to_do() {
     let case = file("why-refused.case", BENCH.as_bytes());
-    refused(&["why", &case, "--rule", "reviews"], "refused 8: the case has no such node, or it cannot be asked: ");
+    refused(
+        &["why", &case, "--rule", "reviews"],
+        "refused 8: the case has no such node, or it is none that this call is about: ",
+    );
     refused(
         &["why", &case, "--rule", "reviews"],
         "`why` shows what decided a yes or no: a count or sum is asked with `ask`",

@@ -86,7 +86,8 @@ impl fmt::Display for Refusal {
             Refusal::BadNodes => "a node breaks a rule of the case file, or a node is more than 64 high",
             Refusal::NoSuchPoint => "the case has no such point",
             Refusal::NoSuchNode => {
-                "the case has no such node, or it cannot be asked: a term, or for rows a count or a sum"
+                "the case has no such node, or it is none that this call is about: a term, for rows a count or a sum, \
+                 for carried what is no formerly, previous or since"
             }
             Refusal::BadStart => {
                 "a starting binding is malformed: no such variable, no such value or string, an integer given as a \
@@ -96,7 +97,7 @@ impl fmt::Display for Refusal {
             Refusal::StepsExhausted => "the answer takes more steps than allowed",
             Refusal::RoomExhausted => "the answer takes more rows than allowed",
             Refusal::BadOutput => "rows are asked for a variable that the case does not have",
-            Refusal::ListTooShort => "the list is too short for the points that decided the answer",
+            Refusal::ListTooShort => "the list is too short for the points that made the answer",
         })
     }
 }

@@ -98,7 +98,7 @@ fn other_nodes_points_and_bindings_are_refused() {
     assert_eq!(Refusal::ListTooShort.number(), 15);
     assert_eq!(
         Refused::from(Refusal::ListTooShort).to_string(),
-        "the list is too short for the points that decided the answer"
+        "the list is too short for the points that made the answer"
     );
 }
 

@@ -20,7 +20,8 @@ pub enum Refusal {
     BadNodes = 6,
     /// The case has no such point.
     NoSuchPoint = 7,
-    /// The case has no such node, or it is a term; for rows, an aggregate too.
+    /// The case has no such node, or none that the call is about: a term; for rows an aggregate, too; for
+    /// carried whatever is no Formerly, Previous or Since.
     NoSuchNode = 8,
     /// The starting bindings are malformed, or leave a parameter of the rule unbound.
     BadStart = 9,

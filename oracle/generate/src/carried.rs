@@ -121,8 +121,16 @@ pub fn random_carried(random: &mut Random, case: &RandomCase, limit: u64, room: 
     call
 }
 
-/// The same call with other limits or another list, near what it needed: `cells` were filled.
-pub fn near(random: &mut Random, call: &Call, case: &RandomCase, cells: usize) -> Call {
+/// The least limit and the least room under which a call answers, the other one as it is.
+pub fn least(call: &Call, case: &RandomCase) -> (u64, u64) {
+    let answers =
+        |call: &Call| matches!(ask_carried(call, Model::document(), &case.bytes).done.outcome.refusal, 0 | 15);
+    let limit = least_that(call.limit, |limit| answers(&Call { limit, ..call.clone() }));
+    (limit, least_that(call.room, |room| answers(&with_room(call, case, room))))
+}
+
+/// The same call with other limits or another list, near the least that answers: `cells` were filled.
+pub fn near(random: &mut Random, call: &Call, case: &RandomCase, (limit, room): (u64, u64), cells: usize) -> Call {
     let mut near = call.clone();
     if random.percent(45) {
         near.output = match random.below(5) {
@@ -132,15 +140,11 @@ pub fn near(random: &mut Random, call: &Call, case: &RandomCase, cells: usize) -
             _ => cells + random.below(3),
         };
     }
-    let answers =
-        |call: &Call| matches!(ask_carried(call, Model::document(), &case.bytes).done.outcome.refusal, 0 | 15);
     if random.percent(45) {
-        let least = least(call.limit, |limit| answers(&Call { limit, ..call.clone() }));
-        near.limit = around(random, least);
+        near.limit = around(random, limit);
     }
     if random.percent(25) {
-        let least = least(call.room, |room| answers(&with_room(call, case, room)));
-        near = with_room(&near, case, around(random, least));
+        near = with_room(&near, case, around(random, room));
     }
     if random.percent(2) {
         near.limit = model::MOST_STEPS;
@@ -162,9 +166,12 @@ fn around(random: &mut Random, least: u64) -> u64 {
     }
 }
 
-/// The least number that suffices, where `enough` does.
-fn least(enough: u64, suffices: impl Fn(u64) -> bool) -> u64 {
-    let (mut low, mut high) = (0, enough);
+/// The least number that suffices, where `enough` does; it is mostly a small one.
+fn least_that(enough: u64, suffices: impl Fn(u64) -> bool) -> u64 {
+    let (mut low, mut high) = (0, enough.min(1));
+    while high < enough && !suffices(high) {
+        (low, high) = (high + 1, (4 * high).min(enough));
+    }
     while low < high {
         let middle = low + (high - low) / 2;
         if suffices(middle) {

@@ -7,7 +7,7 @@ use std::collections::BTreeMap;
 
 use casefile::{Node, Point, Tables};
 use generate::calls::spoiled;
-use generate::carried::{ask_carried, near, random_carried, scans, with_scans, Shown};
+use generate::carried::{ask_carried, least, near, random_carried, scans, with_scans, Shown};
 use generate::cases::random_case;
 use generate::damage::damaged;
 use generate::{Call, Random, RandomCase};
@@ -115,8 +115,9 @@ impl Report {
             }
             let shown = self.question(&call, case, &mut rust);
             if shown.done.outcome.refusal == 0 {
-                for _ in 0..2 + part.limited {
-                    let call = near(random, &call, case, shown.filled as usize);
+                let least = least(&call, case);
+                for _ in 0..4 {
+                    let call = near(random, &call, case, least, shown.filled as usize);
                     self.question(&call, case, &mut rust);
                 }
             }

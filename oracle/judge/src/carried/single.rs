@@ -27,14 +27,28 @@ pub struct Single<'a, 'b> {
     env: Env,
     node: Node,
     i: usize,
+    /// The points of the node's window, the latest first.
+    inside: Vec<usize>,
     said: BTreeMap<(u32, usize), (bool, u64)>,
 }
 
 impl<'a, 'b> Single<'a, 'b> {
     pub fn new(rust: &'a mut RustCase<'b>, call: &Call) -> Single<'a, 'b> {
         let node = Node::read(rust.converter.tables.nodes[call.node as usize]).expect("a checked case has known nodes");
-        let (env, i) = (rust.env(call), call.point as usize);
-        Single { rust, env, node, i, said: BTreeMap::new() }
+        let within = match node {
+            Node::Formerly { within, .. } | Node::Previous { within, .. } | Node::Since { within, .. } => within,
+            other => unreachable!("{other:?} is no scan"),
+        };
+        let mut single = Single {
+            env: rust.env(call),
+            rust,
+            node,
+            i: call.point as usize,
+            inside: Vec::new(),
+            said: BTreeMap::new(),
+        };
+        single.inside = single.window(within);
+        single
     }
 
     fn asked(&mut self, node: u32, at: usize) -> Result<(bool, u64), TooLong> {
@@ -51,7 +65,7 @@ impl<'a, 'b> Single<'a, 'b> {
     }
 
     /// The points of a window, the latest first, each by the verdict of `formerly within W tp j`.
-    fn inside(&self, within: Within) -> Vec<usize> {
+    fn window(&self, within: Within) -> Vec<usize> {
         let tp = Condition { span: Span, kind: ConditionKind::Tp { var: BinderSlot::Name(POINT.to_string()) } };
         let kind = ConditionKind::Formerly { within: window(within), body: Box::new(tp) };
         let formerly = Condition { span: Span, kind };
@@ -66,12 +80,12 @@ impl<'a, 'b> Single<'a, 'b> {
     /// The verdict and the points to be listed (106.3).
     pub fn listed(&mut self) -> Result<(bool, Vec<u64>), TooLong> {
         match self.node {
-            Node::Formerly { within, body } => self.first(self.inside(within), body),
-            Node::Previous { within, body } => {
-                let before = self.inside(within).into_iter().filter(|j| j + 1 == self.i).collect();
+            Node::Formerly { body, .. } => self.first(self.inside.clone(), body),
+            Node::Previous { body, .. } => {
+                let before = self.inside.iter().copied().filter(|j| j + 1 == self.i).collect();
                 self.first(before, body)
             }
-            Node::Since { left, right, within } => self.since(left, right, within),
+            Node::Since { left, right, .. } => self.since(left, right),
             other => unreachable!("{other:?} is no scan"),
         }
     }
@@ -87,9 +101,9 @@ impl<'a, 'b> Single<'a, 'b> {
     }
 
     /// Where right held, above or at the last failure of left, the answer is yes; below it each is listed.
-    fn since(&mut self, left: u32, right: u32, within: Within) -> Result<(bool, Vec<u64>), TooLong> {
+    fn since(&mut self, left: u32, right: u32) -> Result<(bool, Vec<u64>), TooLong> {
         let mut anchors = Vec::new();
-        for j in self.inside(within) {
+        for j in self.inside.clone() {
             if self.holds(right, j)? {
                 anchors.push(j);
             }
@@ -112,9 +126,9 @@ impl<'a, 'b> Single<'a, 'b> {
     pub fn visits(&mut self) -> Result<Vec<u64>, TooLong> {
         let mut visits = Vec::new();
         match self.node {
-            Node::Formerly { within, body } | Node::Previous { within, body } => {
+            Node::Formerly { body, .. } | Node::Previous { body, .. } => {
                 let (i, previous) = (self.i, matches!(self.node, Node::Previous { .. }));
-                for j in self.inside(within).into_iter().filter(|j| !previous || j + 1 == i) {
+                for j in self.inside.clone().into_iter().filter(|j| !previous || j + 1 == i) {
                     let (yes, count) = self.asked(body, j)?;
                     visits.push(count);
                     if yes {
@@ -122,8 +136,8 @@ impl<'a, 'b> Single<'a, 'b> {
                     }
                 }
             }
-            Node::Since { left, right, within } => {
-                for j in self.inside(within) {
+            Node::Since { left, right, .. } => {
+                for j in self.inside.clone() {
                     let (yes, count) = self.asked(right, j)?;
                     visits.push(count);
                     if yes && self.left_visits(left, j, &mut visits)? {

@@ -1,7 +1,7 @@
-//! Makes and links the archive of the proved calls, libcapi.a.
+//! Links the archive of the proved calls, libcapi.a.
 //!
-//! `GALIVODERN_LIB_DIR` names a folder that has one already. Without it tools/archive has the
-//! repository's crates proved, those that are not proved yet, and writes one under target/.
+//! `GALIVODERN_LIB_DIR` names a folder that has one. Without it tools/archive says where one is: in
+//! prebuilt/, where that fits the sources, else under target/, proved and compiled for this build.
 
 use std::path::{Path, PathBuf};
 use std::process::Command;
@@ -30,7 +30,7 @@ fn given_folder(folder: PathBuf) -> PathBuf {
 /// Has the archive made for the machine that is compiled for; gives the folder that it is in.
 fn made_folder() -> PathBuf {
     let root = Path::new(env!("CARGO_MANIFEST_DIR")).join("../..");
-    for source in ["crates.txt", "crates", "tools/archive"] {
+    for source in ["crates.txt", "crates", "prebuilt", "tools"] {
         println!("cargo:rerun-if-changed={}", root.join(source).display());
     }
     let target = |part: &str| std::env::var(format!("CARGO_CFG_TARGET_{part}")).unwrap_or_default();
@@ -42,9 +42,13 @@ fn made_folder() -> PathBuf {
         Ok(output) => output,
         Err(error) => fail(&format!("{archive:?} cannot be run: {error}")),
     };
+    let said = String::from_utf8_lossy(&output.stderr);
     if !output.status.success() {
-        let said = String::from_utf8_lossy(&output.stderr);
-        fail(&format!("{archive:?} failed. It needs the Rattle kit, with `rt` on the path. It said:\n{said}"));
+        fail(&format!("there is no archive to link. {archive:?} said:\n{said}"));
+    }
+    // why prebuilt/ was passed over, if it was
+    for line in said.lines().filter(|line| line.starts_with("prebuilt/")) {
+        println!("cargo:warning={line}");
     }
     PathBuf::from(String::from_utf8_lossy(&output.stdout).trim_end())
 }

@@ -22,7 +22,9 @@ use Rattle.meaning.specs.Laws.Values as Values
 use Rattle.meaning.specs.Laws.Checked.{checked-bodies, checked-values, values-most, lower-parts, sameValue-is}
 use Rattle.equality.specs.declared.Heads.{Heads}
 use Rattle.equality.specs.declared.Pair.{Pair}
-use Rattle.equality.specs.Joined.{Holders, Headed, Told, Paired, Surely, Looked}
+use Rattle.equality.specs.declared.Seen.{Seen}
+use Rattle.equality.specs.declared.Seen.the-variants.{Same, Differ, Open}
+use Rattle.equality.specs.Joined.{Holders, Headed, Told, Paired, Glanced, Looked}
 use Rattle.equality.proofs.Scaling.{and-true, list-same}
 use Rattle.equality.proofs.Steps.{open-place, shut-place}
 
@@ -81,25 +83,6 @@ self-below {s} c (suc bound) v h =
 
 pub same-number : (s : List ℕ) (a b : ℕ) → Checked s → a ≡ b → true ≡ sameValue (caseOf s) a b
 same-number s a b c e = sym (rw (← e) (self-below c (suc a) a (omega arith)))
-
--- ---- the same words
-
-module _ {s : List ℕ} {a b : ℕ} (c : Checked s) where
-  pub words-no : Surely s a b false
-  words-no = record { equal = λ e. absurd (true-false (sym e)) }
-
-  pub words-number : a ≡ b → Surely s a b true
-  words-number e = record { equal = λ _. same-number s a b c e }
-
-  pub words-same : (k j x y p q : ℕ) → k ≡ valueWord s a 0 → j ≡ valueWord s b 0 → k ≡ j → x ≡ valueWord s a 1 → y ≡ valueWord s b 1 → x ≡ y → p ≡ valueWord s a 2 → q ≡ valueWord s b 2 → Surely s a b (eqb p q)
-  unfolding valueAt
-  words-same k j x y p q ek ej e ex ey f ep eq = record {
-    equal = λ g.
-        let ka : valueWord s a 0 ≡ valueWord s b 0 = sym ek ∙ e ∙ ej in
-        let xa : valueWord s a 1 ≡ valueWord s b 1 = sym ex ∙ f ∙ ey in
-        let pa : valueWord s a 2 ≡ valueWord s b 2 = sym ep ∙ eqb-true p q g ∙ eq in
-        same-number s b b c refl ∙ sameValue-is c b b ∙ sym (sameValue-is c a b ∙ rw (ka, xa, pa) refl);
-  }
 
 -- ---- leaves
 
@@ -223,6 +206,44 @@ module _ (s : List ℕ) (a b n m p q : ℕ) (h : Holders s a b n m p q) where
       let z : memberWord s (valueWord s a 1 + i) 1 < a = unfold partValue in Values.runs s a inside (all-at _ _ a (checked-values (h .checked)) inside) .lower i (omega (arith, h .count)) in
       let y : memberWord s (p + i) 1 ≡ memberWord s (valueWord s a 1 + i) 1 = rw (h .start) refl in
       omega arith
+
+-- ---- what two values show at a glance
+
+module _ {s : List ℕ} {a b : ℕ} where
+  glance-yes : true ≡ sameValue (caseOf s) a b → Glanced s a b Same
+  glance-yes e = record { same = λ _. e; differ = λ q. absurd (let z : _≡_ {A = ℕ} 0 1 = cc in omega arith) }
+
+  glance-no : false ≡ sameValue (caseOf s) a b → Glanced s a b Differ
+  glance-no e = record { same = λ q. absurd (let z : _≡_ {A = ℕ} 0 1 = cc in omega arith); differ = λ _. e }
+
+  pub glance-open : Glanced s a b Open
+  glance-open = record { same = λ q. absurd (let z : _≡_ {A = ℕ} 0 1 = cc in omega arith); differ = λ q. absurd (let z : _≡_ {A = ℕ} 0 1 = cc in omega arith) }
+
+  pub glance-number : Checked s → a ≡ b → Glanced s a b Same
+  glance-number c e = glance-yes (same-number s a b c e)
+
+  module _ {k j : ℕ} (c : Checked s) (ek : k ≡ valueWord s a 0) (ej : j ≡ valueWord s b 0) where
+    pub glance-unlike : (k ≡ j → ⊥) → Glanced s a b Differ
+    glance-unlike ne = glance-no (unlike s a b k j c ek ej ne)
+
+    module _ {x y p q : ℕ} (e : k ≡ j) (ep : p ≡ valueWord s a 2) (eq : q ≡ valueWord s b 2) (ex : x ≡ valueWord s a 1) (ey : y ≡ valueWord s b 1) where
+      pub glance-same : x ≡ y → p ≡ q → Glanced s a b Same
+      unfolding valueAt
+      glance-same f g =
+          let kinds : valueWord s a 0 ≡ valueWord s b 0 = sym ek ∙ e ∙ ej in
+          let firsts : valueWord s a 1 ≡ valueWord s b 1 = sym ex ∙ f ∙ ey in
+          let seconds : valueWord s a 2 ≡ valueWord s b 2 = sym ep ∙ g ∙ eq in
+          glance-yes (same-number s b b c refl ∙ sameValue-is c b b ∙ sym (sameValue-is c a b ∙ rw (kinds, firsts, seconds) refl))
+
+      pub glance-int : (x ≡ y → ⊥) → k ≡ 2 → x < 4294967296 → y < 4294967296 → p < 4294967296 → q < 4294967296 → Glanced s a b Differ
+      glance-int ne z hx hy hp hq =
+          let m = x + 4294967296 * p in
+          let n = y + 4294967296 * q in
+          let apart : eqb m n ≡ false = ne-eqb m n (λ f. ne (omega arith)) in
+          glance-no (sym apart ∙ leaf-int s a b k x y c (sym ek) (sym (e ∙ ej)) ex ey p q m n z ep eq refl refl (record { fits = omega arith }) (record { fits = omega arith }))
+
+      pub glance-text : (x ≡ y → ⊥) → k ≡ 4 → Glanced s a b Differ
+      glance-text ne z = glance-no (sym (ne-eqb x y ne) ∙ leaf-text s a b k x y c (sym ek) (sym (e ∙ ej)) ex ey z)
 
 -- ---- what two values show at once
 
@@ -371,8 +392,12 @@ module _ {s : List ℕ} {left a b i : ℕ} {h : Heads} (f : Headed s a b h) (k :
     pub look-name : {x y : ℕ} → not (m .named) ≡ true → Looked s left x y a b false
     look-name ne = look-told (g .some) (go-name going l e ne)
 
-    pub look-same : {r : Bool} → not (m .named) ≡ false → Surely s (m .a .0) (m .b .0) r → r ≡ true → Looking s left h (i + 1)
-    look-same nn o q = record { from = go-more going l e nn (o .equal q) refl .from; some = g .some }
+    module _ {r : Seen} (o : Glanced s (m .a .0) (m .b .0) r) where
+      pub look-same : not (m .named) ≡ false → r ≡ Same → Looking s left h (i + 1)
+      look-same nn q = record { from = go-more going l e nn (o .same q) refl .from; some = g .some }
+
+      pub look-differ : {x y : ℕ} → r ≡ Differ → Looked s left x y a b false
+      look-differ q = look-told (g .some) (go-no going l e (o .differ q) refl)
 
     module _ {rest x y : ℕ} {r : Bool} (o : Looked s rest x y (m .a .0) (m .b .0) r) (z : rest ≡ 0 → ⊥) where
       pub look-no : not r ≡ true → Looked s rest x y a b false

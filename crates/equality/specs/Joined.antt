@@ -11,6 +11,8 @@ use Rattle.meaning.specs.Equal.{sameValue}
 use Rattle.equality.specs.declared.Ends.{Ends}
 use Rattle.equality.specs.declared.Heads.{Heads}
 use Rattle.equality.specs.declared.Pair.{Pair}
+use Rattle.equality.specs.declared.Seen.{Seen}
+use Rattle.equality.specs.declared.Seen.the-variants.{Same, Differ}
 
 -- two arrays or two objects, a and b: their kinds, their counts n, m and where their runs start, p, q, as the code has them
 pub record Holders (s : List ℕ) (a b n m p q : ℕ) : Type 0 where
@@ -37,9 +39,10 @@ pub record Paired (s : List ℕ) (u v : ℕ) (r : Pair) : Type 0 where
   pub left : r .a .0 ≡ memberWord s u 1
   pub right : r .b .0 ≡ memberWord s v 1
 
--- if r, a and b are equal
-pub record Surely (s : List ℕ) (a b : ℕ) (r : Bool) : Type 0 where
-  pub equal : r ≡ true → true ≡ sameValue (caseOf s) a b
+-- what a glance at a and b says, if anything
+pub record Glanced (s : List ℕ) (a b : ℕ) (r : Seen) : Type 0 where
+  pub same : r ≡ Same → true ≡ sameValue (caseOf s) a b
+  pub differ : r ≡ Differ → false ≡ sameValue (caseOf s) a b
 
 -- what is said of a and b while some is left, and of x and y where nothing is
 pub record Looked (s : List ℕ) (left x y a b : ℕ) (r : Bool) : Type 0 where

@@ -45,6 +45,13 @@ struct Heads {
     q: u32,
 }
 
+// what two values show at a glance
+enum Seen {
+    Same,
+    Differ,
+    Open,
+}
+
 // two members: whether they have the same name, and their values
 struct Pair {
     named: bool,

@@ -2,6 +2,7 @@
 use crate::Ends;
 use crate::Heads;
 use crate::Pair;
+use crate::Seen;
 use crate::decimals::decimal_eq;
 use meaning::Binding;
 use meaning::StrNo;
@@ -21,7 +22,7 @@ ghost use Rattle.meaning.specs.Check.{Checked, bodies};
 ghost use Rattle.meaning.specs.Equal.{sameValue, boundOf};
 ghost use Rattle.meaning.specs.Rows.{inCells, sameCell};
 ghost use Rattle.equality.specs.Cells.{Settled};
-ghost use Rattle.equality.specs.Joined.{Headed, Told, Paired, Surely, Looked, Joined, Inside, Stepped, Next, Led, Leads, Ended, Met, Compared};
+ghost use Rattle.equality.specs.Joined.{Headed, Told, Paired, Glanced, Looked, Joined, Inside, Stepped, Next, Led, Leads, Ended, Met, Compared};
 
 pub fn long(x: u32) -> u64
     ensures { λ r. ⌜ r ≡ x ⌝ }
@@ -118,21 +119,33 @@ fn pair(s: &[u8], p: u32, q: u32, i: u32) -> Pair
     Pair { named, a, b }
 }
 
-// two values with the same words are equal, of whatever kind
-fn same_words(s: &[u8], a: ValNo, b: ValNo) -> bool
+// most members are told by their words alone: of any kind where all are the same, an Int or a String where the first differ
+fn glance(s: &[u8], a: ValNo, b: ValNo) -> Seen
     requires { ⌜ Checked (now s) ⌝ }
-    ensures { λ r. ⌜ Surely (now (s .entry)) (a .0) (b .0) r ⌝ }
+    ensures { λ r. ⌜ Glanced (now (s .entry)) (a .0) (b .0) r ⌝ }
 {
     if a.0 == b.0 {
-        return true;
+        return Seen::Same;
     }
-    if value_word(s, a, 0) != value_word(s, b, 0) {
-        return false;
+    let k = value_word(s, a, 0);
+    if k != value_word(s, b, 0) {
+        return Seen::Differ;
     }
-    if value_word(s, a, 1) != value_word(s, b, 1) {
-        return false;
+    let p = value_word(s, a, 2);
+    let q = value_word(s, b, 2);
+    if value_word(s, a, 1) == value_word(s, b, 1) {
+        if p == q {
+            return Seen::Same;
+        }
+        return Seen::Open;
     }
-    value_word(s, a, 2) == value_word(s, b, 2)
+    if k == 2 {
+        return Seen::Differ;
+    }
+    if k == 4 {
+        return Seen::Differ;
+    }
+    Seen::Open
 }
 
 // a small value is compared without a table: a plain way through at most 64 members below those of a
@@ -167,8 +180,11 @@ fn plain_eq(s: &[u8], left: &mut usize, x: ValNo, y: ValNo, a: ValNo, b: ValNo) 
             return false;
         }
         i += 1;
-        if same_words(s, m.a, m.b) {
-            continue;
+        let g = glance(s, m.a, m.b);
+        match g {
+            Seen::Same => continue,
+            Seen::Differ => return false,
+            Seen::Open => {}
         }
         let r = plain_eq(s, left, x, y, m.a, m.b);
         if *left == 0 {

@@ -93,6 +93,12 @@ fn all_faults_of_a_text_are_told_in_one_run() {
     assert!(
         casefile::text::pack_or_faults("rule a = A(\nrule b = @a and B()\nrule c = @q").is_err_and(|f| f.len() == 2)
     );
+    // A keyword misspelt in what is passed over is told; a field, an action or a word of the text form is not.
+    let text =
+        "rule a = A(\nrul b = B()\npoitn 5 A\nlogged {rules: 1,\nrules: 2}\nrule c = $\nand Point()\nruel d = D()";
+    let faults = casefile::text::pack_or_faults(text).expect_err("all of it is wrong");
+    let places: Vec<(usize, usize)> = faults.iter().map(|fault| (fault.line, fault.column)).collect();
+    assert_eq!(places, [(2, 5), (3, 1), (6, 10), (8, 1)], "{faults:#?}");
 }
 
 #[test]

@@ -113,6 +113,7 @@ impl Names {
             let near = did_you_mean(name, known.iter().copied());
             let which = match known.len() {
                 0 => "; the case has no names: ask a node by its number with --node".to_string(),
+                _ if near.is_empty() => format!("; the case has: {}", known.join(", ")),
                 _ => format!("{near} The case has: {}", known.join(", ")),
             };
             Failure::of_file(file, format!("there is no rule `{name}`{which}"))

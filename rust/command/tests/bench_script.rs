@@ -15,12 +15,11 @@ fn script(path: &Path, text: &str) {
 fn bench(printed: &str, arguments: &[&str]) -> (i32, String, String) {
     let root = PathBuf::from(env!("CARGO_TARGET_TMPDIR")).join(format!("bench-{}-{}", printed.len(), arguments.len()));
     script(&root.join("tools/bench"), include_str!("../../../tools/bench"));
-    script(&root.join("bin/rt"), "#!/bin/sh\necho proved\n");
-    script(&root.join("target/bin/bench"), &format!("#!/bin/sh\nprintf '{printed}'\n"));
+    script(&root.join("tools/prebuilt"), "#!/bin/sh\nexit 0\n"); // it fits
+    script(&root.join("prebuilt/bench"), &format!("#!/bin/sh\nprintf '{printed}'\n"));
     std::fs::write(root.join("my.bin"), "").expect("it can be written");
-    let path = format!("{}:{}", root.join("bin").display(), std::env::var("PATH").unwrap_or_default());
     let mut command = Command::new(root.join("tools/bench"));
-    let output = command.args(arguments).current_dir(&root).env("PATH", path).output().expect("there is a shell");
+    let output = command.args(arguments).current_dir(&root).output().expect("there is a shell");
     let text = |bytes: &[u8]| String::from_utf8_lossy(bytes).into_owned();
     (output.status.code().unwrap_or(-1), text(&output.stdout), text(&output.stderr))
 }
@@ -28,7 +27,7 @@ fn bench(printed: &str, arguments: &[&str]) -> (i32, String, String) {
 #[test]
 fn a_table_has_status_0() {
     let table = "point verdict steps held\n0 yes 2 0\n1 refused 11 1000000 17\n";
-    assert_eq!(bench(table, &["my.bin"]), (0, table.to_string(), "proved\n".to_string()));
+    assert_eq!(bench(table, &["my.bin"]), (0, table.to_string(), String::new()));
 }
 
 #[test]
@@ -43,6 +42,7 @@ fn a_refused_case_has_status_2_and_its_limits() {
         assert_eq!((status, output), (2, printed.clone()), "{error}");
         assert!(error.contains(&format!("tools/bench: my.bin: refused {number}")) && error.contains(words), "{error}");
     }
+    assert!(bench("refused 1\n", &["my.bin"]).2.contains("a text is packed first"));
     let error = bench("refused 2\n", &["my.bin"]).2;
     for limit in ["65,536 bytes", "16,384 strings", "1,024 nodes", "16 variables", "1,000,000 steps", "256 rows"] {
         assert!(error.contains(limit), "{limit}: {error}");

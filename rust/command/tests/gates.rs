@@ -92,7 +92,10 @@ fn names_survive_packing() {
     let listed = "; did you mean `seen`? The case has: reviewed, boards, volts, rail, seen";
     refused(&["ask", &case, "--rule", "sene"], &format!("there is no rule `sene`{listed}"));
     refused(&["ask", &text, "--rule", "r4"], "there is no rule `r4`");
-    refused(&["ask", &case, "--rule", "10"], "there is no rule `10`");
+    refused(
+        &["ask", &case, "--rule", "10"],
+        "there is no rule `10`; the case has: reviewed, boards, volts, rail, seen",
+    );
     refused(
         &["ask", &case, "--node", "r4"],
         "`--node` takes a number, not `r4`; a rule is asked by its name with --rule",

@@ -41,9 +41,9 @@ fn text(members: usize, name: &str) -> Result<String, String> {
     Ok(format!("value wide = {{{}}}\n{points}{rule}", record.join(", ")))
 }
 
-fn asked(members: usize, name: &str) -> Result<Asked, String> {
+fn asked(members: usize, name: &str, alone: bool) -> Result<Asked, String> {
     let packed = pack(&text(members, name)?).map_err(|fault| fault.to_string())?;
-    Asked::new(&packed, 0, false)
+    Asked::new(&packed, 0, alone)
 }
 
 /// Nanoseconds for one step of the scan: the lookup, and two numbers compared where it hits.
@@ -51,7 +51,7 @@ pub fn print_table() -> Result<bool, String> {
     println!("| members | name | proved | the Rust | ratio |");
     println!("|---|---|---|---|---|");
     for (members, name) in LOOKUPS {
-        let asked = asked(members, name)?;
+        let asked = asked(members, name, false)?;
         let (answer, steps) = asked.ours()?;
         let rust = asked.theirs();
         if rust != Some(answer) {
@@ -66,7 +66,7 @@ pub fn print_table() -> Result<bool, String> {
 
 /// One lookup so many times, of one side alone: for a profiler.
 pub fn once(members: usize, name: &str, times: u64, rust: bool) -> Result<bool, String> {
-    let asked = asked(members, name)?;
+    let asked = asked(members, name, !rust)?;
     for _ in 0..times {
         if rust {
             black_box(asked.theirs());

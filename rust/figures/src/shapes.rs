@@ -55,6 +55,7 @@ pub const SHAPES: &[Shape] = &[
     shape("logged record of 400 fields", 1_000, wide_logged),
     shape("correlated exists", 125, correlated),
     shape("flat arrays", 1_000, flat_arrays),
+    shape("arrays that differ at once", 1_000, unlike_arrays),
     shape("nested arrays", 1_000, nested_arrays),
     shape("shared arrays, 8 levels", 25, |points| shared_arrays(points, 8)),
     alone("shared arrays, 29 levels", 25, |points| shared_arrays(points, 29)),
@@ -197,7 +198,7 @@ fn count_each(points: usize) -> String {
     format!("variables n\n{}{rule}", flashes(points))
 }
 
-/// Each logged array differs from the context's in its last item.
+/// Each logged array differs from the context's in the item made of the number.
 fn arrays(points: usize, array: impl Fn(usize) -> String) -> String {
     let objects: String = (0..8).map(|k| format!("value o{k} = {{v: {}}}\n", array(k))).collect();
     let log = log(points, |k| format!("Flash logged @o{} context @c", k % 8));
@@ -206,6 +207,11 @@ fn arrays(points: usize, array: impl Fn(usize) -> String) -> String {
 
 fn flat_arrays(points: usize) -> String {
     arrays(points, |k| format!("[1, 2, 3, 4, 5, 6, 7, {k}]"))
+}
+
+/// They differ in their first item.
+fn unlike_arrays(points: usize) -> String {
+    arrays(points, |k| format!("[{k}, 2, 3, 4, 5, 6, 7, 8]"))
 }
 
 fn nested_arrays(points: usize) -> String {

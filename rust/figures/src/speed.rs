@@ -152,7 +152,7 @@ pub fn once(name: &str, times: u64, rust: bool) -> Result<bool, String> {
     if rust && shape.alone {
         return Err(format!("the Rust is {NOT_ASKED} of `{name}`"));
     }
-    let asked = Asked::new(&shape.case(4 * shape.points)?, shape.room, shape.alone)?;
+    let asked = Asked::new(&shape.case(4 * shape.points)?, shape.room, !rust)?;
     for _ in 0..times {
         if rust {
             black_box(asked.theirs());

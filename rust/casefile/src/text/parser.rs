@@ -6,7 +6,7 @@ use super::closed::binding_faults;
 use super::lexer::{tokens, Place, Token};
 use super::plain::{build, PlainNode, PlainPoint, PlainValues};
 use super::{Fault, Packed, Places, Rule, STATEMENTS};
-use crate::near::did_you_mean;
+use crate::near::{did_you_mean, nearest};
 
 const MOST_RECORDS: usize = 16_384;
 const MOST_NODES: usize = 1_024;
@@ -78,17 +78,27 @@ impl Parser {
         }
     }
 
-    /// Goes on to the next line that begins with a statement's keyword.
+    /// Goes on to the next line that begins with a statement's keyword, or with one misspelt.
     fn skip_statement(&mut self) {
         self.nesting = 0;
+        let from = self.at;
         loop {
             let line = self.tokens[self.at.saturating_sub(1)].1.line;
             let keyword = matches!(self.token(), Token::Word(word) if STATEMENTS.contains(&word.as_str()));
-            if self.token() == &Token::End || keyword && self.place().line > line {
+            // the one that was just told is passed over, so that each turn goes on
+            let begins = keyword || self.at > from && self.misspells_keyword();
+            if self.token() == &Token::End || begins && self.place().line > line {
                 return;
             }
             self.at += 1;
         }
+    }
+
+    /// A word near to a keyword, and after it what follows a keyword: no field and no action is written so.
+    fn misspells_keyword(&self) -> bool {
+        let follows =
+            matches!(self.tokens.get(self.at + 1), Some((Token::Word(_) | Token::Digits(_) | Token::Time(_), _)));
+        follows && matches!(self.token(), Token::Word(word) if nearest(word, STATEMENTS).is_some())
     }
 
     pub fn within_mosts(&self, place: Place) -> Parsed<()> {

@@ -1,6 +1,6 @@
 use Prim.Native.Nat.{_-_}
 use Rattle.meaning.specs.Laws.Checked.{checked-bodies}
-use Rattle.equality.proofs.Alike.{Looking, look-said, look-start, look-whole, look-spent, look-falls, look-name, look-same, look-no, look-more, look-end}
+use Rattle.equality.proofs.Alike.{Looking, look-said, look-start, look-whole, look-spent, look-falls, look-name, look-same, look-differ, look-no, look-more, look-end}
 use borrow.Author.Needs.{needs}
 use Prim.Native.Nat.{ℕ, _<_}
 use borrow.Fn.Kinds.{In}
@@ -11,7 +11,7 @@ use Rattle.equality.proofs.values.+plain_eq.Lts-plain_eq as plain-eq-lt
 use Rattle.equality.proofs.values.heads.Reads as heads-reads
 use Rattle.equality.proofs.values.nested_eq.Reads as nested-eq-reads
 use Rattle.equality.proofs.values.pair.Reads as pair-reads
-use Rattle.equality.proofs.values.same_words.Reads as same-words-reads
+use Rattle.equality.proofs.values.glance.Reads as glance-reads
 use Rattle.tables.proofs.wide.Reads as wide-reads
 use Rattle.equality.proofs.values.+plain_eq.{statement}
 use Rattle.equality.proofs.values.+plain_eq.Tie.{close}
@@ -27,7 +27,7 @@ plain-eq-below t =
     and 2 plain-eq-kinds.ps (falls 2 plain-eq-kinds.ps _<_ μ-plain-eq t) plain-eq.Pre
 
 abbrev plain-eq-claims : ℕ → plain-eq-lts.Claims
-plain-eq-claims t = (heads-reads.Asked, heads-reads.Learnt, wide-reads.Asked, wide-reads.Learnt, nested-eq-reads.Asked, nested-eq-reads.Learnt, pair-reads.Asked, pair-reads.Learnt, same-words-reads.Asked, same-words-reads.Learnt, plain-eq-below t, plain-eq.Post)
+plain-eq-claims t = (heads-reads.Asked, heads-reads.Learnt, wide-reads.Asked, wide-reads.Learnt, nested-eq-reads.Asked, nested-eq-reads.Learnt, pair-reads.Asked, pair-reads.Learnt, glance-reads.Asked, glance-reads.Learnt, plain-eq-below t, plain-eq.Post)
 
 abbrev plain-eq-Inv-loop : plain-eq-lts.InvT-loop
 plain-eq-Inv-loop s left₀ x y h n i₀ left i = Looking s left h i
@@ -65,8 +65,11 @@ plain-eq-returns-3 t c = search (look-name, needs)
 plain-eq-add-i : (t : ℕ) → plain-eq-lts.Need-add-i (plain-eq-claims t) (plain-eq-at t) plain-eq.Post plain-eq-Inv-loop plain-eq-μ-loop
 plain-eq-add-i t c = search needs
 
-plain-eq-same-words-requires : (t : ℕ) → plain-eq-lts.Need-same-words-requires (plain-eq-claims t) (plain-eq-at t) plain-eq.Post plain-eq-Inv-loop plain-eq-μ-loop
-plain-eq-same-words-requires t c κs = search needs
+plain-eq-glance-requires : (t : ℕ) → plain-eq-lts.Need-glance-requires (plain-eq-claims t) (plain-eq-at t) plain-eq.Post plain-eq-Inv-loop plain-eq-μ-loop
+plain-eq-glance-requires t c κs = search needs
+
+plain-eq-enum-told : (t : ℕ) → plain-eq-lts.Need-enum-told (plain-eq-claims t) (plain-eq-at t) plain-eq.Post plain-eq-Inv-loop plain-eq-μ-loop
+plain-eq-enum-told t c = search needs
 
 plain-eq-loop-less : (t : ℕ) → plain-eq-lts.Need-loop-less (plain-eq-claims t) (plain-eq-at t) plain-eq.Post plain-eq-Inv-loop plain-eq-μ-loop
 plain-eq-loop-less t c = search needs
@@ -74,14 +77,23 @@ plain-eq-loop-less t c = search needs
 plain-eq-loop-again : (t : ℕ) → plain-eq-lts.Need-loop-again (plain-eq-claims t) (plain-eq-at t) plain-eq.Post plain-eq-Inv-loop plain-eq-μ-loop
 plain-eq-loop-again t c = search (look-same, needs)
 
+plain-eq-enum-told-2 : (t : ℕ) → plain-eq-lts.Need-enum-told-2 (plain-eq-claims t) (plain-eq-at t) plain-eq.Post plain-eq-Inv-loop plain-eq-μ-loop
+plain-eq-enum-told-2 t c = search needs
+
+plain-eq-returns-4 : (t : ℕ) → plain-eq-lts.Need-returns-4 (plain-eq-claims t) (plain-eq-at t) plain-eq.Post plain-eq-Inv-loop plain-eq-μ-loop
+plain-eq-returns-4 t c = search (look-differ, needs)
+
+plain-eq-enum-told-3 : (t : ℕ) → plain-eq-lts.Need-enum-told-3 (plain-eq-claims t) (plain-eq-at t) plain-eq.Post plain-eq-Inv-loop plain-eq-μ-loop
+plain-eq-enum-told-3 t c = search needs
+
 plain-eq-plain-eq-requires : (t : ℕ) → plain-eq-lts.Need-plain-eq-requires (plain-eq-claims t) (plain-eq-at t) plain-eq.Post plain-eq-Inv-loop plain-eq-μ-loop
 plain-eq-plain-eq-requires t c κs = search (look-falls, needs)
 
-plain-eq-returns-4 : (t : ℕ) → plain-eq-lts.Need-returns-4 (plain-eq-claims t) (plain-eq-at t) plain-eq.Post plain-eq-Inv-loop plain-eq-μ-loop
-plain-eq-returns-4 t c = search (look-spent, needs)
-
 plain-eq-returns-5 : (t : ℕ) → plain-eq-lts.Need-returns-5 (plain-eq-claims t) (plain-eq-at t) plain-eq.Post plain-eq-Inv-loop plain-eq-μ-loop
-plain-eq-returns-5 t c = search (look-no, needs)
+plain-eq-returns-5 t c = search (look-spent, needs)
+
+plain-eq-returns-6 : (t : ℕ) → plain-eq-lts.Need-returns-6 (plain-eq-claims t) (plain-eq-at t) plain-eq.Post plain-eq-Inv-loop plain-eq-μ-loop
+plain-eq-returns-6 t c = search (look-no, needs)
 
 plain-eq-loop-less-2 : (t : ℕ) → plain-eq-lts.Need-loop-less-2 (plain-eq-claims t) (plain-eq-at t) plain-eq.Post plain-eq-Inv-loop plain-eq-μ-loop
 plain-eq-loop-less-2 t c = search needs
@@ -89,8 +101,8 @@ plain-eq-loop-less-2 t c = search needs
 plain-eq-loop-again-2 : (t : ℕ) → plain-eq-lts.Need-loop-again-2 (plain-eq-claims t) (plain-eq-at t) plain-eq.Post plain-eq-Inv-loop plain-eq-μ-loop
 plain-eq-loop-again-2 t c = search (look-more, needs)
 
-plain-eq-returns-6 : (t : ℕ) → plain-eq-lts.Need-returns-6 (plain-eq-claims t) (plain-eq-at t) plain-eq.Post plain-eq-Inv-loop plain-eq-μ-loop
-plain-eq-returns-6 t c = search (look-end, needs)
+plain-eq-returns-7 : (t : ℕ) → plain-eq-lts.Need-returns-7 (plain-eq-claims t) (plain-eq-at t) plain-eq.Post plain-eq-Inv-loop plain-eq-μ-loop
+plain-eq-returns-7 t c = search (look-end, needs)
 
 pub +plain-eq-spec : {M : Type 1} → statement M
 +plain-eq-spec = close μ-plain-eq λ t. plain-eq-lts.spec (plain-eq-claims t) (plain-eq-at t)
@@ -107,12 +119,16 @@ pub +plain-eq-spec : {M : Type 1} → statement M
     (plain-eq-pair-requires t)
     (plain-eq-returns-3 t)
     (plain-eq-add-i t)
-    (plain-eq-same-words-requires t)
+    (plain-eq-glance-requires t)
+    (plain-eq-enum-told t)
     (plain-eq-loop-less t)
     (plain-eq-loop-again t)
-    (plain-eq-plain-eq-requires t)
+    (plain-eq-enum-told-2 t)
     (plain-eq-returns-4 t)
+    (plain-eq-enum-told-3 t)
+    (plain-eq-plain-eq-requires t)
     (plain-eq-returns-5 t)
+    (plain-eq-returns-6 t)
     (plain-eq-loop-less-2 t)
     (plain-eq-loop-again-2 t)
-    (plain-eq-returns-6 t)
+    (plain-eq-returns-7 t)

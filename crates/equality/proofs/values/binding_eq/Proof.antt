@@ -10,10 +10,10 @@ settled-requires-2 : tie.Need-settled-requires-2
 settled-requires-2 c κs = search needs
 
 returns : tie.Need-returns
-returns c = tags-differ _ _ _ _ _ _ _ _ _ (c .before .before .before .before .before .before .pre) (c .before .before .before .before .settled .ensures) (c .before .before .before .settled2 .ensures) (c .if1 .taken)
+returns c = search (tags-differ, needs)
 
 returns-2 : tie.Need-returns-2
-returns-2 c = both-unbound _ _ _ _ _ _ _ _ _ (c .before .before .before .before .before .before .before .before .pre) (c .before .before .before .before .before .before .settled .ensures) (c .before .before .before .before .before .settled2 .ensures) (c .before .before .if1 .left) (c .if2 .taken)
+returns-2 c = search (both-unbound, needs)
 
 value-no-requires : tie.Need-value-no-requires
 value-no-requires c κs = search needs
@@ -25,10 +25,10 @@ dom-eq-requires : tie.Need-dom-eq-requires
 dom-eq-requires c κs = search needs
 
 returns-3 : tie.Need-returns-3
-returns-3 c = both-values _ _ _ _ _ _ _ _ _ (c .before .before .before .before .before .before .before .before .before .before .before .before .before .pre) (c .before .before .before .before .before .before .before .before .before .before .before .settled .ensures) (c .before .before .before .before .before .before .before .before .before .before .settled2 .ensures) (c .before .before .before .before .before .before .before .if1 .left) _ _ _ (c .before .before .before .if3 .taken) (c .before .before .value-no .ensures) (c .before .value-no2 .ensures) (c .dom-eq .ensures)
+returns-3 c = search (both-values, needs)
 
 returns-4 : tie.Need-returns-4
-returns-4 c = both-plain _ _ _ _ _ _ _ _ _ (c .before .before .before .before .before .before .before .before .before .before .before .before .pre) (c .before .before .before .before .before .before .before .before .before .before .settled .ensures) (c .before .before .before .before .before .before .before .before .before .settled2 .ensures) (c .before .before .before .before .before .before .if1 .left) (c .before .before .before .before .if2 .left) (c .before .before .if3 .left) (search needs) (search needs)
+returns-4 c = search (both-plain, needs)
 
 pub binding-eq-spec : {M : Type 1} → statement M
 binding-eq-spec =

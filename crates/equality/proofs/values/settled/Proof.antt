@@ -8,34 +8,34 @@ value-no-requires : tie.Need-value-no-requires
 value-no-requires c κs = search needs
 
 value-word-requires : tie.Need-value-word-requires
-value-word-requires c κs = checked-bodies (c .before .before .before .pre)
+value-word-requires c κs = search (checked-bodies, needs)
 
 value-word-requires-2 : tie.Need-value-word-requires-2
-value-word-requires-2 c κs = checked-bodies (c .before .before .before .before .pre)
+value-word-requires-2 c κs = search (checked-bodies, needs)
 
 value-word-requires-3 : tie.Need-value-word-requires-3
-value-word-requires-3 c κs = checked-bodies (c .before .before .before .before .before .before .pre)
+value-word-requires-3 c κs = search (checked-bodies, needs)
 
 halves-requires : tie.Need-halves-requires
 halves-requires c κs = search needs
 
 returns : tie.Need-returns
-returns c = settled-int _ _ _ _ _ _ (c .before .before .before .before .before .before .before .before .pre) (c .before .before .before .before .before .before .if1 .taken) (c .before .before .before .before .before .value-no .ensures) (c .before .before .before .before .value-word .ensures) (c .before .before .before .value-word2 .ensures) _ _ (c .before .before .if2 .taken) (c .before .value-word3 .ensures) (c .halves .ensures)
+returns c = search (settled-int, needs)
 
 long-requires : tie.Need-long-requires
 long-requires c κs = search needs
 
 returns-2 : tie.Need-returns-2
-returns-2 c = settled-text _ _ _ _ _ _ (c .before .before .before .before .before .before .before .before .pre) (c .before .before .before .before .before .before .if1 .taken) (c .before .before .before .before .before .value-no .ensures) (c .before .before .before .before .value-word .ensures) (c .before .before .before .value-word2 .ensures) _ (c .before .if3 .taken) (c .long .ensures)
+returns-2 c = search (settled-text, needs)
 
 returns-3 : tie.Need-returns-3
-returns-3 c = settled-value _ _ _ _ _ _ (c .before .before .before .before .before .before .before .pre) (c .before .before .before .before .before .if1 .taken) (c .before .before .before .before .value-no .ensures) (c .before .before .before .value-word .ensures) (c .before .before .value-word2 .ensures) (c .before .if2 .left) (c .if3 .left)
+returns-3 c = search (settled-value, needs)
 
 returns-4 : tie.Need-returns-4
-returns-4 c = settled-none _ _ _ (c .if4 .taken)
+returns-4 c = search (settled-none, needs)
 
 returns-5 : tie.Need-returns-5
-returns-5 c = settled-plain _ _ _ (c .before .if1 .left) (c .if4 .left)
+returns-5 c = search (settled-plain, needs)
 
 pub settled-spec : {M : Type 1} → statement M
 settled-spec =

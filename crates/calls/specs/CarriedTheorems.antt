@@ -1,23 +1,26 @@
--- What the promise of the carried call comes to: one outcome; the definition's verdict and the points that single verdicts show, whatever the limits; later points change nothing
+-- What the promise of the carried call comes to: one outcome; the definition's verdict and the points that single verdicts show, whatever the limits; an answer or 15 where the verdict call answers; later points change nothing
 use mathlib.Core.Path.{_≡_, refl, ap, sym, subst, _∙_}
 use mathlib.Core.Bool.{Bool}
 use mathlib.Core.List.{List, _++_}
 use mathlib.Core.Option.{some}
-use Prim.Native.Nat.{ℕ}
+use Prim.Native.Nat.{ℕ, _≤_}
 use lib.ListN.{length, drop}
-use Rattle.meaning.specs.Walk.{W}
+use Rattle.meaning.specs.declared.Refusal.the-variants.{ListTooShort}
+use Rattle.meaning.specs.Walk.{W, spent, most}
 use Rattle.meaning.specs.Case.{vars, pointAt, nodeAt, caseOf}
 use Rattle.meaning.specs.Check.{Checked}
 use Rattle.meaning.specs.Rows.{Row}
 use Rattle.meaning.specs.Meaning.{question}
-use Rattle.meaning.specs.Calls.{Call, Said, gives, refuses, Result, startRow, startOr, walkOf, unlessRefused, unlessAgainst, result}
+use Rattle.meaning.specs.Calls.{numberOf, Call, Said, gives, refuses, Result, startRow, startOr, walkOf, unlessRefused, unlessAgainst, result}
 use Rattle.meaning.specs.Demands.{Askable, SameUpTo, ofFile}
 use Rattle.meaning.specs.Carried.{Look, lookOf, looksBack, Shown, shown, shownAt, scanOf, Listed, listed, carriedCall}
 use Rattle.meaning.specs.Carried.{Carried as CarriedOf}
 use Rattle.meaning.specs.Single.{verdictOf, Made}
-use Rattle.meaning.specs.Laws.Calls.{nothing-against}
+use Rattle.meaning.specs.Laws.Calls.{nothing-against, one-refusal}
+use Rattle.meaning.specs.Laws.Walk.{answers}
 use Rattle.meaning.specs.Laws.Carried.{look-answer, shown-made, Fills, listed-fills, made-verdict}
 use Rattle.meaning.specs.Laws.Later.{later-points-change-nothing}
+use Rattle.carried.specs.When.{look-goes, answered-goes, shown-goes, listed-short}
 use Rattle.calls.specs.declared.SaidCarried.{SaidCarried}
 use Rattle.calls.specs.declared.SaidCarried.the-variants as Car
 use Rattle.calls.specs.Promises.{asCarried, Carrying}
@@ -77,6 +80,36 @@ module _ {c : Call} {list after filled : List ℕ} {r : SaidCarried} (ok : Askab
         sym (shows .2 .verdict)
         ∙ sym (made-verdict (caseOf (c .file)) (pointAt (c .file)) (c .point) row look (shows .0 .verdict) (shows .0 .points) made)
         ∙ sym (look-answer (ok .checked) (c .node) (c .point) row look is)
+
+-- ---- wherever the verdict's walk fits the limits, this call answers the same or is 15
+
+module _ {c : Call} {list after filled : List ℕ} {r : SaidCarried} (ok : Askable looksBack c) (look : Look) (is : lookOf (nodeAt (c .file) (c .node)) ≡ some look) (p : Carrying c list after filled r) where
+  abbrev theVerdict : W Bool
+  theVerdict = walkOf (λ m q. m .verdict q) (c .file) (c .point) (c .node) (c .start)
+
+  abbrev pub AnswersOr15 : SaidCarried → Type 0
+  AnswersOr15 (Car.Gives b k steps held) = (b ≡ theVerdict .answer) × (steps ≡ 0) × (held ≡ 0)
+  AnswersOr15 (Car.Refuses n steps held) = (n ≡ ListTooShort) × (steps ≡ 0) × (held ≡ 0)
+
+  module _ (hs : spent theVerdict ≤ c .limits .steps) (hr : most theVerdict ≤ c .limits .room) where
+    given : (sh : Shown) × (says ok look is p ≡ gives sh 0 0)
+    unfolding walkOf
+    given =
+        shown-goes look (c .point) (scanOf (caseOf (c .file)) (pointAt (c .file)) (c .point) (row ok look is p) (c .limits) look)
+        (look-goes (ok .checked) (c .node) (c .point) (row ok look is p) (c .limits) look is (answered-goes (theVerdict .answer) _ (answers (c .limits) theVerdict hs hr)))
+
+    pub carried-when : AnswersOr15 r
+    unfolding asCarried
+    carried-when = go r refl
+      where
+        go : (v : SaidCarried) → r ≡ v → AnswersOr15 v
+        go (Car.Gives b k steps held) e =
+            let z : _≡_ {A = Said Shown} (gives (given .0) 0 0) (gives (shows ok look is p e .0) steps held) = sym (given .1) ∙ shows ok look is p e .1 in
+            (carried-agrees ok look is p e, cc, cc)
+        go (Car.Refuses n steps held) e =
+            let z : _≡_ {A = Listed} (record { said = refuses (numberOf n) steps held; list = filled }) (listed list (gives (given .0) 0 0)) = ap (λ (r : SaidCarried). record { said = asCarried r; list = filled }) (sym e) ∙ listed-is ok look is p ∙ ap (listed list) (given .1) in
+            let y = listed-short list filled (given .0) (numberOf n) steps held z in
+            (one-refusal n ListTooShort (y .0), y .1, y .2)
 
 -- ---- points after the one asked about change nothing
 

@@ -40,12 +40,13 @@ enum galivodern_refusal {
     GALIVODERN_BAD_POINTS = 5,       /* a point or entity rule is broken */
     GALIVODERN_BAD_NODES = 6,        /* a node rule is broken, or a node is too high */
     GALIVODERN_NO_SUCH_POINT = 7,    /* the case has no such point */
-    GALIVODERN_NO_SUCH_NODE = 8,     /* no such node, or a term; for rows an aggregate too */
+    GALIVODERN_NO_SUCH_NODE = 8,     /* no such node, or none that the call is about */
     GALIVODERN_BAD_START = 9,        /* the starting bindings are malformed */
     GALIVODERN_BAD_LIMITS = 10,      /* a limit above its most, or a workspace too small */
     GALIVODERN_STEPS_EXHAUSTED = 11, /* the answer takes more steps than allowed */
     GALIVODERN_ROOM_EXHAUSTED = 12,  /* the answer takes more rows than allowed */
     GALIVODERN_BAD_OUTPUT = 13,      /* output too short, or a binder that is no variable */
+    GALIVODERN_LIST_TOO_SHORT = 15,  /* the list has fewer cells than there are points to show */
     /* of this layer alone: `contents` or `told` too short, and nothing was done */
     GALIVODERN_TOO_FEW_CELLS = 100
 };
@@ -67,12 +68,13 @@ enum galivodern_contents {
     GALIVODERN_NODES = 4
 };
 
-/* What `told` holds after a call that returned 0 to 13, a refusal too. */
+/* What `told` holds after a call that returned 0 to 15, a refusal too. */
 enum galivodern_told {
     GALIVODERN_ANSWER = 0, /* see each call; 0 where it refused */
     GALIVODERN_STEPS = 1,  /* steps spent; 0 for refusals 1 to 10 */
     GALIVODERN_HELD = 2,   /* greatest number of rows held at once; 0 for refusals 1 to 10 */
-    GALIVODERN_SORT = 3    /* of galivodern_ask: one of those below; 0 where it refused, and for rows */
+    GALIVODERN_SORT = 3,   /* of galivodern_ask: one of those below; 0 where it refused, and for rows */
+    GALIVODERN_FILLED = 3  /* of galivodern_carried: cells of the list that were filled; 0 where it refused */
 };
 
 /* What the answer of galivodern_ask is. */
@@ -111,7 +113,7 @@ int64_t galivodern_difference(int64_t from, int64_t to);
  *                   3, s   string number s of the case, as an entity's own id or type;
  *   steps, room   the most steps that may be spent and the most rows that may be held;
  *   work          a workspace of at least 2 * V * room cells. Whatever is in it
- *                 counts for nothing. After 0, 11, 12 or 13 its first
+ *                 counts for nothing. After 0, 11, 12, 13 or 15 its first
  *                 2 * V * room cells are 0; later ones never change;
  *   told          at least four cells for the answer, steps, rows and the answer's sort.
  *
@@ -134,6 +136,27 @@ uint64_t galivodern_rows(const uint8_t *file, size_t file_len, size_t point, uin
                          uint64_t *work, size_t work_len, const uint32_t *binders, size_t binders_len,
                          uint64_t *output, size_t output_len, uint64_t *told, size_t told_len);
 
+/* Which event carried the yes: a node that is itself a formerly, a previous or a
+ * since is asked, the answer is 1 for yes, 0 for no, and `list` gets the numbers
+ * of the points that made it:
+ *
+ *   yes, formerly or previous   the point that carries: the latest in the window
+ *                               at which it holds;
+ *   yes, since                  that point, and each one after it up to `point`;
+ *   no, since                   each point in the window at which right held, the
+ *                               latest first, and after it the first later point
+ *                               at which left failed;
+ *   any other no                nothing.
+ *
+ * Each question that this takes is a walk of its own under the two limits: steps
+ * and rows are 0 where it answers, and those of the first question that is refused
+ * on 11 and 12. Any other node is refused 8. 15 comes last, with 0 and 0. `list`
+ * changes only on 0, in its first GALIVODERN_FILLED cells. */
+uint64_t galivodern_carried(const uint8_t *file, size_t file_len, size_t point, uint32_t node,
+                            const uint64_t *start, size_t start_len, uint64_t steps, size_t room,
+                            uint64_t *work, size_t work_len, uint64_t *list, size_t list_len, uint64_t *told,
+                            size_t told_len);
+
 /* The same on a case that has passed galivodern_check, for those who ask many
  * questions of one case: what the calls above give, without checking again.
  * With a case that has not passed, what happens is undefined. */
@@ -145,6 +168,11 @@ uint64_t galivodern_checked_rows(const uint8_t *file, size_t file_len, size_t po
                                  const uint64_t *start, size_t start_len, uint64_t steps, size_t room,
                                  uint64_t *work, size_t work_len, const uint32_t *binders, size_t binders_len,
                                  uint64_t *output, size_t output_len, uint64_t *told, size_t told_len);
+
+uint64_t galivodern_checked_carried(const uint8_t *file, size_t file_len, size_t point, uint32_t node,
+                                    const uint64_t *start, size_t start_len, uint64_t steps, size_t room,
+                                    uint64_t *work, size_t work_len, uint64_t *list, size_t list_len,
+                                    uint64_t *told, size_t told_len);
 
 /* What a call's return means, in a sentence without a full stop; never NULL.
  * A number that no call returns is told as such. */
@@ -167,7 +195,8 @@ static inline const char *galivodern_refusal_text(uint64_t returned) {
     case GALIVODERN_NO_SUCH_POINT:
         return "the case has no such point";
     case GALIVODERN_NO_SUCH_NODE:
-        return "the case has no such node, or it cannot be asked: a term, or for rows a count or a sum";
+        return "the case has no such node, or it is none that this call is about: a term, for rows a count or a sum, "
+               "for carried what is no formerly, previous or since";
     case GALIVODERN_BAD_START:
         return "a starting binding is malformed: no such variable, no such value or string, or an integer given as a "
                "value's number";
@@ -180,6 +209,8 @@ static inline const char *galivodern_refusal_text(uint64_t returned) {
         return "the answer takes more rows than allowed";
     case GALIVODERN_BAD_OUTPUT:
         return "rows are asked for a variable that the case does not have, or the output is too short";
+    case GALIVODERN_LIST_TOO_SHORT:
+        return "the list is too short for the points that made the answer";
     case GALIVODERN_TOO_FEW_CELLS:
         return "`contents` or `told` has too few cells: nothing was done";
     default:

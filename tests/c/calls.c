@@ -9,8 +9,10 @@
 #define VARIABLE 0u
 #define PREDICATE 1u
 #define COUNT 2u
+#define FORMERLY 3u
+#define SINCE 4u
 
-/* Strings, values, members, points, nodes, lists: one point A(n: 7), the rule A(n: x), and its count. */
+/* Strings, values, members, points, nodes, lists: one point A(n: 7), the rule A(n: x), its count, and two that look back. */
 static const uint32_t words[] = {
     0, 1, 1, 1, 2, 7,                                /* strings: "A", "n", "request" */
     2, 7, 0, 0, 7, 0, 1, 0, 7, 0, 0, 0,              /* values: 7, {n: 7}, {} */
@@ -19,9 +21,11 @@ static const uint32_t words[] = {
     23, 0, 0, 0, 0, 0, 0, 0,                         /* node 0: variable 0 */
     7, 0, 0, 0, 2, 0, 1, 0,                          /* node 1: A(n: variable 0) */
     31, 3, 1, 1, 0, 0, 0, 0,                         /* node 2: count for variable 0 where node 1 */
+    4, 1, 0, 2, 1, 0, 0, 0,                          /* node 3: formerly within 1 hour node 1 */
+    6, 1, 1, 1, 0, 2, 0, 0,                          /* node 4: node 1 since within 1 hour node 1 */
     4, 1, 0, 0, 1,                                   /* argument (path, term), binder, path */
 };
-static const uint32_t lengths[] = {24, 48, 8, 48, 96, 20, 9};
+static const uint32_t lengths[] = {24, 48, 8, 48, 160, 20, 9};
 static const char text[] = "Anrequest";
 
 static int failed, checked;
@@ -62,6 +66,8 @@ typedef uint64_t ask(const uint8_t *, size_t, size_t, uint32_t, const uint64_t *
                      uint64_t *, size_t, uint64_t *, size_t);
 typedef uint64_t list(const uint8_t *, size_t, size_t, uint32_t, const uint64_t *, size_t, uint64_t, size_t,
                       uint64_t *, size_t, const uint32_t *, size_t, uint64_t *, size_t, uint64_t *, size_t);
+typedef uint64_t shows(const uint8_t *, size_t, size_t, uint32_t, const uint64_t *, size_t, uint64_t, size_t,
+                       uint64_t *, size_t, uint64_t *, size_t, uint64_t *, size_t);
 
 static const uint64_t unbound[2] = {0, 0}, nine[2] = {1, 9};
 
@@ -76,7 +82,7 @@ static void test_check(const uint8_t *file, size_t length) {
     CHECK(galivodern_check(file, length, contents, 6) == GALIVODERN_ANSWERED);
     CHECK(contents[GALIVODERN_VARIABLES] == 1 && contents[GALIVODERN_STRINGS] == 3);
     CHECK(contents[GALIVODERN_VALUES] == 3 && contents[GALIVODERN_POINTS] == 1);
-    CHECK(contents[GALIVODERN_NODES] == 3 && contents[5] == 8);
+    CHECK(contents[GALIVODERN_NODES] == 5 && contents[5] == 8);
 }
 
 static void test_window(void) {
@@ -101,7 +107,7 @@ static void test_verdict(ask *verdict, const uint8_t *file, size_t length) {
     CHECK(verdict(file, length, 1, PREDICATE, unbound, 2, 9, 2, work, 5, told, 5) == GALIVODERN_NO_SUCH_POINT);
     CHECK(same(told, 0, 0, 0) && told[GALIVODERN_SORT] == 0 && work[0] == 8);
     CHECK(verdict(file, length, 0, VARIABLE, unbound, 2, 9, 2, work, 5, told, 5) == GALIVODERN_NO_SUCH_NODE);
-    CHECK(verdict(file, length, 0, COUNT + 1, unbound, 2, 9, 2, work, 5, told, 5) == GALIVODERN_NO_SUCH_NODE);
+    CHECK(verdict(file, length, 0, SINCE + 1, unbound, 2, 9, 2, work, 5, told, 5) == GALIVODERN_NO_SUCH_NODE);
     CHECK(verdict(file, length, 0, PREDICATE, unbound, 1, 9, 2, work, 5, told, 5) == GALIVODERN_BAD_START);
     CHECK(verdict(file, length, 0, PREDICATE, unbound, 2, 9, 3, work, 5, told, 5) == GALIVODERN_BAD_LIMITS);
     CHECK(verdict(file, length, 0, PREDICATE, unbound, 2, GALIVODERN_MOST_STEPS + 1, 2, work, 5, told, 5) ==
@@ -148,15 +154,33 @@ static void test_rows(list *rows, const uint8_t *file, size_t length) {
     CHECK(same(told, 0, 1, 0) && same(output, 1, 7, 8));
 }
 
+static void test_carried(shows *carried, const uint8_t *file, size_t length) {
+    uint64_t work[4] = {8, 8, 8, 8}, points[3] = {8, 8, 8}, told[4] = {8, 8, 8, 8};
+    CHECK(carried(file, length, 0, FORMERLY, unbound, 2, 9, 2, work, 4, points, 3, told, 3) == GALIVODERN_TOO_FEW_CELLS);
+    CHECK(told[0] == 8 && work[0] == 8);
+    CHECK(carried(file, length, 0, PREDICATE, unbound, 2, 9, 2, work, 4, points, 3, told, 4) == GALIVODERN_NO_SUCH_NODE);
+    CHECK(same(told, 0, 0, 0) && told[GALIVODERN_FILLED] == 0 && work[0] == 8);
+    CHECK(carried(file, length, 0, FORMERLY, unbound, 2, 0, 2, work, 4, points, 0, told, 4) ==
+          GALIVODERN_STEPS_EXHAUSTED);
+    CHECK(same(told, 0, 0, 0) && work[0] == 0);
+    CHECK(carried(file, length, 0, SINCE, unbound, 2, 9, 2, work, 4, points, 0, told, 4) == GALIVODERN_LIST_TOO_SHORT);
+    CHECK(same(told, 0, 0, 0) && told[GALIVODERN_FILLED] == 0 && same(points, 8, 8, 8));
+    CHECK(carried(file, length, 0, FORMERLY, unbound, 2, 1, 2, work, 4, points, 3, told, 4) == GALIVODERN_ANSWERED);
+    CHECK(same(told, 1, 0, 0) && told[GALIVODERN_FILLED] == 1 && same(points, 0, 8, 8));
+    CHECK(carried(file, length, 0, SINCE, nine, 2, 1, 2, work, 4, points, 3, told, 4) == GALIVODERN_ANSWERED);
+    CHECK(same(told, 0, 0, 0) && told[GALIVODERN_FILLED] == 0 && same(points, 0, 8, 8));
+}
+
 /* Every number that a call returns has a text of its own, and no other number has one of these. */
 static void test_refusal_text(void) {
-    const char *known[] = {0, 0, 0, 0, 0, 0, 0, 0, 0, 0, 0, 0, 0, 0, 0};
+    const char *known[] = {0, 0, 0, 0, 0, 0, 0, 0, 0, 0, 0, 0, 0, 0, 0, 0};
     const char *unknown = galivodern_refusal_text(UINT64_MAX);
     for (uint64_t returned = 0; returned <= GALIVODERN_BAD_OUTPUT; returned++) {
         known[returned] = galivodern_refusal_text(returned);
     }
     known[14] = galivodern_refusal_text(GALIVODERN_TOO_FEW_CELLS);
-    for (size_t k = 0; k < 15; k++) {
+    known[15] = galivodern_refusal_text(GALIVODERN_LIST_TOO_SHORT);
+    for (size_t k = 0; k < 16; k++) {
         CHECK(strcmp(known[k], unknown) != 0);
         for (size_t other = 0; other < k; other++) {
             CHECK(strcmp(known[k], known[other]) != 0);
@@ -180,6 +204,8 @@ int main(void) {
     test_number(galivodern_checked_ask, file, length);
     test_rows(galivodern_rows, file, length);
     test_rows(galivodern_checked_rows, file, length);
+    test_carried(galivodern_carried, file, length);
+    test_carried(galivodern_checked_carried, file, length);
     /* A damaged case is refused by each call that has not seen it checked. */
     file[64 + 24 + 48] = 7;
     CHECK(galivodern_ask(file, length, 0, PREDICATE, unbound, 2, 9, 2, work, 4, told, 4) == GALIVODERN_BAD_VALUES);

@@ -4,4 +4,5 @@ pub mod Told
 pub mod Asked
 pub mod Given
 pub mod RowsAsked
+pub mod CarriedAsked
 pub mod Unchecked

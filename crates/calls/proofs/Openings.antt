@@ -33,8 +33,9 @@ use Rattle.meaning.specs.Calls.{Call, isCondition, isAggregate, answerable, aga
 use Rattle.meaning.specs.Laws.Tests.{both, yes, no}
 use Rattle.meaning.specs.Laws.Checked.{checked-bodies, points-most}
 use Rattle.meaning.specs.Laws.Nodes.{node-beyond}
+use Rattle.meaning.specs.Carried.{looksBack, lookOf}
 use Rattle.calls.specs.declared.opening.Wanted.{Wanted}
-use Rattle.calls.specs.declared.opening.Wanted.the-variants.{Answerable, Condition}
+use Rattle.calls.specs.declared.opening.Wanted.the-variants.{Answerable, Condition, LooksBack}
 use Rattle.calls.specs.declared.opening.Opening.{Opening}
 use Rattle.calls.specs.declared.opening.Against.the-variants.{Nothing}
 use Rattle.calls.specs.declared.start.Start.{Start}
@@ -125,11 +126,16 @@ module _ (wanted : Wanted) (nd : Node) {r : Bool} where
   unfolding wantedFor
   wants-condition e is = rw e is
 
+  pub wants-scan : wanted ≡ LooksBack → r ≡ looksBack nd → r ≡ wantedFor wanted nd
+  unfolding wantedFor
+  wants-scan e is = rw e is
+
 -- beyond the table stands no node that a call is about
 broken-none : (wanted : Wanted) → wantedFor wanted Broken ≡ false
-unfolding wantedFor answerable isCondition isAggregate isSort sortOf _or_
+unfolding wantedFor answerable isCondition isAggregate isSort sortOf looksBack lookOf isSome _or_
 broken-none Answerable = refl
 broken-none Condition = refl
+broken-none LooksBack = refl
 
 none-beyond : (wanted : Wanted) (s : List ℕ) (n : ℕ) → bodies s ≡ true → (ltb n (nodes s) and wantedFor wanted (nodeAt s n)) ≡ wantedFor wanted (nodeAt s n)
 unfolding _and_

@@ -19,8 +19,10 @@ use Rattle.casecheck.specs.declared.Checking.{Checking}
 use Rattle.casecheck.specs.declared.Checking.the-variants.{Passes, Refused}
 use Rattle.casecheck.specs.Answer.{contentsOf, answer, asChecking, passed}
 use Rattle.calls.specs.declared.SaidAnswer.the-variants as Ans
+use Rattle.meaning.specs.Carried.{looksBack, Shown, Carried, listed, carriedCall}
 use Rattle.calls.specs.declared.SaidRows.the-variants as Rows
-use Rattle.calls.specs.Promises.{callOf, asAnswer, asRows, Answers, Rowed}
+use Rattle.calls.specs.declared.SaidCarried.the-variants as Car
+use Rattle.calls.specs.Promises.{callOf, asAnswer, asRows, asCarried, Answers, Rowed, Carrying}
 use Rattle.calls.proofs.Asked.{saying-refuses, chosen}
 
 pub passes : {s : List ℕ} {r : Checking} {k : Contents} → r ≡ asChecking s → r ≡ Passes k → Checked s
@@ -52,6 +54,15 @@ module _ (s : List ℕ) {r : Checking} {k : Refusal} (is : r ≡ asChecking s) (
     is = sym (
         ap (λ (said : Said Answer). result (callOf s point n start limits work) said []) (chosen (isAggregate (nodeAt s n)) (saying-refuses _ (asked-not answerable (λ m q. m .number q))) (saying-refuses _ (asked-not answerable (λ m q. m .verdict q))))
         ∙ unwritten Answer []
+        );
+  }
+
+  pub carried-unchecked : {list : List ℕ} → Carrying (callOf s point n start limits work) list work list (Car.Refuses k 0 0)
+  unfolding carriedCall listed asCarried
+  carried-unchecked {list} = record {
+    is = sym (
+        ap (λ (said : Said Shown). result (callOf s point n start limits work) (listed list said .said) (listed list said .list)) (said-unchecked looksBack _)
+        ∙ unwritten Carried list
         );
   }
 

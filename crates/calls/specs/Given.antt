@@ -13,12 +13,14 @@ use Rattle.meaning.specs.declared.Meter.{Meter}
 use Rattle.meaning.specs.declared.Refusal.the-variants.{BadOutput}
 use Rattle.meaning.specs.Tests.{_and_, choose}
 use Rattle.meaning.specs.Walk.{started, Outcome, answered, refused, outcome}
-use Rattle.meaning.specs.Case.{caseOf, nodeAt}
-use Rattle.meaning.specs.Rows.{Row, onto, addNew}
+use Rattle.meaning.specs.Case.{caseOf, pointAt, nodeAt}
+use Rattle.meaning.specs.Rows.{Row, rowOf, onto, addNew}
+use Rattle.meaning.specs.Carried.{Listed, lookOf, shownAt, listed}
 use Rattle.meaning.specs.Calls.{numberOf, Said, gives, refuses, told, isAggregate, Answer, verdict, number, saying, filled, allUnder}
 use Rattle.calls.specs.declared.SaidRows.{SaidRows}
+use Rattle.calls.specs.declared.SaidCarried.{SaidCarried}
 use Rattle.calls.specs.declared.SaidAnswer.{SaidAnswer}
-use Rattle.calls.specs.Promises.{asAnswer, asRows}
+use Rattle.calls.specs.Promises.{asAnswer, asRows, asCarried}
 use Rattle.evaluator.specs.declared.Call.{Call as WalkCall}
 use Rattle.evaluator.specs.declared.Verdict.{Verdict as WalkVerdict}
 use Rattle.evaluator.specs.declared.Number.{Number as WalkNumber}
@@ -82,3 +84,9 @@ outputFrom s v binders output (refused n m) = output
 pub record TellsRows (s : List ℕ) (v : ℕ) (binders output : List ℕ) (o : Outcome (List Row)) (after : List ℕ) (r : SaidRows) : Type 0 where
   pub said : asRows r ≡ saidFrom s v binders output o
   pub written : after ≡ outputFrom s v binders output o
+
+-- ---- what carried it
+
+-- what a scan shows, listed: file, call, environment, node
+pub record TellsCarried (s : List ℕ) (c : WalkCall) (e : Env) (n : ℕ) (list after : List ℕ) (r : SaidCarried) : Type 0 where
+  pub is : _≡_ {A = Listed} (record { said = asCarried r; list = after }) (listed list (shownAt (caseOf s) (pointAt s) (c .asked) (rowOf e) (c .limits) (lookOf (nodeAt s n))))

@@ -3,3 +3,4 @@ pub mod Start
 pub mod Opening
 pub mod Given
 pub mod Theorems
+pub mod CarriedTheorems

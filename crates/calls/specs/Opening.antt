@@ -14,10 +14,11 @@ use Rattle.meaning.specs.Walk.{started}
 use Rattle.meaning.specs.Case.{vars}
 use Rattle.meaning.specs.Rows.{rowOf}
 use Rattle.meaning.specs.Calls.{Call, startRow, startOr, isCondition, answerable, against}
+use Rattle.meaning.specs.Carried.{looksBack}
 use Rattle.evaluator.specs.declared.Call.{Call as WalkCall}
 use Rattle.evaluator.specs.Asks.{Ready}
 use Rattle.calls.specs.declared.opening.Wanted.{Wanted}
-use Rattle.calls.specs.declared.opening.Wanted.the-variants.{Answerable, Condition}
+use Rattle.calls.specs.declared.opening.Wanted.the-variants.{Answerable, Condition, LooksBack}
 use Rattle.calls.specs.declared.opening.Against.{Against}
 use Rattle.calls.specs.declared.opening.Against.the-variants.{Nothing, Refused}
 use Rattle.calls.specs.declared.opening.Opening.{Opening}
@@ -25,6 +26,7 @@ use Rattle.calls.specs.declared.opening.Opening.{Opening}
 unfoldable pub wantedFor : Wanted → Node → Bool
 wantedFor Answerable = answerable
 wantedFor Condition = isCondition
+wantedFor LooksBack = looksBack
 
 -- the definition's test of limits, by the numbers that it reads: variables, limits, cells of the workspace
 abbrev pub inLimits : ℕ → Limits → ℕ → Bool

@@ -32,10 +32,10 @@ use Rattle.calls.specs.Promises.{asCheck, asAnswer, asRows, Checks, Answ
 
 -- ---- any two outcomes that a promise allows are equal
 
-never : {A : Type 0} {a : A} {n s m s′ m′ : ℕ} → gives a s m ≡ refuses n s′ m′ → ⊥
+pub never : {A : Type 0} {a : A} {n s m s′ m′ : ℕ} → gives a s m ≡ refuses n s′ m′ → ⊥
 never e = let z : _≡_ {A = ℕ} 0 1 = cc in omega arith
 
-same-refusal : {A : Type 0} (n n′ : Refusal) {s m s′ m′ : ℕ} → _≡_ {A = Said A} (refuses (numberOf n) s m) (refuses (numberOf n′) s′ m′) → n ≡ n′
+pub same-refusal : {A : Type 0} (n n′ : Refusal) {s m s′ m′ : ℕ} → _≡_ {A = Said A} (refuses (numberOf n) s m) (refuses (numberOf n′) s′ m′) → n ≡ n′
 same-refusal n n′ e = one-refusal n n′ cc
 
 -- ---- the check

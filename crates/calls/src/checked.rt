@@ -1,5 +1,6 @@
 // The asking calls on a case that has passed the check, for callers that ask many questions of one case.
 use super::SaidAnswer;
+use super::SaidCarried;
 use super::SaidRows;
 use super::opening::Against;
 use super::opening::Wanted;
@@ -23,8 +24,8 @@ ghost use Rattle.meaning.specs.Check.{Checked};
 ghost use Rattle.meaning.specs.Calls.{allUnder};
 ghost use Rattle.rows.specs.Table.{Fit, rowsIn};
 ghost use Rattle.evaluator.specs.Asks.{Ready, rowsFor, nodeRows};
-ghost use Rattle.calls.specs.Promises.{callOf, Answers, Rowed};
-ghost use Rattle.calls.specs.Given.{TellsVerdict, TellsNumber, TellsAnswer, TellsRows, Given};
+ghost use Rattle.calls.specs.Promises.{callOf, Answers, Rowed, Carrying};
+ghost use Rattle.calls.specs.Given.{TellsVerdict, TellsNumber, TellsAnswer, TellsRows, TellsCarried, Given};
 
 fn told_verdict(v: evaluator::Verdict) -> SaidAnswer
     ensures { λ r. ⌜ TellsVerdict v r ⌝ }
@@ -209,6 +210,64 @@ pub fn rows(
             let cells = opening.cells;
             let part = &mut work[..cells];
             let said = walk_rows(file, part, opening.call, opening.env, node, binders, output);
+            rows::output::clear(work, cells);
+            said
+        }
+    }
+}
+
+// the scan of a node that looks back, and what it lists
+fn walk_carried(
+    s: &[u8],
+    part: &mut [u64],
+    call: Call,
+    env: Env,
+    node: NodeNo,
+    list: &mut [u64],
+) -> SaidCarried
+    requires { ⌜ Ready (now s) call env started (now part) ⌝ }
+    requires { ⌜ call .asked < 16384 ⌝ }
+    ensures { λ r. ⌜ TellsCarried (now (s .entry)) call env (node .0) (now (list .entry)) (now (list .exit)) r ⌝ }
+{
+    let found = carried::answer(s, part, call, env, node, list);
+    match found {
+        carried::Carried::Gives(yes, filled) => SaidCarried::Gives(yes, filled, 0, 0),
+        carried::Carried::Refuses(refusal, steps, most) => SaidCarried::Refuses(
+            refusal,
+            steps,
+            most,
+        ),
+    }
+}
+
+pub fn carried(
+    file: &[u8],
+    point: usize,
+    node: NodeNo,
+    start: &[u64],
+    limits: Limits,
+    work: &mut [u64],
+    list: &mut [u64],
+) -> SaidCarried
+    requires { ⌜ Checked (now file) ⌝ }
+    ensures { λ r. ⌜ Carrying (callOf (now (file .entry)) point (node .0) (now (start .entry)) limits (now (work .entry))) (now (list .entry)) (now (work .exit)) (now (list .exit)) r ⌝ }
+{
+    let opening = open(
+        file,
+        Wanted::LooksBack,
+        point,
+        node,
+        start,
+        limits,
+        &work[..],
+    );
+    let against = opening.against;
+    match against {
+        Against::Refused(refusal) => SaidCarried::Refuses(refusal, 0, 0),
+        Against::Nothing => {
+            let cells = opening.cells;
+            let part = &mut work[..cells];
+            let said = walk_carried(file, part, opening.call, opening.env, node, list);
             rows::output::clear(work, cells);
             said
         }

@@ -7,7 +7,7 @@ use casecheck::Checking;
 use meaning::Limits;
 use meaning::NodeNo;
 use meaning::Refusal;
-ghost use Rattle.calls.specs.Promises.{callOf, Checks, Answers, Rowed};
+ghost use Rattle.calls.specs.Promises.{callOf, Checks, Answers, Rowed, Carrying};
 
 // of a condition yes or no, of an aggregate its number's 64 bits, or a refusal; each with the steps spent and the greatest number of rows held
 pub enum SaidAnswer {
@@ -19,6 +19,12 @@ pub enum SaidAnswer {
 // how many rows the output has
 pub enum SaidRows {
     Gives(usize, u64, usize),
+    Refuses(Refusal, u64, usize),
+}
+
+// a verdict, and how many cells of the list are filled
+pub enum SaidCarried {
+    Gives(bool, usize, u64, usize),
     Refuses(Refusal, u64, usize),
 }
 
@@ -68,5 +74,22 @@ pub fn rows(
             output,
         ),
         Checking::Refused(refusal) => SaidRows::Refuses(refusal, 0, 0),
+    }
+}
+
+pub fn carried(
+    file: &[u8],
+    point: usize,
+    node: NodeNo,
+    start: &[u64],
+    limits: Limits,
+    work: &mut [u64],
+    list: &mut [u64],
+) -> SaidCarried
+    ensures { λ r. ⌜ Carrying (callOf (now (file .entry)) point (node .0) (now (start .entry)) limits (now (work .entry))) (now (list .entry)) (now (work .exit)) (now (list .exit)) r ⌝ }
+{
+    match casecheck::check(file) {
+        Checking::Passes(_) => checked::carried(file, point, node, start, limits, work, list),
+        Checking::Refused(refusal) => SaidCarried::Refuses(refusal, 0, 0),
     }
 }

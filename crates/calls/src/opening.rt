@@ -19,6 +19,7 @@ ghost use Rattle.calls.specs.Opening.{wantedFor, inLimits, turnedDown, O
 pub enum Wanted {
     Answerable,
     Condition,
+    LooksBack,
 }
 
 pub enum Against {
@@ -40,6 +41,7 @@ fn is_wanted(wanted: Wanted, node: Node) -> bool
     match wanted {
         Wanted::Answerable => is_answerable(node),
         Wanted::Condition => is_condition(node),
+        Wanted::LooksBack => carried::looks_back(node),
     }
 }
 

@@ -8,9 +8,11 @@ use Rattle.calls.specs.declared.SaidAnswer.{SaidAnswer}
 use Rattle.calls.specs.declared.SaidAnswer.the-variants as Ans
 use Rattle.calls.specs.declared.SaidRows.{SaidRows}
 use Rattle.calls.specs.declared.SaidRows.the-variants as Rows
-use Rattle.calls.specs.Promises.{asAnswer, asRows}
+use Rattle.calls.specs.declared.SaidCarried.{SaidCarried}
+use Rattle.calls.specs.declared.SaidCarried.the-variants as Car
+use Rattle.calls.specs.Promises.{asAnswer, asRows, asCarried}
 use Rattle.capi.specs.declared.telling.Telling.{Telling as Told}
-use Rattle.capi.specs.Seen.{saidNumber, toldCells, yesCell, answerCell, sortCell, countCell, noCell}
+use Rattle.capi.specs.Seen.{saidNumber, toldCells, yesCell, answerCell, sortCell, countCell, noCell, carriedCell, filledCell}
 use Rattle.capi.specs.Telling.{refusing, Telling}
 
 pub refused-as : {n steps most : ℕ} (k : Refusal) → n ≡ numberOf k → record { number = n; answer = 0; steps = steps; most = most; fourth = 0 } ≡ refusing (numberOf k) steps most
@@ -37,3 +39,12 @@ module _ {said : SaidRows} {steps most : ℕ} where
   pub told-no-rows : {n : Refusal} {t : Told} → said ≡ Rows.Refuses n steps most → t ≡ refusing (numberOf n) steps most → Telling countCell noCell (asRows said) t
   unfolding asRows saidNumber toldCells
   told-no-rows e is = rw (e, is) (record { number = refl; cells = refl })
+
+module _ {said : SaidCarried} {steps most : ℕ} where
+  pub told-carried : {b : Bool} {a n : ℕ} → said ≡ Car.Gives b n steps most → a ≡ yesCell b → Telling carriedCell filledCell (asCarried said) (record { number = 0; answer = a; steps = steps; most = most; fourth = n })
+  unfolding asCarried saidNumber toldCells
+  told-carried e a = rw (e, a) (record { number = refl; cells = refl })
+
+  pub told-not-carried : {n : Refusal} {t : Told} → said ≡ Car.Refuses n steps most → t ≡ refusing (numberOf n) steps most → Telling carriedCell filledCell (asCarried said) t
+  unfolding asCarried saidNumber toldCells
+  told-not-carried e is = rw (e, is) (record { number = refl; cells = refl })

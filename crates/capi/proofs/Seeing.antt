@@ -11,12 +11,14 @@ use Rattle.casecheck.specs.declared.Contents.{Contents}
 use Rattle.casecheck.specs.declared.Checking.the-variants.{Passes, Refused}
 use Rattle.casecheck.specs.declared.Checking.{Checking}
 use Rattle.calls.specs.declared.SaidAnswer.{SaidAnswer}
+use Rattle.meaning.specs.Carried.{carriedCall}
 use Rattle.calls.specs.declared.SaidRows.{SaidRows}
-use Rattle.calls.specs.Promises.{Answers, Rowed, asCheck, asAnswer, asRows}
+use Rattle.calls.specs.declared.SaidCarried.{SaidCarried}
+use Rattle.calls.specs.Promises.{Answers, Rowed, Carrying, asCheck, asAnswer, asRows, asCarried}
 use Rattle.calls.specs.Promises.{Checks as CheckSays}
 use Rattle.capi.specs.declared.telling.Telling.{Telling as Told}
 use Rattle.capi.specs.Telling.{cellsOf, Telling}
-use Rattle.capi.specs.Seen.{tooFew, contentsAfter, checkSeen, CheckSeen, Checks, saidNumber, toldCells, seen, askSeen, Tells, answerCell, sortCell, countCell, noCell}
+use Rattle.capi.specs.Seen.{tooFew, contentsAfter, checkSeen, CheckSeen, Checks, saidNumber, toldCells, seen, askSeen, Tells, answerCell, sortCell, countCell, noCell, carriedCell, filledCell}
 
 -- ---- asking, whatever the call
 
@@ -36,6 +38,9 @@ ask-told {c} {lent} h says = asked answerCell sortCell (askCall c) (c .workspace
 
 pub rows-told : {c : Call} {binders output lent work filled told : List ℕ} {said : SaidRows} {t : Told} {k : ℕ} → 4 ≤ length lent → Rowed c binders output work filled said → Telling countCell noCell (asRows said) t → (k ≡ t .number) × (told ≡ cellsOf t ++ drop 4 lent) → Tells countCell noCell (rowsCall binders output c) (c .workspace) output lent (seen k work filled told)
 rows-told {c} {binders} {output} {lent} h says = asked countCell noCell (rowsCall binders output c) (c .workspace) output lent h (says .is)
+
+pub carried-told : {c : Call} {list lent work filled told : List ℕ} {said : SaidCarried} {t : Told} {k : ℕ} → 4 ≤ length lent → Carrying c list work filled said → Telling carriedCell filledCell (asCarried said) t → (k ≡ t .number) × (told ≡ cellsOf t ++ drop 4 lent) → Tells carriedCell filledCell (carriedCall list c) (c .workspace) list lent (seen k work filled told)
+carried-told {c} {list} {lent} h says = asked carriedCell filledCell (carriedCall list c) (c .workspace) list lent h (says .is)
 
 -- ---- the check
 

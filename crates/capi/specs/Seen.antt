@@ -7,6 +7,7 @@ use lib.Dec.{ltb}
 use lib.ListN.{length, drop}
 use Rattle.meaning.specs.Tests.{choose}
 use Rattle.meaning.specs.Calls.{checkCall, Said, gives, refuses, Result, Answer, verdict, number}
+use Rattle.meaning.specs.Carried.{Carried}
 
 -- the layer's own complaint, which no document's refusal has: the cells for the answer are too few, and nothing was done
 abbrev pub tooFew : ℕ
@@ -84,3 +85,11 @@ countCell n = n
 
 abbrev pub noCell : ℕ → ℕ
 noCell n = 0
+
+-- ---- the carried call: 1 for a yes, 0 for a no; and how many cells of the list were filled
+
+abbrev pub carriedCell : Carried → ℕ
+carriedCell r = yesCell (r .verdict)
+
+abbrev pub filledCell : Carried → ℕ
+filledCell r = r .filled

@@ -8,6 +8,7 @@ use meaning::Limits;
 use meaning::NodeNo;
 use meaning::Window;
 use telling::of_answer;
+use telling::of_carried;
 use telling::of_rows;
 use telling::tell;
 use telling::tell_contents;
@@ -19,8 +20,9 @@ ghost use Rattle.meaning.specs.declared.ArithOp.the-variants.{Sub};
 ghost use Rattle.meaning.specs.Number.{calculate, window};
 ghost use Rattle.meaning.specs.Check.{Checked};
 ghost use Rattle.meaning.specs.Calls.{askCall, rowsCall};
+ghost use Rattle.meaning.specs.Carried.{carriedCall};
 ghost use Rattle.calls.specs.Promises.{callOf};
-ghost use Rattle.capi.specs.Seen.{Checks, Tells, seen, answerCell, sortCell, countCell, noCell};
+ghost use Rattle.capi.specs.Seen.{Checks, Tells, seen, answerCell, sortCell, countCell, noCell, carriedCell, filledCell};
 ghost use Rattle.capi.specs.Window.{windowNumber};
 
 // the layer's own complaint: the cells for the answer are too few
@@ -149,6 +151,51 @@ pub extern "C" fn galivodern_checked_rows(
         output,
     );
     tell(of_rows(said), told)
+}
+
+#[no_mangle]
+pub extern "C" fn galivodern_carried(
+    file: &[u8],
+    point: usize,
+    node: u32,
+    start: &[u64],
+    steps: u64,
+    room: usize,
+    work: &mut [u64],
+    list: &mut [u64],
+    told: &mut [u64],
+) -> u64
+    ensures { λ r. ⌜ Tells carriedCell filledCell (carriedCall (now (list .entry)) (callOf (now (file .entry)) point node (now (start .entry)) (record { steps = steps; room = room }) (now (work .entry)))) (now (work .entry)) (now (list .entry)) (now (told .entry)) (seen r (now (work .exit)) (now (list .exit)) (now (told .exit))) ⌝ }
+{
+    if told.len() < TOLD_CELLS {
+        return TOO_FEW;
+    }
+    let limits = Limits { steps, room };
+    let said = calls::carried(file, point, NodeNo(node), start, limits, work, list);
+    tell(of_carried(said), told)
+}
+
+#[no_mangle]
+pub extern "C" fn galivodern_checked_carried(
+    file: &[u8],
+    point: usize,
+    node: u32,
+    start: &[u64],
+    steps: u64,
+    room: usize,
+    work: &mut [u64],
+    list: &mut [u64],
+    told: &mut [u64],
+) -> u64
+    requires { ⌜ Checked (now file) ⌝ }
+    ensures { λ r. ⌜ Tells carriedCell filledCell (carriedCall (now (list .entry)) (callOf (now (file .entry)) point node (now (start .entry)) (record { steps = steps; room = room }) (now (work .entry)))) (now (work .entry)) (now (list .entry)) (now (told .entry)) (seen r (now (work .exit)) (now (list .exit)) (now (told .exit))) ⌝ }
+{
+    if told.len() < TOLD_CELLS {
+        return TOO_FEW;
+    }
+    let limits = Limits { steps, room };
+    let said = checked::carried(file, point, NodeNo(node), start, limits, work, list);
+    tell(of_carried(said), told)
 }
 
 #[no_mangle]

@@ -1,5 +1,6 @@
 // Writes what a call said into the cells that a caller lends, and gives the number to return.
 use calls::SaidAnswer;
+use calls::SaidCarried;
 use calls::SaidRows;
 use casecheck::Contents;
 use meaning::Refusal;
@@ -8,8 +9,8 @@ ghost use mathlib.Core.List.{[], _∷_, _++_};
 ghost use Prim.Native.Nat.{_≤_};
 ghost use lib.ListN.{length, drop};
 ghost use Rattle.meaning.specs.Calls.{numberOf};
-ghost use Rattle.calls.specs.Promises.{asAnswer, asRows};
-ghost use Rattle.capi.specs.Seen.{yesCell, answerCell, sortCell, countCell, noCell};
+ghost use Rattle.calls.specs.Promises.{asAnswer, asCarried, asRows};
+ghost use Rattle.capi.specs.Seen.{yesCell, answerCell, sortCell, countCell, noCell, carriedCell, filledCell};
 ghost use Rattle.capi.specs.Telling.{cellsOf, refusing, Telling as TellingOf};
 
 // the number to return, and the four cells
@@ -96,5 +97,20 @@ pub fn of_rows(said: SaidRows) -> Telling
             fourth: 0,
         },
         SaidRows::Refuses(refusal, steps, most) => refuse(refusal, steps, most),
+    }
+}
+
+pub fn of_carried(said: SaidCarried) -> Telling
+    ensures { λ r. ⌜ TellingOf carriedCell filledCell (asCarried said) r ⌝ }
+{
+    match said {
+        SaidCarried::Gives(yes, filled, steps, most) => Telling {
+            number: 0,
+            answer: yes_cell(yes),
+            steps,
+            most,
+            fourth: filled as u64,
+        },
+        SaidCarried::Refuses(refusal, steps, most) => refuse(refusal, steps, most),
     }
 }

@@ -10,7 +10,7 @@ ghost use lib.ListN.{length};
 
 // what the check says of a file: 0 where it passes
 fn answer_number(file: &[u8]) -> usize
-    ensures { λ n. ⌜ n < 14 ⌝ }
+    ensures { λ n. ⌜ n < 16 ⌝ }
 {
     let answer = check(file);
     match answer {
@@ -30,7 +30,7 @@ fn print_count(refusal: u64, files: u64) {
     io::write_all(STDOUT_FILENO, b"\n");
 }
 
-fn report(counts: [u64; 14], files: u64, listed: u64, wrong: u64) {
+fn report(counts: [u64; 16], files: u64, listed: u64, wrong: u64) {
     io::write_all(STDOUT_FILENO, b"refusal files\n");
     print_count(0, counts[0]);
     print_count(1, counts[1]);
@@ -54,7 +54,7 @@ fn check_all(list: &[u8]) {
     if words == 0 {
         return;
     }
-    let mut counts = [0u64; 14];
+    let mut counts = [0u64; 16];
     let mut files: u64 = 0;
     let mut wrong: u64 = 0;
     let mut at = 1;

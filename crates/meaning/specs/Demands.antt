@@ -10,6 +10,7 @@ use Rattle.meaning.specs.Tests.{isSome}
 use Rattle.meaning.specs.Walk.{W, spent, most}
 use Rattle.meaning.specs.Case.{body, vars, points, nodes, nodeAt}
 use Rattle.meaning.specs.Check.{Checked}
+use Rattle.meaning.specs.Carried.{carriedCall}
 use Rattle.meaning.specs.Calls.{Call, Said, gives, refuses, startRow, askCall, rowsCall}
 
 -- a checked case, a point and a wanted node in it, well-formed starting bindings, limits in range, a workspace long enough
@@ -61,8 +62,9 @@ pub record SameUpTo (i : ℕ) (s t : List ℕ) : Type 0 where
 unfoldable pub ofFile : Call → List ℕ → Call
 ofFile c s = record { file = s; point = c .point; node = c .node; start = c .start; limits = c .limits; workspace = c .workspace }
 
--- both asking calls say the same of both files and leave the same workspace and output
+-- the asking calls say the same of both files and leave the same workspace and output
 abbrev pub SameAnswers : Call → List ℕ → List ℕ → Type 0
 SameAnswers c s t =
     (askCall (ofFile c s) ≡ askCall (ofFile c t))
     × ((binders output : List ℕ) → rowsCall binders output (ofFile c s) ≡ rowsCall binders output (ofFile c t))
+    × ((list : List ℕ) → carriedCall list (ofFile c s) ≡ carriedCall list (ofFile c t))

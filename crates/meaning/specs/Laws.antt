@@ -11,6 +11,7 @@ pub mod Sorts
 pub mod Checked
 pub mod Walk
 pub mod Meaning
+pub mod Carried
 pub mod Stack
 pub mod Calls
 pub mod Later

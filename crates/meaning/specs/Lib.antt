@@ -11,7 +11,10 @@ pub mod Rows
 pub mod Walk
 pub mod Meaning
 pub mod Calls
+pub mod Carried
+pub mod Single
 pub mod Demands
 pub mod Laws
 pub mod Written
 pub mod Examples
+pub mod CarriedExamples

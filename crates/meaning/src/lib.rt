@@ -171,4 +171,5 @@ pub enum Refusal {
     StepsExhausted,
     RoomExhausted,
     BadOutput,
+    ListTooShort,
 }

@@ -5,7 +5,7 @@ ghost use Prim.Native.Nat.{_<_};
 ghost use Rattle.meaning.specs.Calls.{numberOf};
 
 pub fn number(r: Refusal) -> u64
-    ensures { λ n. ⌜ (n ≡ numberOf r) × (n < 14) ⌝ }
+    ensures { λ n. ⌜ (n ≡ numberOf r) × (n < 16) ⌝ }
 {
     match r {
         Refusal::BadContents => 1,
@@ -21,5 +21,6 @@ pub fn number(r: Refusal) -> u64
         Refusal::StepsExhausted => 11,
         Refusal::RoomExhausted => 12,
         Refusal::BadOutput => 13,
+        Refusal::ListTooShort => 15,
     }
 }

@@ -1,6 +1,7 @@
 //! Cases and calls to put to the model and to the Rust, all from one seed.
 
 pub mod calls;
+pub mod carried;
 pub mod cases;
 pub mod claims;
 pub mod damage;

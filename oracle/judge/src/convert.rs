@@ -169,7 +169,7 @@ fn literal(value: rust::Value) -> Term {
     }
 }
 
-fn window(within: Within) -> WithinSpec {
+pub fn window(within: Within) -> WithinSpec {
     let unit = [TimeUnit::Seconds, TimeUnit::Minutes, TimeUnit::Hours, TimeUnit::Days][within.unit as usize];
     WithinSpec::Concrete(Interval { amount: within.amount, unit })
 }

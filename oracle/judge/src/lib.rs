@@ -1,5 +1,6 @@
 //! The Rust as the judge of the model.
 
+pub mod carried;
 pub mod compare;
 pub mod convert;
 pub mod examples;

@@ -11,8 +11,9 @@ use judge::variants::caught;
 use model::{Model, Variant};
 
 const USAGE: &str = "usage: oracle compare N SEED    put N questions to the model and to the Rust
+       oracle carried N SEED     the same of request #106, beside single verdicts of the Rust
        oracle examples           ask E1 to E12, the sample and the counted examples of both
-       oracle variants SEED      catch every wrong variant of the model
+       oracle variants SEED [X]  catch every wrong variant of the model whose name begins with X
        oracle lists              write data/*.bin again, byte for byte";
 
 fn main() -> ExitCode {
@@ -21,8 +22,10 @@ fn main() -> ExitCode {
     let number = |text: &str| text.parse::<u64>().map_err(|_| format!("`{text}` is no number"));
     let done = match arguments[..] {
         ["compare", questions, seed] => number(questions).and_then(|n| compare(n, number(seed)?)),
+        ["carried", questions, seed] => number(questions).and_then(|n| carried(n, number(seed)?)),
         ["examples"] => examples(),
-        ["variants", seed] => number(seed).and_then(variants),
+        ["variants", seed] => number(seed).and_then(|seed| variants(seed, "")),
+        ["variants", seed, named] => number(seed).and_then(|seed| variants(seed, named)),
         ["lists"] => write_lists(),
         _ => Err(USAGE.to_string()),
     };
@@ -52,12 +55,30 @@ fn compare(questions: u64, seed: u64) -> Result<bool, String> {
     Ok(report.differences.is_empty())
 }
 
+/// Puts questions of request #106 to the model and, point by point, to the Rust.
+fn carried(questions: u64, seed: u64) -> Result<bool, String> {
+    let begun = Instant::now();
+    let mut report = judge::carried::Report::new(Model::document());
+    report.run(&mut Random::new(seed), questions, 0, 10);
+    println!("seed {seed}: {} questions put to both in {:.1} s", report.to_both, begun.elapsed().as_secs_f64());
+    for (kind, count) in &report.counts {
+        println!("{count:>9}  {kind}");
+    }
+    for difference in &report.differences {
+        println!("\nDIFFERENCE\n{difference}");
+    }
+    println!("{} unlisted differences", report.differences.len());
+    Ok(report.differences.is_empty())
+}
+
 fn examples() -> Result<bool, String> {
-    let (asked, differences) = ask_examples(Model::document())?;
+    let (asked, mut differences) = ask_examples(Model::document())?;
+    let (of_106, more) = judge::carried::examples::ask(Model::document())?;
+    differences.extend(more);
     for difference in &differences {
         println!("DIFFERENCE\n{difference}");
     }
-    println!("{asked} examples asked of both, {} differences", differences.len());
+    println!("{asked} examples asked of both, {of_106} of #106 of the model, {} differences", differences.len());
     Ok(differences.is_empty())
 }
 
@@ -69,16 +90,20 @@ fn write_lists() -> Result<bool, String> {
     Ok(true)
 }
 
-fn variants(seed: u64) -> Result<bool, String> {
+fn variants(seed: u64, named: &str) -> Result<bool, String> {
     let mut missed = 0;
-    for &variant in Variant::WRONG {
-        let by = caught(variant, seed)?;
+    let all = Variant::WRONG.iter().map(|variant| (variant, caught as fn(_, _) -> _));
+    let carried = Variant::WRONG_CARRIED.iter().map(|variant| (variant, judge::carried::caught as fn(_, _) -> _));
+    let wanted = |(variant, _): &(&Variant, _)| format!("{variant:?}").starts_with(named);
+    let all: Vec<_> = all.chain(carried).filter(wanted).collect();
+    for &(&variant, caught) in &all {
+        let by: Vec<String> = caught(variant, seed)?;
         missed += by.is_empty() as usize;
         println!("{variant:?}: {}", variant.says());
         for how in if by.is_empty() { vec!["NOT CAUGHT".to_string()] } else { by } {
             println!("    {how}");
         }
     }
-    println!("{} variants, {missed} not caught", Variant::WRONG.len());
+    println!("{} variants, {missed} not caught", all.len());
     Ok(missed == 0)
 }

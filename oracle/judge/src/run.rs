@@ -200,12 +200,17 @@ fn said(call: &Call, outcome: &Outcome) -> String {
 /// Document 01 on buffers: untouched by refusals 1 to 10; else the workspace's first cells are 0 and
 /// the later ones unchanged, and the output changes on an answer only, in the cells filled only.
 pub fn buffers_kept(call: &Call, done: &Done, variables: u32) -> bool {
-    let walked = done.outcome.refusal == 0 || done.outcome.refusal > 10;
-    let cleared = if walked && call.kind != Kind::Check { 2 * variables as usize * call.room as usize } else { 0 };
     let filled = match (done.outcome.refusal, call.kind) {
         (0, Kind::Rows) => 2 * call.binders.len() * done.outcome.answer as usize,
         _ => 0,
     };
+    lent_kept(call, done, (call.kind != Kind::Check).then_some(variables), filled)
+}
+
+/// The same of a call that filled so many cells; without variables it is none that walks.
+pub fn lent_kept(call: &Call, done: &Done, variables: Option<u32>, filled: usize) -> bool {
+    let walked = done.outcome.refusal == 0 || done.outcome.refusal > 10;
+    let cleared = variables.filter(|_| walked).map_or(0, |variables| 2 * variables as usize * call.room as usize);
     let workspace = done.workspace.iter().enumerate();
     let output = done.output.iter().enumerate();
     workspace.into_iter().all(|(k, &cell)| cell == if k < cleared { 0 } else { workspace_fill(k) })

@@ -11,7 +11,7 @@ use generate::{Call, Kind};
 
 use crate::convert::{binder, variable_name, Converter};
 
-type Env = BTreeMap<String, Value>;
+pub type Env = BTreeMap<String, Value>;
 
 /// One row of the Rust's answer, a value or none for each binder.
 pub type RustRow = Vec<Option<Value>>;
@@ -26,7 +26,7 @@ pub enum Answer {
 /// A checked case as the Rust has it.
 pub struct RustCase<'a> {
     pub converter: Converter<'a>,
-    trace: Trace,
+    pub(crate) trace: Trace,
     conditions: BTreeMap<u32, Condition>,
     aggregates: BTreeMap<u32, AggExpr>,
 }
@@ -70,8 +70,19 @@ impl<'a> RustCase<'a> {
         Some((plain, counted.1))
     }
 
+    /// The verdict of a condition at any point in an environment, and its visits; None where it makes
+    /// more than `limit`.
+    pub(crate) fn verdict_at(&mut self, env: &Env, node: u32, at: usize, limit: u64) -> Option<(bool, u64)> {
+        let converter = Converter { tables: self.converter.tables };
+        let condition = self.conditions.entry(node).or_insert_with(|| converter.condition(node));
+        let trace = &self.trace;
+        let (yes, visits) = visits::counted(limit, || counted::eval_condition(trace, at, env, condition))?;
+        assert_eq!(eval::eval_condition(trace, at, env, condition), yes, "counting visits changed an answer");
+        Some((yes, visits))
+    }
+
     /// The request's environment and the starting bindings.
-    fn env(&self, call: &Call) -> Env {
+    pub(crate) fn env(&self, call: &Call) -> Env {
         let mut env = eval::request_env(&self.trace, call.point as usize);
         for (variable, cells) in call.start.chunks(2).enumerate() {
             if let Some(value) = self.cell_value(cells) {

@@ -6,7 +6,7 @@ use judge::examples::ask_examples;
 use judge::lists::{folder, lists};
 use judge::reach;
 use judge::run::Report;
-use model::Model;
+use model::{Model, Variant};
 
 #[test]
 fn examples_hold_in_both() {
@@ -31,5 +31,50 @@ fn model_and_rust_agree() {
     // What larger cases come to is met in passing, not only in theory.
     for what in reach::ALL {
         assert!(report.counts.get(what).is_some_and(|&questions| questions >= 5), "{what}: {:?}", report.counts);
+    }
+}
+
+/// Request #106: the model's list is what single verdicts of the Rust say, and every sort of it is met.
+#[test]
+fn carried_is_what_single_verdicts_say() {
+    let (asked, differences) = judge::carried::examples::ask(Model::document()).expect("the examples can be read");
+    assert_eq!((asked, differences), (28, Vec::<String>::new()));
+    let mut report = judge::carried::Report::new(Model::document());
+    report.run(&mut Random::new(3), 6_000, 200, 1);
+    assert!(report.differences.is_empty(), "{}", report.differences[0]);
+    for what in [
+        "formerly, yes",
+        "formerly, no",
+        "formerly, refused 11",
+        "formerly, refused 15",
+        "previous, yes",
+        "previous, no",
+        "since, yes, 0 tested",
+        "since, yes, 1 tested",
+        "since, yes, more tested",
+        "since, no, 0 failed",
+        "since, no, 1 failed",
+        "since, no, more failed",
+        "since, refused 11",
+        "since, refused 12",
+        "since, refused 15",
+        "with: a list that is exactly filled",
+        "with: a list that is one cell short",
+        "with: a negative window",
+        "with: limit 0",
+        "with: previous at point 0",
+        "with: starting bindings",
+        "with: times that fall",
+    ] {
+        assert!(report.counts.get(what).is_some_and(|&questions| questions >= 5), "{what}: {:?}", report.counts);
+    }
+}
+
+/// Every wrong variant of request #106 is caught by an example or by the Rust.
+#[test]
+fn wrong_variants_of_carried_are_caught() {
+    for &variant in Variant::WRONG_CARRIED {
+        let by = judge::carried::caught(variant, 1).expect("the examples can be read");
+        assert!(!by.is_empty(), "{variant:?}: {}", variant.says());
     }
 }

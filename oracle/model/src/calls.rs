@@ -82,7 +82,7 @@ impl Model {
     }
 
     /// The refusals in order, then the walk, then the clearing of the workspace.
-    fn call(
+    pub(crate) fn call(
         self,
         question: &Question,
         answered: impl Fn(u32) -> bool,
@@ -159,7 +159,7 @@ impl Model {
     }
 }
 
-enum Said {
+pub(crate) enum Said {
     Answer(u64),
     Number(i64),
     Refusal(u32),

@@ -3,6 +3,7 @@
 //! has one rule changed and exists to be caught.
 
 mod calls;
+mod carried;
 mod check;
 mod equality;
 mod file;
@@ -12,6 +13,7 @@ mod walk;
 mod window;
 
 pub use calls::{Model, Outcome, Question};
+pub use carried::Carried;
 pub use equality::decimal;
 pub use variant::Variant;
 pub use window::{window, Window};

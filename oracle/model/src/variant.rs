@@ -1,23 +1,28 @@
 //! The document, and the wrong variants that the comparison must catch.
 
 macro_rules! variants {
-    ($($name:ident: $says:literal),* $(,)?) => {
+    ($($name:ident: $says:literal),* $(,)?; carried: $($of_106:ident: $says_106:literal),* $(,)?) => {
         /// One rule changed in each; `Document` changes none.
         #[derive(Clone, Copy, Debug, PartialEq, Eq)]
         pub enum Variant {
             Document,
             $($name,)*
+            $($of_106,)*
         }
 
         impl Variant {
-            /// Every wrong variant.
+            /// Every wrong variant of document 01.
             pub const WRONG: &'static [Variant] = &[$(Variant::$name),*];
+
+            /// Every wrong variant of request #106, which shows in no other call.
+            pub const WRONG_CARRIED: &'static [Variant] = &[$(Variant::$of_106),*];
 
             /// What it gets wrong.
             pub fn says(self) -> &'static str {
                 match self {
                     Variant::Document => "document 01",
                     $(Variant::$name => $says,)*
+                    $(Variant::$of_106 => $says_106,)*
                 }
             }
         }
@@ -78,5 +83,26 @@ variants! {
     AggregateArgument: "a Predicate's argument may be an aggregate",
     EmptyRunAnywhere: "a run of no items may start anywhere",
     EntityRepeats: "an entity list may hold an entity twice",
-    RowsInPairOrder: "rows are equal only with their pairs in the same order, as in the Rust",
+    RowsInPairOrder: "rows are equal only with their pairs in the same order, as in the Rust";
+    carried:
+    CarriedAnyCondition: "any condition is answered",
+    CarriedLeast: "the least point that satisfies it is shown",
+    CarriedPreviousShowsI: "a yes of previous shows the point itself",
+    CarriedYesAlone: "a yes of since lists its anchor alone",
+    CarriedAnchorAlone: "a failed anchor is listed without its failure",
+    CarriedLastFailure: "a failed anchor is listed with the last failure",
+    CarriedTestsAnchor: "left is tested at the anchor",
+    CarriedUpward: "failed anchors are listed from the earliest on",
+    CarriedNoWindow: "the window is left out",
+    CarriedAsksOutside: "points outside the window are asked",
+    CarriedAsksOn: "left is asked on after its first failure",
+    CarriedScansOn: "formerly is scanned on after the yes",
+    CarriedMeterRunsOn: "steps run on from question to question",
+    CarriedMostOfAll: "a refused question tells the most rows of all questions",
+    CarriedOwnStep: "the scan's own node costs a step",
+    CarriedContextAtPoint: "context and scope come from the point of each question",
+    CarriedAnswerNumbers: "an answer tells what its last question took",
+    CarriedFifteenNumbers: "15 tells what the last question took",
+    CarriedShortFirst: "15 comes before questions that are left",
+    CarriedListCut: "a list too short is filled as far as it goes",
 }

@@ -20,6 +20,7 @@ mod sha256;
 mod show;
 mod spec;
 mod warn;
+mod why;
 
 use std::ffi::OsString;
 use std::process::ExitCode;
@@ -68,6 +69,7 @@ fn run(arguments: &[OsString]) -> Result<Said, Failure> {
     match spec.name {
         "check" => convert::check(&options),
         "ask" => ask::ask(&options),
+        "why" => why::why(&options),
         "rows" => rows::rows(&options),
         "bench" => bench::bench(&options),
         "pack" => convert::pack_text(&options),

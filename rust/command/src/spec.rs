@@ -49,9 +49,14 @@ const SCHEMA: OptionSpec =
     option("--schema", "FILE", "the actions with their fields and types; what does not fit it is an error");
 const JSON: OptionSpec = option("--json", "", "one line of JSON in place of words, errors too");
 const QUIET: OptionSpec = option("--quiet", "", "no words and no warnings: the status tells; errors are told");
+const SVG: OptionSpec = option(
+    "--svg",
+    "FILE",
+    "draw the timeline there, as a picture in SVG; - is standard output, in place of the words",
+);
 const OUTPUT: OptionSpec = option("-o", "FILE", "write there in place of standard output");
 
-pub const COMMANDS: [CommandSpec; 8] = [
+pub const COMMANDS: [CommandSpec; 9] = [
     CommandSpec {
         name: "check",
         files: "FILE",
@@ -68,6 +73,17 @@ pub const COMMANDS: [CommandSpec; 8] = [
                 its number (status 0); behind it stand the steps and rows that it took. A rule with parameters is asked \
                 with all of them bound.",
         options: &[&POINT, &RULE, &NODE, &BIND, &LOOSE, &STEPS, &ROOM, &SCHEMA, &STRICT, &JSON, &QUIET],
+    },
+    CommandSpec {
+        name: "why",
+        files: "FILE",
+        brief: "which past event carried the yes?",
+        about: "Says yes (status 0) or no (status 1) as `ask` does, and shows what decided it: for formerly, previous and \
+                since a timeline, with the event that carried the yes, those at which left held or failed, and the \
+                window; for and, or, not and exists each part that decided. Marks: * carried the yes, ! held in vain, x \
+                failed, | in the window, . outside, : a folded stretch. The limits hold for each single question at one \
+                point.",
+        options: &[&POINT, &RULE, &NODE, &BIND, &LOOSE, &STEPS, &ROOM, &SVG, &SCHEMA, &STRICT, &JSON, &QUIET],
     },
     CommandSpec {
         name: "rows",

@@ -146,7 +146,7 @@ fn errors_name_file_number_and_words() {
 fn help_is_there_for_every_command() {
     let (status, overview, _) = run(&["--help"]);
     assert_eq!(status, 0);
-    for command in ["check", "ask", "rows", "bench", "pack", "text", "completions", "man"] {
+    for command in ["check", "ask", "why", "rows", "bench", "pack", "text", "completions", "man"] {
         assert!(overview.contains(&format!("galivodern {command} ")), "{command}");
         let (status, help, _) = run(&["help", command]);
         assert_eq!((status, help.starts_with(&format!("usage: galivodern {command} "))), (0, true));

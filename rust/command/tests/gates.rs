@@ -101,7 +101,10 @@ fn names_survive_packing() {
         "`--node` takes a number, not `r4`; a rule is asked by its name with --rule",
     );
     refused(&["ask", &case, "--node", "seen"], "`--node` takes a number, not `seen`");
-    refused(&["ask", &case, "--node", "22"], "refused 8: the case has no such node, or it cannot be asked");
+    refused(
+        &["ask", &case, "--node", "22"],
+        "refused 8: the case has no such node, or it is none that this call is about",
+    );
     refused(&["ask", &case, "--node", "22"], ": nodes 0 to 21 exist");
     refused(&["ask", &case, "--node", "4", "--rule", "seen"], "`--rule` and `--node` are two ways");
     // The text of the packed case has its names, and packs to the same.

@@ -23,6 +23,7 @@ fn offered(words: &[&str]) -> Vec<String> {
 fn bash_completes_commands_and_options() {
     assert_eq!(offered(&["galivodern", "ch"]), ["check"]);
     assert_eq!(offered(&["galivodern", "ask", "--st"]), ["--steps", "--strict"]);
+    assert_eq!(offered(&["galivodern", "why", "--sv"]), ["--svg"]);
     assert_eq!(offered(&["galivodern", "help", "ro"]), ["rows"]);
     assert_eq!(offered(&["galivodern", "pack", "--ro"]), [""]);
 }
@@ -33,7 +34,7 @@ fn all_options_are_everywhere() {
     let (page, bash, fish) = (run(&["man"]).1, run(&["completions", "bash"]).1, run(&["completions", "fish"]).1);
     assert!(run(&["completions", "zsh"]).1.starts_with("#compdef galivodern\n"));
     let mut count = 0;
-    for command in ["check", "ask", "rows", "bench", "pack", "text", "completions", "man"] {
+    for command in ["check", "ask", "why", "rows", "bench", "pack", "text", "completions", "man"] {
         let help = run(&["help", command]).1;
         assert!(page.contains(&format!(".SS galivodern {command}")), "{command}");
         for line in help.lines().filter(|line| line.starts_with("  -")) {
@@ -46,7 +47,7 @@ fn all_options_are_everywhere() {
             count += 1;
         }
     }
-    assert_eq!(count, 38);
+    assert_eq!(count, 50);
     refused(&["completions", "tcsh"], "`completions` takes the name of a shell: bash, zsh or fish");
 }
 

@@ -68,7 +68,7 @@ fn same(who: &str, done: &Done, model: &Done) -> Result<(), String> {
 }
 
 /// The buffers before a call, and no outcome.
-fn buffers(call: &Call) -> Done {
+pub fn buffers(call: &Call) -> Done {
     Done {
         outcome: Outcome::default(),
         workspace: (0..call.workspace).map(workspace_fill).collect(),
@@ -168,7 +168,7 @@ fn filled(call: &Call, outcome: &Outcome) -> usize {
 }
 
 /// The starting cells as the crate's bindings, if they can be said so.
-fn bindings(start: &[u64], variables: usize) -> Option<Bindings> {
+pub fn bindings(start: &[u64], variables: usize) -> Option<Bindings> {
     if start.len() < 2 * variables || start.len() % 2 != 0 {
         return None;
     }

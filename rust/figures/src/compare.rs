@@ -1,5 +1,6 @@
 //! The comparison at scale: every call of the archive and of the crate beside model and Rust.
 
+use std::collections::BTreeMap;
 use std::time::Instant;
 
 use generate::Random;
@@ -7,6 +8,7 @@ use judge::run::Report;
 use model::Model;
 
 use crate::archive::{by_crate, checked, unchecked};
+use crate::carried;
 
 /// More differences than this end the run.
 const MOST_DIFFERENCES: usize = 10;
@@ -26,12 +28,30 @@ pub fn run(questions: u64, copies: u64, seed: u64) -> Result<bool, String> {
     report.damage(&mut random, more, MOST_DIFFERENCES);
     println!("seed {seed}: {} questions put to all in {asked:.0} s,", report.to_both);
     println!("{} damaged copies, the last of them after {:.0} s", damaged(&report), begun.elapsed().as_secs_f64());
-    for (kind, count) in &report.counts {
+    let same = told(&report.counts, &report.differences);
+    Ok(carried(questions / 10, copies / 10, seed)? && same)
+}
+
+/// Request #106: the model beside single verdicts of the Rust, and the archive and the crate beside the model.
+pub fn carried(questions: u64, copies: u64, seed: u64) -> Result<bool, String> {
+    let begun = Instant::now();
+    let mut report = judge::carried::Report::new(Model::document());
+    report.beside = vec![carried::unchecked, carried::checked, carried::by_crate];
+    report.run(&mut Random::new(seed), questions, copies, MOST_DIFFERENCES);
+    let (asked, damaged) = (report.to_both, report.damaged);
+    let taken = begun.elapsed().as_secs_f64();
+    println!("#106, seed {seed}: {asked} questions put to all, {damaged} damaged copies, in {taken:.0} s");
+    Ok(told(&report.counts, &report.differences))
+}
+
+/// Prints what a run came to; whether nothing differed.
+fn told(counts: &BTreeMap<String, u64>, differences: &[String]) -> bool {
+    for (kind, count) in counts {
         println!("{count:>10}  {kind}");
     }
-    for difference in &report.differences {
+    for difference in differences {
         println!("\nDIFFERENCE\n{difference}");
     }
-    println!("{} unlisted differences", report.differences.len());
-    Ok(report.differences.is_empty())
+    println!("{} unlisted differences", differences.len());
+    differences.is_empty()
 }

@@ -1,6 +1,7 @@
 //! The proved library beside Dogwood's Rust and the model of document 01, from one driver.
 
 mod archive;
+mod carried;
 mod checking;
 mod compare;
 mod lookups;
@@ -13,6 +14,7 @@ use std::process::ExitCode;
 const USAGE: &str = "usage: figures speed                        time a question, ours and the Rust's, on every shape
        figures check                        the check's throughput beside a plain pass
        figures compare N DAMAGED SEED       N questions and DAMAGED damaged files, put to all
+       figures carried N DAMAGED SEED       the same of request #106; `compare` asks a tenth as many, too
        figures once SHAPE TIMES ours|rust   ask one shape so often, to be profiled
        figures lookups                      time a name's lookup in records of 4 to 16,384 members
        figures lookup MEMBERS first|last|miss TIMES ours|rust   one of them so often, to be profiled";
@@ -26,6 +28,9 @@ fn main() -> ExitCode {
         ["check"] => checking::print_table(),
         ["compare", questions, copies, seed] => {
             number(questions).and_then(|n| compare::run(n, number(copies)?, number(seed)?))
+        }
+        ["carried", questions, copies, seed] => {
+            number(questions).and_then(|n| compare::carried(n, number(copies)?, number(seed)?))
         }
         ["once", shape, times, who] => number(times).and_then(|n| speed::once(shape, n, who == "rust")),
         ["lookups"] => lookups::print_table(),

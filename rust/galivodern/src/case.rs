@@ -3,6 +3,7 @@ use std::sync::{Mutex, PoisonError};
 
 use crate::answer::{Answer, Answered};
 use crate::bindings::Bindings;
+use crate::carried::Carried;
 use crate::limits::Limits;
 use crate::names::{Fault, Names};
 use crate::numbers::{PointNo, RuleNo, VariableNo};
@@ -159,6 +160,52 @@ impl Case {
             told
         });
         Ok(answered(told)?.map(|count| Rows::new(binders.len(), count as usize, given)))
+    }
+
+    /// Which event carried the yes: the verdict of a node that is itself a Formerly, Previous or Since,
+    /// and the points that decided it. Other nodes are refused, [`NoSuchNode`].
+    ///
+    /// The limits hold for each verdict that the node asks of its parts at one point, not for all of
+    /// them together: a long log may be answered here where [`Case::ask`] runs out of steps.
+    ///
+    /// ```
+    /// # use galivodern::{Bindings, Case, Limits, PointNo};
+    /// let case = Case::from_text(r#"
+    ///     point 0    Review  logged {board: "b1"}
+    ///     point 1200 Build   logged {board: "b1"}
+    ///     point 1800 Finding logged {board: "b1"}
+    ///     rule ready = not Finding(board: "b1") since within 1h Review(board: "b1")
+    /// "#)?;
+    /// let ready = case.rule("ready").unwrap();
+    ///
+    /// let carried = case.carried(PointNo(1), ready, &Bindings::new(), Limits::default())?;
+    /// assert_eq!((carried.verdict, carried.by()), (true, Some(PointNo(0))));
+    /// assert_eq!(carried.points, [PointNo(0), PointNo(1)]);
+    ///
+    /// let carried = case.carried(PointNo(2), ready, &Bindings::new(), Limits::default())?;
+    /// assert!(!carried.verdict);
+    /// let (reviewed, found) = carried.failed().next().expect("a review in vain");
+    /// assert_eq!((reviewed, found), (PointNo(0), PointNo(2)));
+    /// # Ok::<(), Box<dyn std::error::Error>>(())
+    /// ```
+    ///
+    /// [`NoSuchNode`]: crate::Refusal::NoSuchNode
+    pub fn carried(
+        &self,
+        point: PointNo,
+        rule: RuleNo,
+        bindings: &Bindings,
+        limits: Limits,
+    ) -> Result<Carried, Refused> {
+        // A no of Since lists two cells for each point up to this one, and nothing lists more.
+        let cells = 2 * (point.0.min(self.contents().points) + 1);
+        let mut points = Vec::new();
+        let told = self.asked(point, rule, self.complete(rule, bindings), limits, cells, |question, buffers| {
+            let told = self.checked.carried(question, buffers.workspace, buffers.output);
+            points.extend(buffers.output[..told.fourth as usize].iter().map(|&cell| PointNo(cell as usize)));
+            told
+        });
+        Ok(Carried { verdict: answered(told)?.value == 1, points })
     }
 
     /// The bindings, if they bind every parameter of the rule.

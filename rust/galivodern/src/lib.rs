@@ -4,7 +4,8 @@
 //!
 //! A [`Case`] is one file, with the log and the rules as numbered nodes. It is checked once, when
 //! it is made. After that you ask it: [`Case::ask`] says yes or no of a condition and gives the number
-//! of an aggregate, [`Case::rows`] gives what a condition finds. You set [`Limits`] to the steps and rows that
+//! of an aggregate, [`Case::rows`] gives what a condition finds, and [`Case::carried`] says which past
+//! event carried a yes. You set [`Limits`] to the steps and rows that
 //! an answer may take; none takes more, and every answer says how many it took.
 //!
 //! ```
@@ -39,6 +40,7 @@
 
 mod answer;
 mod bindings;
+mod carried;
 mod case;
 mod limits;
 mod names;
@@ -52,6 +54,7 @@ mod window;
 
 pub use answer::{Answer, Answered};
 pub use bindings::{Bindings, Bound};
+pub use carried::Carried;
 pub use case::{Case, Contents};
 pub use limits::Limits;
 pub use names::Fault;

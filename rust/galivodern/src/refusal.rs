@@ -20,7 +20,8 @@ pub enum Refusal {
     BadNodes = 6,
     /// The case has no such point.
     NoSuchPoint = 7,
-    /// The case has no such node, or it is a term; for rows, an aggregate too.
+    /// The case has no such node, or none that the call is about: a term; for rows an aggregate, too; for
+    /// carried whatever is no Formerly, Previous or Since.
     NoSuchNode = 8,
     /// The starting bindings are malformed, or leave a parameter of the rule unbound.
     BadStart = 9,
@@ -32,6 +33,8 @@ pub enum Refusal {
     RoomExhausted = 12,
     /// A binder is no variable of the case.
     BadOutput = 13,
+    /// The list lent for points is too short; the crate lends one that is not.
+    ListTooShort = 15,
 }
 
 impl Refusal {
@@ -50,9 +53,10 @@ impl Refusal {
         Refusal::StepsExhausted,
         Refusal::RoomExhausted,
         Refusal::BadOutput,
+        Refusal::ListTooShort,
     ];
 
-    /// Its number, from 1 to 13.
+    /// Its number, from 1 to 15; none has 14.
     #[must_use]
     pub fn number(self) -> u8 {
         self as u8
@@ -83,7 +87,8 @@ impl fmt::Display for Refusal {
             Refusal::BadNodes => "a node breaks a rule of the case file, or a node is more than 64 high",
             Refusal::NoSuchPoint => "the case has no such point",
             Refusal::NoSuchNode => {
-                "the case has no such node, or it cannot be asked: a term, or for rows a count or a sum"
+                "the case has no such node, or it is none that this call is about: a term, for rows a count or a sum, \
+                 for carried what is no formerly, previous or since"
             }
             Refusal::BadStart => {
                 "a starting binding is malformed: no such variable, no such value or string, an integer given as a \
@@ -93,6 +98,7 @@ impl fmt::Display for Refusal {
             Refusal::StepsExhausted => "the answer takes more steps than allowed",
             Refusal::RoomExhausted => "the answer takes more rows than allowed",
             Refusal::BadOutput => "rows are asked for a variable that the case does not have",
+            Refusal::ListTooShort => "the list is too short for the points that made the answer",
         })
     }
 }
@@ -122,7 +128,7 @@ impl fmt::Display for Refused {
     fn fmt(&self, f: &mut fmt::Formatter) -> fmt::Result {
         let Refused { refusal, steps, held } = self;
         write!(f, "{refusal}")?;
-        if *refusal > Refusal::BadLimits {
+        if *refusal > Refusal::BadLimits && *refusal != Refusal::ListTooShort {
             write!(f, " ({steps} spent, at most {held} rows held)", steps = counted(*steps, "step"))?;
         }
         Ok(())

@@ -44,6 +44,23 @@ extern "C" {
         told_len: usize,
     ) -> u64;
 
+    fn galivodern_checked_carried(
+        file: *const u8,
+        file_len: usize,
+        point: usize,
+        node: u32,
+        start: *const u64,
+        start_len: usize,
+        steps: u64,
+        room: usize,
+        work: *mut u64,
+        work_len: usize,
+        list: *mut u64,
+        list_len: usize,
+        told: *mut u64,
+        told_len: usize,
+    ) -> u64;
+
     fn galivodern_window(span: i64, from: i64, to: i64) -> u64;
 
     fn galivodern_difference(from: i64, to: i64) -> i64;
@@ -154,6 +171,32 @@ impl Checked {
                 binders.len(),
                 output.as_mut_ptr(),
                 output.len(),
+                told.as_mut_ptr(),
+                told.len(),
+            )
+        };
+        Told::new(returned, told)
+    }
+
+    /// The fourth cell tells how many cells of the list were filled.
+    pub fn carried(&self, question: Question, work: &mut [u64], list: &mut [u64]) -> Told {
+        let Question { point, node, start, limits } = question;
+        let mut told = [0; TOLD_CELLS];
+        // SAFETY: as in `ask`.
+        let returned = unsafe {
+            galivodern_checked_carried(
+                self.bytes.as_ptr(),
+                self.bytes.len(),
+                point,
+                node,
+                start.as_ptr(),
+                start.len(),
+                limits.steps,
+                limits.room,
+                work.as_mut_ptr(),
+                work.len(),
+                list.as_mut_ptr(),
+                list.len(),
                 told.as_mut_ptr(),
                 told.len(),
             )

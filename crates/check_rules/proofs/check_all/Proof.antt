@@ -9,7 +9,7 @@ use Rattle.check_rules.proofs.check_all.Statement.{statement}
 use Rattle.check_rules.proofs.check_all.Tie as tie
 
 abbrev Inv-loop : tie.InvT-loop
-Inv-loop list words counts₀ files₀ wrong₀ at₀ counts files wrong at = (1 ≤ at) × (at ≤ words + 1) × (words ≡ length list / 4) × (0 < words) × (length counts ≡ 14)
+Inv-loop list words counts₀ files₀ wrong₀ at₀ counts files wrong at = (1 ≤ at) × (at ≤ words + 1) × (words ≡ length list / 4) × (0 < words) × (length counts ≡ 16)
 
 abbrev μ-loop : tie.MeasureT-loop
 μ-loop list words counts₀ files₀ wrong₀ at₀ counts files wrong at = words + 1 - at

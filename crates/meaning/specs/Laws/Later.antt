@@ -21,6 +21,8 @@ use Rattle.meaning.specs.Laws.Words.{words-first}
 use Rattle.meaning.specs.Laws.Bodies.{body-length}
 use Rattle.meaning.specs.Laws.Checked.{checked-bodies}
 use Rattle.meaning.specs.Laws.Meaning.{later-points}
+use Rattle.meaning.specs.Laws.Carried.{shown-same}
+use Rattle.meaning.specs.Carried.{lookOf, looksBack, shownAt, Listed, listed, carriedCall}
 
 -- two files that a call about point i cannot tell apart
 record Alike (s t : List ℕ) (i : ℕ) : Type 0 where
@@ -105,6 +107,17 @@ module _ (c : Call) (s t : List ℕ) (alike : Alike s t (c .point)) where
     unfolding rowsCall
     rows-same binders output = ap (rowsGiven (ofFile c s) binders output) (asking-same isCondition (λ m q. m .rows q)) ∙ given-same binders output _
 
+    shows-same : shownAt (caseOf s) (pointAt s) (c .point) (startOr (startRow s (vars s) (c .start))) (c .limits) (lookOf (nodeAt s (c .node))) ≡ shownAt (caseOf t) (pointAt t) (c .point) (startOr (startRow t (vars t) (c .start))) (c .limits) (lookOf (nodeAt t (c .node)))
+    shows-same =
+        cc (alike .case, start-same, node-same (c .node), shown-same (caseOf s) (pointAt s) (pointAt t) (c .point) (startOr (startRow s (vars s) (c .start))) (c .limits) (alike .point) (lookOf (nodeAt s (c .node))))
+
+    carried-same : (list : List ℕ) → carriedCall list (ofFile c s) ≡ carriedCall list (ofFile c t)
+    unfolding carriedCall ofFile
+    carried-same list =
+        let e = unless-same looksBack shows-same in
+        let a = ap (listed list) e in
+        result-same _ (ap (λ (r : Listed). r .said) a) ∙ cc a
+
 -- a case by its bodies
 abbrev at : List ℕ → ℕ → ℕ
 at b i = getD (words b) i 0
@@ -188,7 +201,7 @@ module _ (s t : List ℕ) (hs : Checked s) (ht : Checked t) (i : ℕ) (up : Same
 pub later-points-change-nothing : (s t : List ℕ) → Checked s → Checked t → (c : Call) → SameUpTo (c .point) s t → SameAnswers c s t
 later-points-change-nothing s t hs ht c up =
     let a = alike-up-to s t hs ht (c .point) up in
-    (ask-same c s t a hs ht, rows-same c s t a hs ht)
+    (ask-same c s t a hs ht, rows-same c s t a hs ht, carried-same c s t a hs ht)
 
 -- ---- two ways to come by such files
 

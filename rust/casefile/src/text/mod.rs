@@ -24,7 +24,7 @@ pub use lexer::Place;
 pub(crate) use lexer::Token;
 pub use parser::{pack, pack_or_faults};
 pub(crate) use parser::{Parsed, Parser};
-pub use printer::{unpack, unpack_named, Given};
+pub use printer::{unpack, unpack_named, Given, NodeTexts};
 
 /// What is wrong with a text, and where: line and column count from 1.
 #[derive(Clone, Debug, PartialEq, Eq)]

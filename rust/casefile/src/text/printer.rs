@@ -45,10 +45,29 @@ pub fn unpack_named(tables: &Tables, given: Given) -> Printed<String> {
 }
 
 fn printed(tables: &Tables, given: Given) -> Printed<String> {
+    planned(tables, given)?.text()
+}
+
+fn planned(tables: &Tables, given: Given) -> Printed<Printer<'_>> {
     let mut printer = Printer::new(tables, given)?;
     printer.plan_values()?;
     printer.plan_nodes();
-    printer.text()
+    Ok(printer)
+}
+
+/// Single nodes of a case, each as its text has it.
+pub struct NodeTexts<'a>(Printer<'a>);
+
+impl<'a> NodeTexts<'a> {
+    /// Of a case that passes the check, with the names that it had.
+    pub fn of(tables: &'a Tables, given: Given) -> Printed<NodeTexts<'a>> {
+        planned(tables, given).map(NodeTexts)
+    }
+
+    /// What stands behind the `=` of a node's statement; parts that have a name stand as `@name`.
+    pub fn node(&self, node: u32) -> Printed<String> {
+        self.0.node_inside(node)
+    }
 }
 
 pub struct Printer<'a> {

@@ -1,0 +1,5 @@
+pub mod Laid
+pub mod Asked
+pub mod Looking
+pub mod Downs
+pub mod Showing

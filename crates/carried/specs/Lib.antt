@@ -1,0 +1,3 @@
+pub mod Shows
+pub mod Late
+pub mod When

@@ -1,0 +1,179 @@
+//! A rule's parts with all that is told of them, once for words, JSON and picture.
+
+use casefile::text::NodeTexts;
+use casefile::{time, Within};
+use galivodern::{Bound, PointNo, Value};
+
+use super::timeline::{seconds, Scan, Timeline};
+use super::walk::{By, Part};
+use crate::ask::Question;
+use crate::failure::Failure;
+use crate::opened::Opened;
+use crate::show;
+
+/// Smaller times are seconds of a bench's own count; later ones are told as dates.
+const LEAST_CLOCK: i64 = 100_000_000;
+
+/// A part of the rule, as it is told.
+pub struct Told {
+    pub node: u32,
+    pub text: String,
+    pub verdict: bool,
+    /// What is bound for it: names and values.
+    pub bound: Vec<(String, Bound)>,
+    /// What decided it, in words; nothing where a timeline tells it.
+    pub how: String,
+    pub timeline: Option<Timeline>,
+    /// Left and right of a Since.
+    pub sides: Option<(String, String)>,
+    pub parts: Vec<Told>,
+}
+
+impl Told {
+    pub fn of(question: &Question, part: &Part) -> Result<Told, Failure> {
+        let opened = &question.opened;
+        let texts = NodeTexts::of(&opened.tables, opened.names.given());
+        let texts = texts.map_err(|message| Failure::of_file(&opened.file, message))?;
+        told(question, &texts, part).map_err(|message| Failure::of_file(&opened.file, message))
+    }
+}
+
+fn told(question: &Question, texts: &NodeTexts, part: &Part) -> Result<Told, String> {
+    let opened = &question.opened;
+    let mut told = Told {
+        node: part.node,
+        text: texts.node(part.node)?,
+        verdict: part.verdict,
+        bound: part.bound.iter().map(|&(variable, bound)| (opened.variable_name(variable), bound)).collect(),
+        how: String::new(),
+        timeline: None,
+        sides: None,
+        parts: Vec::new(),
+    };
+    match &part.by {
+        By::Points(carried) => {
+            told.timeline = Some(Timeline::of(opened, part.node, question.point, carried));
+            if let Some(casefile::Node::Since { left, right, .. }) =
+                casefile::Node::read(opened.tables.nodes[part.node as usize])
+            {
+                told.sides = Some((texts.node(left)?, texts.node(right)?));
+            }
+        }
+        By::Parts(how, parts) => {
+            told.how = how.to_string();
+            told.parts = parts.iter().map(|part| self::told(question, texts, part)).collect::<Result<_, _>>()?;
+        }
+        By::Itself => told.how = format!("nothing past decided it: it is asked of point {} itself", question.point),
+        By::Whole(why) => told.how = format!("its parts cannot be shown apart: {why}"),
+    }
+    Ok(told)
+}
+
+/// What is bound, as ` with b = "b1", n = 3`; nothing where nothing is.
+pub fn bound_words(opened: &Opened, bound: &[(String, Bound)]) -> String {
+    let words: Vec<String> =
+        bound.iter().map(|(name, bound)| format!("{name} = {}", show::text(&opened.case, Some(*bound)))).collect();
+    if words.is_empty() {
+        String::new()
+    } else {
+        format!(" with {}", words.join(", "))
+    }
+}
+
+/// A time as it is read: a date where it is one of today's, else seconds.
+pub fn clock(seconds: i64) -> String {
+    let date = if seconds < LEAST_CLOCK { None } else { time::written(seconds) };
+    date.unwrap_or_else(|| seconds.to_string())
+}
+
+/// So many seconds, in the two largest units that they have.
+pub fn lasting(seconds: i64) -> String {
+    let mut left = seconds.unsigned_abs();
+    let mut parts = Vec::new();
+    for (unit, letter) in [(86_400, 'd'), (3_600, 'h'), (60, 'm'), (1, 's')] {
+        if left >= unit && parts.len() < 2 {
+            parts.push(format!("{}{letter}", left / unit));
+        }
+        left %= unit;
+    }
+    if parts.is_empty() {
+        "0s".to_string()
+    } else {
+        parts.join(" ")
+    }
+}
+
+/// How long before the point asked about a point was stamped; nothing for that point itself.
+pub fn before(opened: &Opened, asked: usize, point: usize) -> String {
+    let (now, then) = (opened.time(asked).0, opened.time(point).0);
+    let apart = now.saturating_sub(then);
+    match apart {
+        _ if point == asked => String::new(),
+        0.. => format!("{} before", lasting(apart)),
+        _ => format!("{} after", lasting(apart)),
+    }
+}
+
+/// A window as a rule writes it.
+pub fn within(within: Within) -> String {
+    format!("within {}{}", within.amount, ["s", "m", "h", "d"][within.unit as usize & 3])
+}
+
+/// The window in words: its times, and how many points lie in it.
+pub fn window_words(opened: &Opened, timeline: &Timeline) -> String {
+    let (span, now) = (seconds(timeline.within), opened.time(timeline.asked).0);
+    let within = within(timeline.within);
+    if span < 0 {
+        return format!("{within}: no point lies in a negative window");
+    }
+    let from = now.checked_sub(span).map_or("the beginning of time".to_string(), clock);
+    let times = format!("{within}: from {from} to {}", clock(now));
+    if timeline.scan == Scan::Previous {
+        return times;
+    }
+    let (inside, all) = (timeline.inside(), timeline.moments.len());
+    format!("{times}; {inside} of the {all} points up to point {} lie in it", timeline.asked)
+}
+
+/// What happened at a point: the action with its namespace and kind.
+pub fn action(opened: &Opened, point: usize) -> String {
+    let Some(point) = opened.case.point(PointNo(point)) else { return String::new() };
+    let mut names: Vec<&str> = point.namespace().collect();
+    names.push(point.action());
+    let kind = if point.kind() == "request" { String::new() } else { format!("/{}", point.kind()) };
+    names.join("::") + &kind
+}
+
+/// The logged fields of a point, as names and values of the case.
+pub fn fields(opened: &Opened, point: usize) -> Vec<(String, u32)> {
+    let logged = casefile::Point::read(opened.tables.points[point]).logged;
+    match opened.case.value(logged) {
+        Some(Value::Object(members)) => members.into_iter().map(|(name, value)| (name.to_string(), value)).collect(),
+        _ => Vec::new(),
+    }
+}
+
+/// The logged fields in words, as `board: "b1", n: 3`.
+pub fn fields_words(opened: &Opened, point: usize) -> String {
+    let word =
+        |(name, value): &(String, u32)| format!("{name}: {}", show::text(&opened.case, Some(Bound::Value(*value))));
+    fields(opened, point).iter().map(word).collect::<Vec<_>>().join(", ")
+}
+
+/// A text cut to so many characters; control characters are dropped.
+pub fn cut(text: &str, most: usize) -> String {
+    let plain: Vec<char> = text.chars().map(|c| if c.is_control() { ' ' } else { c }).collect();
+    if plain.len() <= most {
+        plain.into_iter().collect()
+    } else {
+        plain[..most - 1].iter().chain(['…'].iter()).collect()
+    }
+}
+
+pub fn yes_or_no(yes: bool) -> &'static str {
+    if yes {
+        "yes"
+    } else {
+        "no"
+    }
+}

@@ -7,7 +7,7 @@ use Prim.Native.Nat.{ℕ}
 use lib.IntN.{ℤ, pos}
 use Rattle.meaning.specs.declared.Limits.{Limits}
 use Rattle.meaning.specs.declared.Node.{Node}
-use Rattle.meaning.specs.declared.Node.the-variants.{Not, Formerly, Predicate, Exists, Literal, Variable}
+use Rattle.meaning.specs.declared.Node.the-variants.{Not, Formerly, Previous, Since, Predicate, Exists, Literal, Variable}
 use Rattle.meaning.specs.declared.NodeNo.{NodeNo}
 use Rattle.meaning.specs.declared.Run.{Run}
 use Rattle.meaning.specs.declared.Interval.{Interval}
@@ -120,6 +120,8 @@ examples :
     asked (since 4 2 hour) 3 9 0 (9 ∷ 9 ∷ 9 ∷ []) ∷
     asked (since 3 2 hour) 3 9 0 (9 ∷ 9 ∷ 9 ∷ []) ∷  -- Flash since Review
     asked (since 2 3 hour) 3 9 0 (9 ∷ 9 ∷ []) ∷  -- Review since Flash: at 3 itself
+    asked (formerly hour 4) 2 9 0 (9 ∷ []) ∷  -- formerly Review("b1") at 2: past point 1, which is later
+    asked (since 3 4 hour) 3 9 0 (9 ∷ 9 ∷ 9 ∷ []) ∷  -- Flash since Review("b1"): left holds at 1, fails at 2
     []) ≡ (
     gave true 1 (2 ∷ 9 ∷ []) ∷
     gave true 1 (0 ∷ 9 ∷ []) ∷
@@ -138,6 +140,8 @@ examples :
     refused·no 15 0 0 (9 ∷ 9 ∷ 9 ∷ []) ∷
     gave true 2 (2 ∷ 3 ∷ 9 ∷ []) ∷
     gave true 1 (3 ∷ 9 ∷ []) ∷
+    gave true 1 (0 ∷ []) ∷
+    gave false 2 (0 ∷ 2 ∷ 9 ∷ []) ∷
     [])
 unfolding got gave refused·no asked hour secs upto made _and_ choose onlyIf isSome orElse pick places runOf highest lowest clamp calculate secondsOf seconds inWindow seen see sameList sameParts alike sameValue asValue same boundOf integer named members descend boundAt fieldAt at blank with without withoutAll over give visit adding dropping _>>=_ started after run·Walk ending outcome earlier unbinding latest now lending condition term ifYes unlessYes oneRow notVerdict existsVerdict given matchField matchArguments sameEvent match predicate names arguments meaningOf noMeaning meaning firsts question numberOf met down before bodyTurn leftTurn leftFrom anchorTurn askedAt seenFrom turnAt scanOf carriedBy shown listed
 examples = refl
@@ -147,3 +151,10 @@ only-these :
     map looksBack (Formerly hour (record { 0 = 2 }) ∷ Not (record { 0 = 8 }) ∷ Literal (record { 0 = 0 }) ∷ []) ≡ (true ∷ false ∷ false ∷ [])
 unfolding looksBack lookOf isSome hour
 only-these = refl
+
+-- each by its own window and children
+which :
+    map lookOf (Formerly hour (record { 0 = 2 }) ∷ Previous hour (record { 0 = 2 }) ∷ Since (record { 0 = 2 }) (record { 0 = 3 }) hour ∷ [])
+    ≡ (some (formerly hour 2) ∷ some (previous hour 2) ∷ some (since 2 3 hour) ∷ [])
+unfolding lookOf hour
+which = refl

@@ -7,14 +7,13 @@ use mathlib.Core.Path.{_∙_, _≡_, sym}
 use Rattle.meaning.specs.Case.{list}
 use Rattle.meaning.specs.Check.{argumentRule}
 use Rattle.meaning.specs.Tests.{_and_}
-use Rattle.meaning.specs.Text.{before}
 use Rattle.nodecheck.specs.Laws.{argument-is}
 use Rattle.nodecheck.specs.Terms.{argumentOwn}
 use Rattle.nodecheck.proofs.argument_rule.Statement.{statement}
 use Rattle.nodecheck.proofs.argument_rule.Tie as tie
 
-is : (s : List ℕ) (n i d : ℕ) (own r : Bool) → own ≡ argumentOwn s i → d ≡ list s (i + 2) → r ≡ (own and ltb d n) → r ≡ argumentRule s n i
-is s n i d own r eo ed er = er ∙ rw (eo, ed) (sym (argument-is s n i))
+argument-read : (s : List ℕ) (n i : ℕ) {d : ℕ} {own r : Bool} → r ≡ (own and ltb d n) → own ≡ argumentOwn s i → d ≡ list s (i + 2) → r ≡ argumentRule s n i
+argument-read s n i er eo ed = er ∙ rw (eo, ed) (sym (argument-is s n i))
 
 argument-own-requires : tie.Need-argument-own-requires
 argument-own-requires c κs = search needs
@@ -29,7 +28,7 @@ both-requires : tie.Need-both-requires
 both-requires c κs = search needs
 
 returns : tie.Need-returns
-returns c = is _ _ _ _ _ _ (c .before .before .argument-own .ensures) (c .before .list-at .ensures) (c .both .ensures)
+returns c = search (argument-read, needs)
 
 pub argument-rule-spec : {M : Type 1} → statement M
 argument-rule-spec =

@@ -1,25 +1,35 @@
 use borrow.Author.Needs.{needs}
 use borrow.Author.Tests.{not-false, not-true}
-use mathlib.Core.Path.{_∙_, sym}
+use mathlib.Core.Bool.{Bool, false, not, true}
+use mathlib.Core.Path.{_∙_, _≡_, sym}
 use Rattle.meaning.specs.Check.{nodeRules}
 use Rattle.meaning.specs.Laws.Tests.{after, stop}
-use Rattle.meaning.specs.Text.{before}
+use Rattle.meaning.specs.Tests.{_and_}
 use Rattle.nodecheck.proofs.check_nodes.Statement.{statement}
 use Rattle.nodecheck.proofs.check_nodes.Tie as tie
+
+each-broken : {r e : Bool} (h : Bool) → not r ≡ true → r ≡ e → false ≡ (e and h)
+each-broken h n is = sym (stop _ (sym is ∙ not-true _ n))
+
+each-passed : {r e : Bool} → not r ≡ false → r ≡ e → e ≡ true
+each-passed n is = sym is ∙ not-false _ n
+
+then-heights : {r e h q : Bool} → not r ≡ false → r ≡ e → q ≡ h → q ≡ (e and h)
+then-heights n is f = f ∙ sym (after (each-passed n is))
 
 check-each-node-requires : tie.Need-check-each-node-requires
 check-each-node-requires c κs = search needs
 
 returns : tie.Need-returns
 unfolding nodeRules
-returns c = sym (stop _ (sym (c .before .check-each-node .ensures) ∙ not-true _ (c .if1 .taken)))
+returns c = search (each-broken, needs)
 
 check-heights-requires : tie.Need-check-heights-requires
-check-heights-requires c κs = (c .before .before .before .pre .0, (c .before .before .before .pre .1 .0, sym (c .before .check-each-node .ensures) ∙ not-false _ (c .if1 .left)))
+check-heights-requires c κs = search (each-passed, needs)
 
 returns-2 : tie.Need-returns-2
 unfolding nodeRules
-returns-2 c = c .check-heights .ensures ∙ sym (after (sym (c .before .before .check-each-node .ensures) ∙ not-false _ (c .before .if1 .left)))
+returns-2 c = search (then-heights, needs)
 
 pub check-nodes-spec : {M : Type 1} → statement M
 check-nodes-spec =

@@ -1,19 +1,17 @@
 use borrow.Author.Needs.{needs}
 use Rattle.meaning.specs.Check.{ruleOf}
-use Rattle.meaning.specs.Laws.Tests.{both}
-use Rattle.meaning.specs.Text.{before}
 use Rattle.nodecheck.proofs.Parts.{and3}
 use Rattle.nodecheck.proofs.count_rule.Statement.{statement}
 use Rattle.nodecheck.proofs.count_rule.Tie as tie
 
 variable-run-requires : tie.Need-variable-run-requires
-variable-run-requires c κs = c .before .pre
+variable-run-requires c κs = search needs
 
 is-condition-requires : tie.Need-is-condition-requires
-is-condition-requires c κs = c .before .before .pre .0
+is-condition-requires c κs = search needs
 
 zeros-from-requires : tie.Need-zeros-from-requires
-zeros-from-requires c κs = (c .before .before .before .pre .0, search needs)
+zeros-from-requires c κs = search needs
 
 both-requires : tie.Need-both-requires
 both-requires c κs = search needs
@@ -23,7 +21,7 @@ both-requires-2 c κs = search needs
 
 returns : tie.Need-returns
 unfolding ruleOf
-returns c = and3 (c .before .before .before .before .variable-run .ensures) (c .before .before .before .is-condition .ensures) (c .before .before .zeros-from .ensures) (c .before .both .ensures) (c .both2 .ensures)
+returns c = search (and3, needs)
 
 pub count-rule-spec : {M : Type 1} → statement M
 count-rule-spec =

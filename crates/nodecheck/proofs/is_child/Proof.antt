@@ -6,14 +6,12 @@ use mathlib.Core.List.{List}
 use mathlib.Core.Path.{_∙_, _≡_, refl}
 use Rattle.meaning.specs.Case.{nodeWord}
 use Rattle.meaning.specs.Check.{childIn, kind}
-use Rattle.meaning.specs.Laws.Tests.{both}
 use Rattle.meaning.specs.Tests.{_and_}
-use Rattle.meaning.specs.Text.{before}
 use Rattle.nodecheck.proofs.is_child.Statement.{statement}
 use Rattle.nodecheck.proofs.is_child.Tie as tie
 
-is : (s : List ℕ) (low high n c kind : ℕ) (x r : Bool) → kind ≡ nodeWord s c 0 → x ≡ (leb low kind and leb kind high) → r ≡ (ltb c n and x) → r ≡ childIn s low high n c
-is s low high n c kind x r e f g = g ∙ rw (f, e) refl
+child-read : (s : List ℕ) (low high n c : ℕ) {kind : ℕ} {x r : Bool} → r ≡ (ltb c n and x) → x ≡ (leb low kind and leb kind high) → kind ≡ nodeWord s c 0 → r ≡ childIn s low high n c
+child-read s low high n c g f e = g ∙ rw (f, e) refl
 
 node-word-requires : tie.Need-node-word-requires
 node-word-requires c κs = search needs
@@ -25,7 +23,7 @@ both-requires-2 : tie.Need-both-requires-2
 both-requires-2 c κs = search needs
 
 returns : tie.Need-returns
-returns c = is _ _ _ _ _ _ _ _ (c .before .before .node-word .ensures) (c .before .both .ensures) (c .both2 .ensures)
+returns c = search (child-read, needs)
 
 pub is-child-spec : {M : Type 1} → statement M
 is-child-spec = tie.close (tie.spec node-word-requires both-requires both-requires-2 returns)

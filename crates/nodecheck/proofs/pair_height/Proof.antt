@@ -3,12 +3,11 @@ use borrow.Author.Needs.{needs}
 use lib.ListN.{getD}
 use mathlib.Core.List.{List}
 use mathlib.Core.Path.{_∙_, _≡_, refl}
-use Rattle.meaning.specs.Text.{before}
 use Rattle.nodecheck.proofs.pair_height.Statement.{statement}
 use Rattle.nodecheck.proofs.pair_height.Tie as tie
 
-is : (table : List ℕ) (l r a b q : ℕ) → a ≡ l → b ≡ r → q ≡ max (getD table a 0) (getD table b 0) → q ≡ max (getD table l 0) (getD table r 0)
-is table l r a b q e f g = g ∙ rw (e, f) refl
+larger-read : (table : List ℕ) {l r a b q : ℕ} → q ≡ max (getD table a 0) (getD table b 0) → a ≡ l → b ≡ r → q ≡ max (getD table l 0) (getD table r 0)
+larger-read table g e f = g ∙ rw (e, f) refl
 
 wide-requires : tie.Need-wide-requires
 wide-requires c κs = search needs
@@ -26,7 +25,7 @@ larger-byte-requires : tie.Need-larger-byte-requires
 larger-byte-requires c κs = search needs
 
 returns : tie.Need-returns
-returns c = is (c .before .before .before .before .before .args .heights .now) _ _ _ _ _ (c .before .before .before .before .wide .ensures) (c .before .before .before .wide2 .ensures) (c .larger-byte .ensures)
+returns c = search (larger-read, needs)
 
 pub pair-height-spec : {M : Type 1} → statement M
 pair-height-spec =

@@ -1,22 +1,20 @@
 use borrow.Author.Needs.{needs}
 use Rattle.meaning.specs.Check.{ruleOf}
-use Rattle.meaning.specs.Laws.Tests.{both}
-use Rattle.meaning.specs.Text.{before}
 use Rattle.nodecheck.proofs.Parts.{and4}
 use Rattle.nodecheck.proofs.sum_rule.Statement.{statement}
 use Rattle.nodecheck.proofs.sum_rule.Tie as tie
 
 variable-run-requires : tie.Need-variable-run-requires
-variable-run-requires c κs = c .before .pre
+variable-run-requires c κs = search needs
 
 is-variable-requires : tie.Need-is-variable-requires
-is-variable-requires c κs = c .before .before .pre .0
+is-variable-requires c κs = search needs
 
 is-condition-requires : tie.Need-is-condition-requires
-is-condition-requires c κs = c .before .before .before .pre .0
+is-condition-requires c κs = search needs
 
 zeros-from-requires : tie.Need-zeros-from-requires
-zeros-from-requires c κs = (c .before .before .before .before .pre .0, search needs)
+zeros-from-requires c κs = search needs
 
 both-requires : tie.Need-both-requires
 both-requires c κs = search needs
@@ -29,7 +27,7 @@ both-requires-3 c κs = search needs
 
 returns : tie.Need-returns
 unfolding ruleOf
-returns c = and4 (c .before .before .before .before .before .is-variable .ensures) (c .before .before .before .before .before .before .variable-run .ensures) (c .before .before .before .before .is-condition .ensures) (c .before .before .before .zeros-from .ensures) (c .before .before .both .ensures) (c .before .both2 .ensures) (c .both3 .ensures)
+returns c = search (and4, needs)
 
 pub sum-rule-spec : {M : Type 1} → statement M
 sum-rule-spec =

@@ -1,21 +1,19 @@
 use borrow.Author.Needs.{needs}
-use Rattle.meaning.specs.Laws.Tests.{both}
-use Rattle.meaning.specs.Text.{before}
 use Rattle.nodecheck.proofs.Parts.{and2}
 use Rattle.nodecheck.proofs.variable_rule.Statement.{statement}
 use Rattle.nodecheck.proofs.variable_rule.Tie as tie
 
 is-variable-requires : tie.Need-is-variable-requires
-is-variable-requires c κs = c .before .pre
+is-variable-requires c κs = search needs
 
 zeros-from-requires : tie.Need-zeros-from-requires
-zeros-from-requires c κs = (c .before .before .pre, search needs)
+zeros-from-requires c κs = search needs
 
 both-requires : tie.Need-both-requires
 both-requires c κs = search needs
 
 returns : tie.Need-returns
-returns c = and2 (c .before .before .is-variable .ensures) (c .before .zeros-from .ensures) (c .both .ensures)
+returns c = search (and2, needs)
 
 pub variable-rule-spec : {M : Type 1} → statement M
 variable-rule-spec =

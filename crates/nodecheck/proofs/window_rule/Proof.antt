@@ -1,21 +1,16 @@
-use Prim.Native.Nat.{ℕ}
 use borrow.Author.Needs.{needs}
-use lib.Dec.{leb}
-use mathlib.Core.Path.{ap}
-use Rattle.meaning.specs.Laws.Tests.{both}
-use Rattle.meaning.specs.Text.{before}
-use Rattle.nodecheck.proofs.Parts.{and3}
+use Rattle.nodecheck.proofs.Parts.{and3, word-most}
 use Rattle.nodecheck.proofs.window_rule.Statement.{statement}
 use Rattle.nodecheck.proofs.window_rule.Tie as tie
 
 node-word-requires : tie.Need-node-word-requires
-node-word-requires c κs = c .before .pre
+node-word-requires c κs = search needs
 
 is-condition-requires : tie.Need-is-condition-requires
-is-condition-requires c κs = c .before .before .pre
+is-condition-requires c κs = search needs
 
 zeros-from-requires : tie.Need-zeros-from-requires
-zeros-from-requires c κs = (c .before .before .before .pre, search needs)
+zeros-from-requires c κs = search needs
 
 both-requires : tie.Need-both-requires
 both-requires c κs = search needs
@@ -24,7 +19,7 @@ both-requires-2 : tie.Need-both-requires-2
 both-requires-2 c κs = search needs
 
 returns : tie.Need-returns
-returns c = and3 (ap (λ (u : ℕ). leb u 3) (c .before .before .before .before .node-word .ensures)) (c .before .before .before .is-condition .ensures) (c .before .before .zeros-from .ensures) (c .before .both .ensures) (c .both2 .ensures)
+returns c = search (and3, word-most, needs)
 
 pub window-rule-spec : {M : Type 1} → statement M
 window-rule-spec =

@@ -49,7 +49,8 @@ impl Definitions {
         let mut files = Vec::new();
         for path in paths {
             let name = path.file_stem().unwrap_or_default().to_string_lossy().into_owned();
-            if !["Lib", "Laws", "Examples", "Demands"].contains(&name.as_str()) {
+            let besides = ["Lib", "Laws", "Examples", "CarriedExamples", "Written", "Single", "Demands"];
+            if !besides.contains(&name.as_str()) {
                 files.push((name, unfoldable(&fs::read_to_string(&path)?)));
             }
         }

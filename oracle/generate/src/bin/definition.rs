@@ -24,6 +24,7 @@ const ROOM: u64 = 40;
 const BATCH: usize = 60;
 /// What the prover computes in its limit.
 const MOST_BYTES: usize = 4_096;
+const MOST_VISITS: u64 = 1_000;
 /// By plain descent these take 2^63 visits; the law `height-is` of the definition stands for them.
 const TOO_TALL: [&str; 2] = ["height 64", "height 65"];
 
@@ -93,6 +94,24 @@ fn write_crate(folder: &Path, definitions: &Definitions, batch: &[Claim]) -> Res
     fs::write(folder.join("specs/Claims.antt"), text)
 }
 
+/// Whether the prover computes what is asked of the file in its limit.
+fn small(bytes: &[u8]) -> bool {
+    bytes.len() <= MOST_BYTES && Tables::decode(bytes).map_or(true, |tables| most_visits(&tables) <= MOST_VISITS)
+}
+
+/// How many values are met by plain descent, as the definition goes, in the value where they are most:
+/// values that share their parts double at each level.
+fn most_visits(tables: &Tables) -> u64 {
+    let mut visits: Vec<u64> = Vec::new();
+    for &[kind, first, count, _] in &tables.values {
+        let parts = tables.members.iter().skip(first as usize).take(count as usize);
+        let below = parts.map(|member| visits.get(member[1] as usize).copied().unwrap_or(0));
+        let below = if kind == 6 || kind == 7 { below.fold(0, u64::saturating_add) } else { 0 };
+        visits.push(below.saturating_add(1));
+    }
+    visits.into_iter().max().unwrap_or(0)
+}
+
 // ---- questions
 
 fn questions(random: &mut Random, count: usize) -> Vec<Claim> {
@@ -100,7 +119,7 @@ fn questions(random: &mut Random, count: usize) -> Vec<Claim> {
     while claims.len() < count {
         let profile = if random.percent(60) { Profile::TINY } else { Profile::SMALL };
         let case = random_case(random, profile);
-        if case.bytes.len() > MOST_BYTES {
+        if !small(&case.bytes) {
             continue;
         }
         for _ in 0..random.between(3, 8).min(count - claims.len()) {
@@ -160,7 +179,6 @@ fn said(kind: Kind, outcome: &Outcome) -> String {
 
 /// Those made to break or just keep one rule, then damaged cases.
 fn files(random: &mut Random, count: usize) -> Result<Vec<Claim>> {
-    let small = |bytes: &[u8]| bytes.len() <= MOST_BYTES;
     let mut claims = Vec::new();
     for file in rule_files() {
         let tall = TOO_TALL.iter().any(|name| file.rule.contains(name));

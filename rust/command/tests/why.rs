@@ -126,6 +126,38 @@ formerly within 10s Review()
     assert!(output.contains("\n  within -5s: no point lies in a negative window\n"), "{output}");
 }
 
+/// Whether a point lies in a window is told to the second, and to the ends of what 64 bits hold.
+#[test]
+fn windows_edges_are_exact() {
+    // No point lies in a negative window, and none is said to lie so far back.
+    let (_, output) = why("point 10 A\npoint 5 B\nrule r = formerly within -5s A()", &[]);
+    assert_eq!(remarks(&output), ["stamped later", "asked here"]);
+    // A day, an hour, a minute and a second: one second decides.
+    let day = "point 0 A\npoint 90061 B\npoint 90062 B\nrule r = formerly within 90061s A()";
+    let (status, output) = why(day, &["--point", "1"]);
+    assert_eq!(
+        (status, output.contains("  1d 1h 1m 1s before  A              carried the yes\n")),
+        (0, true),
+        "{output}"
+    );
+    let (status, output) = why(day, &[]);
+    assert_eq!((status, output.contains("  1d 1h 1m 2s before  A              too old\n")), (1, true), "{output}");
+    assert!(output.contains("\n  -- the window begins at 1, 1d 1h 1m 1s back --\n"), "{output}");
+    // A window that saturates holds every earlier time, those too that lie further back than it is long.
+    let ends = "point -5 A\npoint 9223372036854775807 B\nrule all = formerly within 9223372036854775807d A()\n\
+                rule most = formerly within 9223372036854775806s A()";
+    let (status, output) = why(ends, &["--rule", "all"]);
+    assert_eq!(status, 0);
+    assert!(output.contains(": from the beginning of time to 9223372036854775807; 2 of\n"), "{output}");
+    assert!(output.contains("  106751991167300d 15h 30m 12s before  "), "{output}");
+    let (_, json) = why(ends, &["--rule", "all", "--json"]);
+    assert!(json.contains(r#""from":-9223372036854775808,"to":9223372036854775807,"inside":2"#), "{json}");
+    let dashed = "stroke=\"#667080\" stroke-dasharray=\"3 2\"";
+    assert!(!picture(ends, &["--rule", "all"]).contains(dashed), "the window's beginning is not in the picture");
+    assert!(picture(ends, &["--rule", "most"]).contains(dashed), "here it is");
+    assert!(why(ends, &["--rule", "most"]).1.contains(": from 1 to 9223372036854775807; 1 of the 2 points up to\n"));
+}
+
 #[test]
 fn previous_shows_the_point_before() {
     let expected = r#"no: before at point 3, time 120

@@ -1,6 +1,6 @@
 //! `why` as one line of JSON.
 
-use super::timeline::{seconds, Did, Line, Moment, Scan, Seen, Timeline};
+use super::timeline::{begins, seconds, Did, Line, Moment, Scan, Seen, Timeline};
 use super::told::{action, fields, Told};
 use crate::json::Object;
 use crate::opened::Opened;
@@ -27,7 +27,8 @@ pub fn part(opened: &Opened, told: &Told) -> String {
 fn of_timeline(opened: &Opened, timeline: &Timeline, object: Object) -> Object {
     let (span, now) = (seconds(timeline.within), opened.time(timeline.asked).0);
     let window = Object::new().plain("seconds", span);
-    let window = if span < 0 { window } else { window.plain("from", now.saturating_sub(span)).plain("to", now) };
+    let from = begins(timeline.within, now).unwrap_or(i64::MIN);
+    let window = if span < 0 { window } else { window.plain("from", from).plain("to", now) };
     let kind = match timeline.scan {
         Scan::Formerly => "formerly",
         Scan::Previous => "previous",

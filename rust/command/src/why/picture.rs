@@ -3,7 +3,7 @@
 
 use std::collections::BTreeSet;
 
-use super::timeline::{seconds, Did, Line, Moment, Seen, Timeline};
+use super::timeline::{begins, seconds, Did, Line, Moment, Seen, Timeline};
 use super::told::{action, before, bound_words, clock, fields_words, window_words, yes_or_no, Told};
 use super::words::{at, stretch, Edges};
 use crate::ask::Question;
@@ -390,10 +390,11 @@ impl Scale {
         let times = || timeline.moments.iter().map(|moment| i128::from(opened.time(moment.point).0));
         let (first, last) = (times().min().unwrap_or(0), times().max().unwrap_or(0));
         let mut scale = Scale { left, right, first, last, window: None, begins: false };
-        let (span, now) = (i128::from(seconds(timeline.within)), i128::from(opened.time(timeline.asked).0));
-        if span >= 0 {
-            scale.begins = now - span >= first;
-            scale.window = Some((if scale.begins { scale.place(now - span) } else { left - 8.0 }, scale.place(now)));
+        let now = opened.time(timeline.asked).0;
+        if seconds(timeline.within) >= 0 {
+            let from = begins(timeline.within, now).filter(|&from| i128::from(from) >= first);
+            scale.begins = from.is_some();
+            scale.window = Some((from.map_or(left - 8.0, |from| scale.at(from)), scale.at(now)));
         }
         scale
     }

@@ -216,6 +216,12 @@ pub fn seconds(within: Within) -> i64 {
     within.amount.saturating_mul([1, 60, 3_600, 86_400][within.unit as usize & 3])
 }
 
+/// The earliest time in a window, seen from a time; None where it reaches back to the beginning of time. So does the
+/// longest span that 64 bits hold, for no two times count as further apart.
+pub fn begins(within: Within, now: i64) -> Option<i64> {
+    now.checked_sub(seconds(within)).filter(|_| seconds(within) < i64::MAX)
+}
+
 /// The points as lines: long stretches of alike points are one line, and no more lines than can be read.
 fn folded(moments: &[Moment], asked: usize) -> Vec<Line> {
     if moments.len() <= ALL_SHOWN {

@@ -4,7 +4,7 @@ use casefile::text::NodeTexts;
 use casefile::{time, Within};
 use galivodern::{Bound, PointNo, Value};
 
-use super::timeline::{seconds, Scan, Timeline};
+use super::timeline::{begins, seconds, Scan, Timeline};
 use super::walk::{By, Part};
 use crate::ask::Question;
 use crate::failure::Failure;
@@ -86,12 +86,12 @@ pub fn clock(seconds: i64) -> String {
     date.unwrap_or_else(|| seconds.to_string())
 }
 
-/// So many seconds, in the two largest units that they have.
-pub fn lasting(seconds: i64) -> String {
-    let mut left = seconds.unsigned_abs();
+/// So many seconds, to the second: the edge of a window lies between two of them.
+pub fn lasting(seconds: u64) -> String {
+    let mut left = seconds;
     let mut parts = Vec::new();
     for (unit, letter) in [(86_400, 'd'), (3_600, 'h'), (60, 'm'), (1, 's')] {
-        if left >= unit && parts.len() < 2 {
+        if left >= unit {
             parts.push(format!("{}{letter}", left / unit));
         }
         left %= unit;
@@ -106,12 +106,10 @@ pub fn lasting(seconds: i64) -> String {
 /// How long before the point asked about a point was stamped; nothing for that point itself.
 pub fn before(opened: &Opened, asked: usize, point: usize) -> String {
     let (now, then) = (opened.time(asked).0, opened.time(point).0);
-    let apart = now.saturating_sub(then);
-    match apart {
-        _ if point == asked => String::new(),
-        0.. => format!("{} before", lasting(apart)),
-        _ => format!("{} after", lasting(apart)),
+    if point == asked {
+        return String::new();
     }
+    format!("{} {}", lasting(now.abs_diff(then)), if then <= now { "before" } else { "after" })
 }
 
 /// A window as a rule writes it.
@@ -126,7 +124,7 @@ pub fn window_words(opened: &Opened, timeline: &Timeline) -> String {
     if span < 0 {
         return format!("{within}: no point lies in a negative window");
     }
-    let from = now.checked_sub(span).map_or("the beginning of time".to_string(), clock);
+    let from = begins(timeline.within, now).map_or("the beginning of time".to_string(), clock);
     let times = format!("{within}: from {from} to {}", clock(now));
     if timeline.scan == Scan::Previous {
         return times;

@@ -1,6 +1,6 @@
 //! `why` in words: the verdict, and under it a timeline for each part that decided.
 
-use super::timeline::{Did, Line, Moment, Seen, Timeline};
+use super::timeline::{begins, seconds, Did, Line, Moment, Seen, Timeline};
 use super::told::{action, before, bound_words, clock, cut, fields_words, lasting, window_words, yes_or_no, Told};
 use crate::ask::Question;
 use crate::help::wrapped;
@@ -148,16 +148,19 @@ impl Edges {
         let was = std::mem::replace(&mut self.before, is);
         let again = self.inside;
         self.inside |= is == Some(Seen::Inside);
-        let (span, now) = (super::timeline::seconds(timeline.within), opened.time(timeline.asked).0);
+        let (span, now) = (seconds(timeline.within), opened.time(timeline.asked).0);
+        let back = lasting(span.unsigned_abs());
         let edge = match (was?, is?) {
             (was, is) if was == is => return None,
             (_, Seen::Inside) if again => "in the window again".to_string(),
             (Seen::TooOld, Seen::Inside) => {
-                let from = now.checked_sub(span).map_or(String::new(), |from| format!(" at {}", clock(from)));
-                format!("the window begins{from}, {} back", lasting(span))
+                let from = begins(timeline.within, now).map_or(String::new(), |from| format!(" at {}", clock(from)));
+                format!("the window begins{from}, {back} back")
             }
             (_, Seen::Inside) => "in the window".to_string(),
-            (_, Seen::TooOld) => format!("more than {} back", lasting(span)),
+            // A negative window has no edge, the point asked about lies outside, too.
+            (_, Seen::TooOld) if span < 0 => return None,
+            (_, Seen::TooOld) => format!("more than {back} back"),
             (_, Seen::Later) => format!("stamped later than point {}", timeline.asked),
         };
         Some(edge)

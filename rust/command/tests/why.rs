@@ -425,7 +425,29 @@ fn no_timeline_is_longer_than_can_be_read() {
     let (status, output) = why(&text, &[]);
     assert_eq!(status, 1);
     assert!(output.lines().count() < 50, "{output}");
-    assert!(output.contains("points; at 1785 of them right held, but left failed later\n"), "{output}");
+    assert!(output.contains("points; at 1785 right held, but left failed later; at 1785 left failed\n"), "{output}");
+}
+
+/// A stretch of many sorts tells of every point in it that has a part in the verdict.
+#[test]
+fn a_folded_stretch_hides_nothing_that_decided() {
+    let mut text = String::new();
+    for k in 0..80 {
+        let (time, event) = (
+            if k % 2 == 0 { 100_000 + k } else { 10 },
+            ["N", "R", "F"][[2, 20].binary_search(&k).map_or(0, |at| at + 1)],
+        );
+        text.push_str(&format!("point {time} {event}\n"));
+    }
+    text.push_str("point 100100 N\nrule no = not F() since within 1h R()\nrule yes = not G() since within 1h R()\n");
+    text.push_str("rule never = formerly within 1h G()\n");
+    let (status, output) = why(&text, &["--rule", "no"]);
+    assert_eq!((status, remarks(&output)[4].as_str()), (1, "right held here, but left failed at 20"));
+    assert!(output.contains("\n  : 8 to 56: 49 points; at 1 left failed; at 12 left held\n"), "{output}");
+    let (status, output) = why(&text, &["--rule", "yes"]);
+    assert_eq!((status, output.contains("\n  : 8 to 56: 49 points; at 49 left held\n")), (0, true), "{output}");
+    let (status, output) = why(&text, &["--rule", "never"]);
+    assert_eq!((status, output.contains(": 8 to 56: 49 points, none of which decided it\n")), (1, true), "{output}");
 }
 
 // ---- the picture

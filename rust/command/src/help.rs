@@ -66,10 +66,11 @@ fn of_command(command: &CommandSpec) -> String {
     text
 }
 
-/// A text in lines of at most `WIDTH` characters, each with its indent.
+/// A text in lines of at most `WIDTH` characters, each with its indent. What is not broken stays as it is: blanks may
+/// stand in a quoted text.
 pub fn wrapped(text: &str, indent: &str) -> String {
     let mut lines = vec![indent.to_string()];
-    for word in text.split_whitespace() {
+    for word in text.split(' ') {
         let line = lines.last_mut().expect("there is one");
         let empty = line.len() == indent.len();
         if !empty && line.chars().count() + 1 + word.chars().count() > WIDTH {

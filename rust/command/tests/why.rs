@@ -207,6 +207,27 @@ fn an_anchor_may_fail_an_earlier_one() {
     assert_eq!(remarks(&output), expected);
 }
 
+/// Names and values are shown as a case's text has them: none is taken for another, none reaches the terminal raw.
+#[test]
+fn names_and_values_are_shown_as_they_are() {
+    let text = r#"
+point 0 "a\nb\u{1b}[31m"/"k\u{9b}1m" logged {"n: 3, board": "b  1\u{a0}\u{a0}\u{7}", board: "b2"}
+rule r = formerly within 1h "a\nb\u{1b}[31m"/"k\u{9b}1m"("n: 3, board": "b  1\u{a0}\u{a0}\u{7}")
+"#;
+    let (status, output) = why(text, &[]);
+    assert_eq!(status, 0);
+    assert!(output.chars().all(|c| c == '\n' || !c.is_control()), "{output:?}");
+    let event = r#"  "a\nb\u{1b}[31m"/"k\u{9b}1m"  "#;
+    let logged = r#"  board: "b2", "n: 3, board": "b  1\u{a0}\u{a0}\u{7}"  "#;
+    assert!(output.contains(event) && output.contains(logged), "{output}");
+    assert!(output.contains("\"b  1\u{a0}\u{a0}\\u{7}\")\n"), "the rule has its own blanks: {output}");
+    let svg = picture(text, &[]);
+    assert!(svg.chars().all(|c| c == '\n' || !c.is_control()), "{svg:?}");
+    assert!(svg.contains("&quot;b  1\u{a0}\u{a0}\\u{7}&quot;)</text>"), "{svg}");
+    let (_, json) = why(text, &["--json"]);
+    assert!(json.contains("\"event\":\"a\\nb\\u001b[31m/k\u{9b}1m\""), "{json}");
+}
+
 // ---- the walk
 
 /// The parts that are shown: depth, verdict and text of each, in order.

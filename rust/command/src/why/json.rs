@@ -48,7 +48,8 @@ fn of_line(opened: &Opened, timeline: &Timeline, line: Line) -> String {
                 logged.plain(name, show::json(&opened.case, galivodern::Bound::Value(*value)))
             });
             let object = Object::new().plain("point", moment.point).plain("time", time).some("date", date.as_deref());
-            let object = object.text("event", &action(opened, moment.point)).plain("logged", logged.done());
+            let object =
+                object.text("event", &action(opened, moment.point, str::to_string)).plain("logged", logged.done());
             let object = object.text("seen", seen(moment.seen)).text("did", did(moment.did));
             let object = match moment.did {
                 Did::InVain(failed) | Did::FailedInVain(failed) => object.plain("failed_at", failed),

@@ -133,13 +133,21 @@ pub fn window_words(opened: &Opened, timeline: &Timeline) -> String {
     format!("{times}; {inside} of the {all} points up to point {} lie in it", timeline.asked)
 }
 
-/// What happened at a point: the action with its namespace and kind.
-pub fn action(opened: &Opened, point: usize) -> String {
+/// What happened at a point: the action with its namespace and kind, each name as it is told.
+pub fn action(opened: &Opened, point: usize, told: fn(&str) -> String) -> String {
     let Some(point) = opened.case.point(PointNo(point)) else { return String::new() };
-    let mut names: Vec<&str> = point.namespace().collect();
-    names.push(point.action());
-    let kind = if point.kind() == "request" { String::new() } else { format!("/{}", point.kind()) };
+    let names: Vec<String> = point.namespace().chain([point.action()]).map(told).collect();
+    let kind = if point.kind() == "request" { String::new() } else { format!("/{}", told(point.kind())) };
     names.join("::") + &kind
+}
+
+/// A name as a case's text has it: a plain word, or quoted, so that it is taken for nothing else.
+pub fn name(name: &str) -> String {
+    if !name.is_empty() && name.chars().all(|c| c.is_alphanumeric() || c == '_') {
+        name.to_string()
+    } else {
+        format!("{name:?}")
+    }
 }
 
 /// The logged fields of a point, as names and values of the case.
@@ -153,18 +161,18 @@ pub fn fields(opened: &Opened, point: usize) -> Vec<(String, u32)> {
 
 /// The logged fields in words, as `board: "b1", n: 3`.
 pub fn fields_words(opened: &Opened, point: usize) -> String {
-    let word =
-        |(name, value): &(String, u32)| format!("{name}: {}", show::text(&opened.case, Some(Bound::Value(*value))));
+    let word = |(field, value): &(String, u32)| {
+        format!("{}: {}", name(field), show::text(&opened.case, Some(Bound::Value(*value))))
+    };
     fields(opened, point).iter().map(word).collect::<Vec<_>>().join(", ")
 }
 
-/// A text cut to so many characters; control characters are dropped.
+/// A text cut to so many characters.
 pub fn cut(text: &str, most: usize) -> String {
-    let plain: Vec<char> = text.chars().map(|c| if c.is_control() { ' ' } else { c }).collect();
-    if plain.len() <= most {
-        plain.into_iter().collect()
+    if text.chars().count() <= most {
+        text.to_string()
     } else {
-        plain[..most - 1].iter().chain(['…'].iter()).collect()
+        text.chars().take(most - 1).chain(['…']).collect()
     }
 }
 

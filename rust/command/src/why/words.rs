@@ -1,7 +1,9 @@
 //! `why` in words: the verdict, and under it a timeline for each part that decided.
 
 use super::timeline::{begins, seconds, Did, Line, Moment, Seen, Timeline};
-use super::told::{action, before, bound_words, clock, cut, fields_words, lasting, window_words, yes_or_no, Told};
+use super::told::{
+    action, before, bound_words, clock, cut, fields_words, lasting, name, window_words, yes_or_no, Told,
+};
 use crate::ask::Question;
 use crate::help::wrapped;
 use crate::opened::Opened;
@@ -100,7 +102,8 @@ fn row(opened: &Opened, timeline: &Timeline, line: Line) -> Row {
             let point = moment.point;
             let fields = cut(&fields_words(opened, point), MOST_FIELDS);
             let time = clock(opened.time(point).0);
-            let cells = [point.to_string(), time, before(opened, timeline.asked, point), action(opened, point), fields];
+            let event = action(opened, point, name);
+            let cells = [point.to_string(), time, before(opened, timeline.asked, point), event, fields];
             Row { mark: mark(moment), cells, says }
         }
         Line::Alike(Moment { point: from, .. }, to) | Line::Mixed { from, to, .. } => {

@@ -336,6 +336,55 @@ fn parts_that_say_another_thing_are_not_shown() {
     assert!(json.contains(r#""answer":false,"how":"its parts cannot be shown apart: "#), "{json}");
 }
 
+/// What no value of a variable makes hold is asked with it unbound. Nothing is shown that is not so of every value.
+#[test]
+fn what_differs_with_the_variable_is_not_shown() {
+    let text = r#"
+variables b n
+point 0 Review logged {board: "b1"}
+point 1 Review logged {board: "b2"}
+point 2 Finding logged {board: "b1"}
+point 3 Finding logged {board: "b2"}
+point 4 X logged {n: 3}
+point 5 Y logged {n: 4}
+rule quiet = exists b (not Finding(board: b) since within 1h Review(board: b))
+rule between = exists n (formerly within 1h X(n: n) and (n < 5 or n > 8) and formerly within 1h Y(n: n))
+rule unfound = exists b (formerly within 1h Review(board: b) and not formerly within 1h Finding(board: b))
+rule held = exists b (Finding(board: b) since within 1h Review(board: b))
+rule no_anchor = exists b (not Finding(board: b) since within 1s Review(board: b))
+rule left_apart = exists b (not Y() since within 1h Review(board: b))
+rule no_right = exists b (formerly within 1h Review(board: b) and formerly within 1s Finding(board: b))
+rule lent = exists n (Y(n: n) and not formerly within 1h Y(n: n))
+rule inner_lent = exists n (formerly within 1h (Y(n: n) and n > 4))
+loose rule deeper = exists b exists n (formerly within 1h X(n: n) and not formerly within 1h Finding(board: b) and n < 2)
+"#;
+    let ask = |rule: &str| why(text, &["--rule", rule]);
+    // Of b2 left fails at 3 and not at 2; 3 is less than 5; the review of b1 has a finding of its own.
+    for (rule, variable) in [("quiet", "b"), ("between", "n"), ("unfound", "b"), ("held", "b"), ("deeper", "b")] {
+        let (status, output) = ask(rule);
+        assert_eq!(status, 1, "{rule}");
+        let joined = output.split_whitespace().collect::<Vec<_>>().join(" ");
+        let why = "its parts cannot be shown apart: they differ with what is bound; `--node ";
+        let hint = format!(" --bind {variable}=..` shows them for one {variable}");
+        assert!(joined.contains(why) && joined.contains(&hint), "{rule}: {output}");
+        assert!(!output.contains("what it did"), "{rule}: {output}");
+    }
+    // The hint leads to an answer.
+    let (_, output) = ask("quiet");
+    let node = output.split("--node ").nth(1).and_then(|rest| rest.split(' ').next()).expect("it names a node");
+    let (status, output) = why(text, &["--node", node, "--bind", "b=b2"]);
+    assert_eq!((status, remarks(&output)[1].as_str()), (1, "right held here, but left failed at 3"));
+    // These are so of every value.
+    let (_, output) = ask("no_anchor");
+    assert_eq!(remarks(&output)[5..], ["right did not hold", "right did not hold (asked here)"]);
+    assert_eq!(remarks(&ask("left_apart").1)[0], "right held here, but left failed at 5");
+    let (_, output) = ask("no_right");
+    assert!(output.contains("\n    its right side does not hold:\n"), "left holds for some boards: {output}");
+    assert_eq!(parts(&output)[1], "    no: formerly within 1s Finding(board: b)");
+    assert_eq!(parts(&ask("lent").1)[1], "    no: not (formerly within 1h Y(n: n)) with n = 4");
+    assert_eq!(remarks(&ask("inner_lent").1)[5], "did not hold (asked here)");
+}
+
 /// A rule may share its parts so often that they cannot all be shown.
 #[test]
 fn a_rule_with_many_parts_is_cut_short() {

@@ -1,5 +1,6 @@
 //! `why`: which past event carried the yes, or why there is none.
 
+mod every;
 mod json;
 mod picture;
 mod timeline;

@@ -7,6 +7,7 @@ use casefile::binding::Binding;
 use casefile::{Node, Variables};
 use galivodern::{Bindings, Bound, Carried, Limits, PointNo, Refused, RuleNo, VariableNo};
 
+use super::every::Every;
 use crate::ask::Question;
 
 /// No more parts of one rule are looked at than this: rules may share their parts many times over.
@@ -14,6 +15,8 @@ const MOST_PARTS: usize = 200;
 
 const BOTH: &str = "all of its parts hold";
 const NEITHER: &str = "none of its parts holds";
+const TOO_MUCH: &str = "they take more than the limits allow; allow more with --steps and --room";
+pub const RIGHT_NO: &str = "its left side holds, its right side does not";
 
 /// A part of a rule, the verdict that it has in it, and what decided that.
 pub struct Part {
@@ -33,7 +36,7 @@ pub enum By {
     /// Nothing past: an event or a comparison at the point asked about.
     Itself,
     /// Its parts, none of which shows it alone; why not.
-    Whole(&'static str),
+    Whole(String),
 }
 
 /// A walk at the point asked about.
@@ -59,7 +62,7 @@ impl<'a> Walk<'a> {
         if part.verdict == verdict {
             return Ok(part);
         }
-        Ok(Part { verdict, by: By::Whole("its parts, asked one by one, say another thing"), ..part })
+        Ok(Part { verdict, by: By::Whole("its parts, asked one by one, say another thing".to_string()), ..part })
     }
 
     fn verdict(&self, node: u32, start: &Bindings) -> Result<bool, Refused> {
@@ -74,7 +77,7 @@ impl<'a> Walk<'a> {
         let read = Node::read(opened.tables.nodes[node as usize]).unwrap_or(Node::Wildcard);
         let scans = matches!(read, Node::Formerly { .. } | Node::Previous { .. } | Node::Since { .. });
         if self.looked.get() > MOST_PARTS && !scans {
-            return Ok(of(self.verdict(node, start)?, By::Whole("it has more parts than are shown")));
+            return Ok(of(self.verdict(node, start)?, By::Whole("it has more parts than are shown".to_string())));
         }
         match read {
             Node::Formerly { .. } | Node::Previous { .. } | Node::Since { .. } => {
@@ -108,7 +111,7 @@ impl<'a> Walk<'a> {
         Ok(if second.verdict {
             (true, By::Parts(BOTH, chained(BOTH, first, second)))
         } else {
-            (false, By::Parts("its left side holds, its right side does not", vec![second]))
+            (false, By::Parts(RIGHT_NO, vec![second]))
         })
     }
 
@@ -159,10 +162,20 @@ impl<'a> Walk<'a> {
         }
         let under = bound.iter().fold(under, |under, &(v, to)| under.with(VariableNo(v as u16), to));
         // The body is asked here in another manner than within the rule: its parts are shown if they come to the same.
-        Ok(match self.part(body, &under) {
-            Ok(inner) if inner.verdict == verdict => By::Parts(how, vec![Part { bound, ..inner }]),
-            Ok(_) => By::Whole("what it asks for is put together from several events; list it with `rows`"),
-            Err(_) => By::Whole("they take more than the limits allow; allow more with --steps and --room"),
+        let inner = match self.part(body, &under) {
+            Ok(inner) if inner.verdict != verdict => Err("what it asks for is put together from several events"),
+            Ok(inner) if verdict => Ok(inner),
+            Ok(inner) => {
+                Every::of(&opened.tables, &self.nodes, variable).part(inner).ok_or("they differ with what is bound")
+            }
+            Err(_) => return Ok(By::Whole(TOO_MUCH.to_string())),
+        };
+        Ok(match inner {
+            Ok(inner) => By::Parts(how, vec![Part { bound, ..inner }]),
+            Err(why) => {
+                let name = opened.variable_name(variable);
+                By::Whole(format!("{why}; `--node {body} --bind {name}=..` shows them for one {name}"))
+            }
         })
     }
 }

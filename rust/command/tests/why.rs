@@ -280,6 +280,36 @@ fn what_is_asked_of_the_point_itself_is_told_so() {
     assert_eq!(why("point 1 A\nrule r = 1 < 2", &[]).0, 0);
 }
 
+/// A comparison of what is counted looks back: the numbers are shown.
+#[test]
+fn what_is_counted_is_shown_with_its_number() {
+    let text = format!(
+        "{BENCH}rule most = @reviews + (sum n for b, n where formerly within 1h Flash(board: b, n: n)) > 3 * @reviews\n\
+         rule of(b) = (count for n where formerly within 1h Flash(board: b, n: n)) == 2\n\
+         rule lazy = context.none + (count for n where formerly within 1h Flash(n: n)) == 2\n"
+    );
+    let how = |rule: &str, more: &[&str]| {
+        let (status, output) = why(&text, &[&["--rule", rule], more].concat());
+        assert!(!output.contains("nothing past decided it"), "{output}");
+        (
+            status,
+            output
+                .split("\n  it compares what is counted: ")
+                .nth(1)
+                .map(|how| how.split_whitespace().collect::<Vec<_>>().join(" ")),
+        )
+    };
+    let sum = "sum n for b, n where (formerly within 1h Flash(board: b, n: n)) is 11";
+    assert_eq!(how("most", &[]), (0, Some(format!("count where @reviewed is 1; {sum}"))));
+    let of = "count for n where (formerly within 1h Flash(board: b, n: n)) is";
+    assert_eq!(how("of", &["--bind", "b=b1"]), (0, Some(format!("{of} 2"))));
+    assert_eq!(how("of", &["--bind", "b=b2"]), (1, Some(format!("{of} 0"))));
+    // `ask` answers where the other side has no value, under limits that the count would not fit.
+    let of = "count for n where (formerly within 1h Flash(n: n)) is";
+    assert_eq!(how("lazy", &[]), (1, Some(format!("{of} 2"))));
+    assert_eq!(how("lazy", &["--room", "0"]), (1, Some(format!("{of} more than the limits allow to tell"))));
+}
+
 /// An event on the left of an `and` lends what it binds: the right side is asked under that.
 #[test]
 fn what_an_event_lends_is_shown() {

@@ -64,6 +64,14 @@ fn told(question: &Question, texts: &NodeTexts, part: &Part) -> Result<Told, Str
             told.parts = parts.iter().map(|part| self::told(question, texts, part)).collect::<Result<_, _>>()?;
         }
         By::Itself => told.how = format!("nothing past decided it: it is asked of point {} itself", question.point),
+        By::Numbers(numbers) => {
+            let number = |&(node, number): &(u32, Option<i64>)| {
+                let is = number.map_or("more than the limits allow to tell".to_string(), |number| number.to_string());
+                texts.node(node).map(|text| format!("{text} is {is}"))
+            };
+            let numbers: Vec<String> = numbers.iter().map(number).collect::<Result<_, _>>()?;
+            told.how = format!("it compares what is counted: {}", numbers.join("; "));
+        }
         By::Whole(why) => told.how = format!("its parts cannot be shown apart: {why}"),
     }
     Ok(told)

@@ -2,10 +2,11 @@
 //! chooses which, by the verdicts that they give.
 
 use std::cell::Cell;
+use std::collections::BTreeSet;
 
 use casefile::binding::Binding;
 use casefile::{Node, Variables};
-use galivodern::{Bindings, Bound, Carried, Limits, PointNo, Refused, RuleNo, VariableNo};
+use galivodern::{Answer, Bindings, Bound, Carried, Limits, PointNo, Refused, RuleNo, VariableNo};
 
 use super::every::Every;
 use crate::ask::Question;
@@ -35,6 +36,8 @@ pub enum By {
     Parts(&'static str, Vec<Part>),
     /// Nothing past: an event or a comparison at the point asked about.
     Itself,
+    /// Counts and sums that a comparison has in it, with what they come to; none where that takes too much.
+    Numbers(Vec<(u32, Option<i64>)>),
     /// Its parts, none of which shows it alone; why not.
     Whole(String),
 }
@@ -95,7 +98,32 @@ impl<'a> Walk<'a> {
                 let verdict = self.verdict(node, start)?;
                 Ok(of(verdict, self.exists(verdict, variable, body, start)?))
             }
-            _ => Ok(of(self.verdict(node, start)?, By::Itself)),
+            _ => Ok(of(self.verdict(node, start)?, self.leaf(node, start))),
+        }
+    }
+
+    /// An event or a comparison. What is counted or summed may be past.
+    fn leaf(&self, node: u32, start: &Bindings) -> By {
+        let Question { opened, point, limits, .. } = self.question;
+        let number = |node: u32| match opened.case.ask(PointNo(*point), RuleNo(node), start, *limits).ok()?.value {
+            Answer::Number(number) => Some(number),
+            Answer::Verdict(_) => None,
+        };
+        let mut terms = BTreeSet::from([node]);
+        let mut numbers = Vec::new();
+        while let Some(term) = terms.pop_last() {
+            match Node::read(opened.tables.nodes[term as usize]) {
+                Some(Node::Aggregate { aggregate }) => numbers.push(aggregate),
+                Some(read) => terms.extend(self.nodes.children(read)),
+                None => {}
+            }
+        }
+        numbers.sort_unstable();
+        numbers.dedup();
+        if numbers.is_empty() {
+            By::Itself
+        } else {
+            By::Numbers(numbers.into_iter().map(|node| (node, number(node))).collect())
         }
     }
 

@@ -175,6 +175,8 @@ previous within 1m Flash()
     let (status, output) = why(BENCH, &["--rule", "before", "--point", "2"]);
     let expected = [": 0: 1 point, not asked", "stamped later", "-- in the window --", "asked here"];
     assert_eq!((status, remarks(&output)), (1, expected.map(str::to_string).to_vec()));
+    let json = why(BENCH, &["--rule", "before", "--json"]).1;
+    assert!(json.contains(r#""window":{"seconds":60,"from":60,"to":120},"#), "it counts no points: {json}");
     let yes = why("point 1 A\npoint 2 B\nrule r = previous within 1s A()", &[]);
     assert_eq!((yes.0, remarks(&yes.1)), (0, ["carried the yes", "asked here"].map(str::to_string).to_vec()));
 }
@@ -672,6 +674,12 @@ fn the_picture_is_written_as_every_file_is() {
     answered(&["why", &case, "--svg", &svg, "--quiet"], 1, "");
     refused(&["why", &case, "--svg", &case], "this is the file that is read");
     assert_eq!(std::fs::read_to_string(&case).expect("it is there"), HEADLINE);
+    // The names of a packed case are read, too.
+    let (packed, names) = (format!("{case}.bin"), format!("{case}.bin.names"));
+    assert_eq!(run(&["pack", &case, &packed, "--quiet"]).0, 0);
+    let written = std::fs::read_to_string(&names).expect("they were written");
+    refused(&["why", &packed, "--svg", &names], "this is the file that is read");
+    assert_eq!(std::fs::read_to_string(&names).expect("they are there"), written);
     refused(&["why", &case, "--svg", "/nowhere/why.svg"], "/nowhere/why.svg: its folder does not exist: make it first");
     refused(&["why", &case, "--svg", "/tmp"], "this is a directory: name a file in it");
     let message =

@@ -34,7 +34,9 @@ fn of_timeline(opened: &Opened, timeline: &Timeline, object: Object) -> Object {
         Scan::Previous => "previous",
         Scan::Since => "since",
     };
-    let object = object.text("kind", kind).plain("window", window.plain("inside", timeline.inside()).done());
+    // Of Previous only the point before is looked at.
+    let window = if timeline.scan == Scan::Previous { window } else { window.plain("inside", timeline.inside()) };
+    let object = object.text("kind", kind).plain("window", window.done());
     let object = object.list("listed", timeline.listed.iter().map(usize::to_string));
     object.list("timeline", timeline.lines.iter().map(|&line| of_line(opened, timeline, line)))
 }

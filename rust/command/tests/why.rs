@@ -349,6 +349,8 @@ fn exists_is_shown_with_what_is_found() {
     assert_eq!(status, 0);
     assert!(output.contains("\n  it holds with the first that is found:\n"), "{output}");
     assert_eq!(bench("first_found").0, 0);
+    let unbound = "variables n\npoint 1 A\nloose rule r = exists n (A() or not A(n: n))";
+    assert!(why(unbound, &[]).1.contains("\n  it holds with its variable unbound:\n"), "its row has no n");
     let (status, output) = bench("not_found");
     assert_eq!(status, 1);
     assert!(output.contains("\n  there is nothing that makes it hold:\n"), "{output}");

@@ -186,7 +186,12 @@ impl<'a> Walk<'a> {
             let binder = [VariableNo(variable as u16)];
             let found = opened.case.rows(PointNo(*point), RuleNo(body), &binder, &under, *limits)?.value;
             bound.extend(found.get(0).and_then(|row| row.get(0)).map(|first| (variable, first)));
-            how = if found.len() > 1 { "it holds with the first that is found" } else { "it holds with what is found" };
+            how = match found.len() {
+                // Only a loose rule has rows that leave it unbound.
+                _ if bound.is_empty() => "it holds with its variable unbound",
+                0 | 1 => "it holds with what is found",
+                _ => "it holds with the first that is found",
+            };
         }
         let under = bound.iter().fold(under, |under, &(v, to)| under.with(VariableNo(v as u16), to));
         // The body is asked here in another manner than within the rule: its parts are shown if they come to the same.

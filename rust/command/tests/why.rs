@@ -280,6 +280,15 @@ fn what_is_asked_of_the_point_itself_is_told_so() {
     let (status, output) = why(BENCH, &["--rule", "plain", "--point", "0"]);
     assert_eq!((status, output.starts_with("no: plain at point 0, time 100\n")), (1, true));
     assert_eq!(why("point 1 A\nrule r = 1 < 2", &[]).0, 0);
+    // What a variable stands for may be past.
+    let past =
+        "variables n\npoint 1 A logged {n: 3}\npoint 2 B\nrule r = exists n (formerly within 1h A(n: n) and n < 5)";
+    let (status, output) = why(past, &[]);
+    assert_eq!(
+        (status, output.contains("    yes: n < 5\n      it is asked of point 1 itself\n")),
+        (0, true),
+        "{output}"
+    );
 }
 
 /// A comparison of what is counted looks back: the numbers are shown.
@@ -430,6 +439,14 @@ fn a_rule_with_many_parts_is_cut_short() {
     assert_eq!(status, 0);
     assert!(output.contains("its parts cannot be shown apart: it has more parts than are shown"), "{output}");
     assert!(output.len() < 200_000, "{}", output.len());
+    // Where there is nothing to leave out, nothing is said to be left out.
+    let events = text.replace("formerly within 1h A()", "A()");
+    let (_, output) = why(&events, &["--rule", "r10"]);
+    assert!(output.contains(": it has more parts than are shown"), "{output}");
+    assert!(!output
+        .lines()
+        .zip(output.lines().skip(1))
+        .any(|(part, how)| part.ends_with(": A()") && how.contains("more parts")));
     // The whole of it takes more steps than anyone has: that is told, not cut.
     let (status, _, error) = run_with(&["why", "-", "--rule", "r40"], text.as_bytes());
     assert_eq!(status, 2);
@@ -727,6 +744,12 @@ fn refusals_say_what_to_do() {
     refused(&["why"], "`why` takes one file, not 0");
     let (status, output, _) = run(&["why", &case, "--rule", "seen", "--bind", "b=b2"]);
     assert_eq!((status, output.starts_with("yes: seen at point 3")), (0, true));
+    // A yes is of the board that is bound: words, JSON and picture name it.
+    assert!(output.contains("\nformerly within 1h Review(board: b) with b = \"b2\"\n"), "{output}");
+    let json = run(&["why", &case, "--rule", "seen", "--bind", "b=b2", "--json"]).1;
+    assert!(json.contains(r#""answer":true,"bound":{"b":"b2"},"kind":"formerly""#), "{json}");
+    let svg = run(&["why", &case, "--rule", "seen", "--bind", "b=b2", "--svg", "-"]).1;
+    assert!(svg.contains("Review(board: b) with b = &quot;b2&quot;</text>"), "{svg}");
     // Each question has the limits for itself: `ask` takes more steps than `why`.
     assert_eq!(run(&["ask", &case, "--rule", "reviewed", "--point", "1", "--steps", "1"]).0, 2);
     assert_eq!(run(&["why", &case, "--rule", "reviewed", "--point", "1", "--steps", "1"]).0, 0);

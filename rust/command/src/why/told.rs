@@ -63,7 +63,10 @@ fn told(question: &Question, texts: &NodeTexts, part: &Part) -> Result<Told, Str
             told.how = how.to_string();
             told.parts = parts.iter().map(|part| self::told(question, texts, part)).collect::<Result<_, _>>()?;
         }
-        By::Itself => told.how = format!("nothing past decided it: it is asked of point {} itself", question.point),
+        By::Itself { variables } => {
+            let nothing_past = if *variables { "" } else { "nothing past decided it: " };
+            told.how = format!("{nothing_past}it is asked of point {} itself", question.point);
+        }
         By::Numbers(numbers) => {
             let number = |&(node, number): &(u32, Option<i64>)| {
                 let is = number.map_or("more than the limits allow to tell".to_string(), |number| number.to_string());

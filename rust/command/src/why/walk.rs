@@ -34,8 +34,8 @@ pub enum By {
     Points(Carried),
     /// Parts of it, and how.
     Parts(&'static str, Vec<Part>),
-    /// Nothing past: an event or a comparison at the point asked about.
-    Itself,
+    /// An event or a comparison at the point asked about: nothing past, but what its variables may be bound to.
+    Itself { variables: bool },
     /// Counts and sums that a comparison has in it, with what they come to; none where that takes too much.
     Numbers(Vec<(u32, Option<i64>)>),
     /// Its parts, none of which shows it alone; why not.
@@ -54,11 +54,12 @@ impl<'a> Walk<'a> {
         Walk { question, nodes: Binding::of(&question.opened.tables), looked: Cell::new(0) }
     }
 
-    /// The rule that is asked. Its verdict is that of one proved call on the whole of it.
+    /// The rule that is asked, with what is bound at the start. Its verdict is that of one proved call on the whole of it.
     pub fn rule(&self) -> Result<Part, Refused> {
         let Question { asked, start, .. } = self.question;
-        let part = self.part(asked.node, start)?;
-        if matches!(part.by, By::Points(_) | By::Itself) {
+        let bound = self.nodes.free(asked.node).iter().filter_map(|v| Some((v, start.get(VariableNo(v as u16))?)));
+        let part = Part { bound: bound.collect(), ..self.part(asked.node, start)? };
+        if matches!(part.by, By::Points(_) | By::Itself { .. } | By::Numbers(_)) {
             return Ok(part);
         }
         let verdict = self.verdict(asked.node, start)?;
@@ -78,8 +79,8 @@ impl<'a> Walk<'a> {
         let of = |verdict, by| Part { node, verdict, bound: Vec::new(), by };
         self.looked.set(self.looked.get() + 1);
         let read = Node::read(opened.tables.nodes[node as usize]).unwrap_or(Node::Wildcard);
-        let scans = matches!(read, Node::Formerly { .. } | Node::Previous { .. } | Node::Since { .. });
-        if self.looked.get() > MOST_PARTS && !scans {
+        let parted = matches!(read, Node::And { .. } | Node::Or { .. } | Node::Not { .. } | Node::Exists { .. });
+        if self.looked.get() > MOST_PARTS && parted {
             return Ok(of(self.verdict(node, start)?, By::Whole("it has more parts than are shown".to_string())));
         }
         match read {
@@ -121,7 +122,7 @@ impl<'a> Walk<'a> {
         numbers.sort_unstable();
         numbers.dedup();
         if numbers.is_empty() {
-            By::Itself
+            By::Itself { variables: !self.nodes.free(node).is_empty() }
         } else {
             By::Numbers(numbers.into_iter().map(|node| (node, number(node))).collect())
         }

@@ -14,7 +14,7 @@ pub fn words(question: &Question, told: &Told) -> String {
     let (opened, point) = (&question.opened, question.point);
     let asked = question.asked.shown();
     let mut text = format!("{}: {asked} at point {point}, {}\n", yes_or_no(told.verdict), at(opened, point));
-    push(opened, told, "", &told.text, &mut text);
+    push(opened, told, "", &format!("{}{}", told.text, bound_words(opened, &told.bound)), &mut text);
     text
 }
 

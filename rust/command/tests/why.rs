@@ -428,6 +428,14 @@ loose rule deeper = exists b exists n (formerly within 1h X(n: n) and not former
     assert_eq!(remarks(&ask("inner_lent").1)[5], "did not hold (asked here)");
 }
 
+/// However deep a part stands, its sentences are still lines.
+#[test]
+fn deep_parts_are_lines_still() {
+    let (status, output) = why(&format!("point 1 A\nrule r = {}formerly within 0s A()", "not ".repeat(60)), &[]);
+    assert_eq!(status, 0);
+    assert!(output.contains(" within 0s: from 1 to 1; 1 of the 1\n"), "{output}");
+}
+
 /// A rule may share its parts so often that they cannot all be shown.
 #[test]
 fn a_rule_with_many_parts_is_cut_short() {

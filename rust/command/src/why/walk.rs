@@ -54,7 +54,7 @@ impl<'a> Walk<'a> {
         Walk { question, nodes: Binding::of(&question.opened.tables), looked: Cell::new(0) }
     }
 
-    /// The rule that is asked, with what is bound at the start. Its verdict is that of one proved call on the whole of it.
+    /// The rule that is asked, with what is bound at the start. Its verdict is that of one proved call on the whole.
     pub fn rule(&self) -> Result<Part, Refused> {
         let Question { asked, start, .. } = self.question;
         let bound = self.nodes.free(asked.node).iter().filter_map(|v| Some((v, start.get(VariableNo(v as u16))?)));

@@ -143,6 +143,15 @@ fn windows_edges_are_exact() {
     let (status, output) = why(day, &[]);
     assert_eq!((status, output.contains("  1d 1h 1m 2s before  A              too old\n")), (1, true), "{output}");
     assert!(output.contains("\n  -- the window begins at 1, 1d 1h 1m 1s back --\n"), "{output}");
+    // A window that reaches back from a date begins with one, before 1970, too.
+    let dates = "point -900000000 A\npoint 2026-03-01T14:05:00Z B\nrule r = formerly within 30000d A()";
+    let (_, output) = why(dates, &[]);
+    assert!(
+        output.contains("  within 30000d: from 1944-01-11T14:05:00Z to 2026-03-01T14:05:00Z; 1 of the 2"),
+        "{output}"
+    );
+    let (_, output) = why(&dates.replace("30000d", "20000d"), &[]);
+    assert!(output.contains("\n  -- the window begins at 1971-05-29T14:05:00Z, 20000d back --\n"), "{output}");
     // A window that saturates holds every earlier time, those too that lie further back than it is long.
     let ends = "point -5 A\npoint 9223372036854775807 B\nrule all = formerly within 9223372036854775807d A()\n\
                 rule most = formerly within 9223372036854775806s A()";

@@ -97,6 +97,12 @@ pub fn clock(seconds: i64) -> String {
     date.unwrap_or_else(|| seconds.to_string())
 }
 
+/// The beginning of a window, as the time that it is seen from is read: before 1970, too.
+pub fn beginning(from: i64, now: i64) -> String {
+    let date = time::written(now).filter(|_| now >= LEAST_CLOCK).and_then(|_| time::written(from));
+    date.unwrap_or_else(|| clock(from))
+}
+
 /// So many seconds, to the second: the edge of a window lies between two of them.
 pub fn lasting(seconds: u64) -> String {
     let mut left = seconds;
@@ -135,7 +141,7 @@ pub fn window_words(opened: &Opened, timeline: &Timeline) -> String {
     if span < 0 {
         return format!("{within}: no point lies in a negative window");
     }
-    let from = begins(timeline.within, now).map_or("the beginning of time".to_string(), clock);
+    let from = begins(timeline.within, now).map_or("the beginning of time".to_string(), |from| beginning(from, now));
     let times = format!("{within}: from {from} to {}", clock(now));
     if timeline.scan == Scan::Previous {
         return times;

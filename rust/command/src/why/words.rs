@@ -2,7 +2,7 @@
 
 use super::timeline::{begins, seconds, Did, Line, Moment, Seen, Timeline};
 use super::told::{
-    action, before, bound_words, clock, cut, fields_words, lasting, name, window_words, yes_or_no, Told,
+    action, before, beginning, bound_words, clock, cut, fields_words, lasting, name, window_words, yes_or_no, Told,
 };
 use crate::ask::Question;
 use crate::help::wrapped;
@@ -157,7 +157,8 @@ impl Edges {
             (was, is) if was == is => return None,
             (_, Seen::Inside) if again => "in the window again".to_string(),
             (Seen::TooOld, Seen::Inside) => {
-                let from = begins(timeline.within, now).map_or(String::new(), |from| format!(" at {}", clock(from)));
+                let from =
+                    begins(timeline.within, now).map_or(String::new(), |from| format!(" at {}", beginning(from, now)));
                 format!("the window begins{from}, {back} back")
             }
             (_, Seen::Inside) => "in the window".to_string(),

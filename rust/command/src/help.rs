@@ -7,6 +7,8 @@ use crate::Said;
 
 /// Lines of help are no longer than this.
 const WIDTH: usize = 88;
+/// So much stands behind an indent in any case.
+const LEAST: usize = 40;
 
 pub const FIRST: &str = "galivodern asks rules over a board's log: was it reviewed, and is that so still?";
 
@@ -66,13 +68,15 @@ fn of_command(command: &CommandSpec) -> String {
     text
 }
 
-/// A text in lines of at most `WIDTH` characters, each with its indent.
+/// A text in lines of at most `WIDTH` characters, each with its indent. What is not broken stays as it is: blanks may
+/// stand in a quoted text.
 pub fn wrapped(text: &str, indent: &str) -> String {
+    let width = WIDTH.max(indent.len() + LEAST);
     let mut lines = vec![indent.to_string()];
-    for word in text.split_whitespace() {
+    for word in text.split(' ') {
         let line = lines.last_mut().expect("there is one");
         let empty = line.len() == indent.len();
-        if !empty && line.chars().count() + 1 + word.chars().count() > WIDTH {
+        if !empty && line.chars().count() + 1 + word.chars().count() > width {
             lines.push(format!("{indent}{word}"));
         } else {
             line.push_str(if empty { "" } else { " " });

@@ -126,6 +126,47 @@ formerly within 10s Review()
     assert!(output.contains("\n  within -5s: no point lies in a negative window\n"), "{output}");
 }
 
+/// Whether a point lies in a window is told to the second, and to the ends of what 64 bits hold.
+#[test]
+fn windows_edges_are_exact() {
+    // No point lies in a negative window, and none is said to lie so far back.
+    let (_, output) = why("point 10 A\npoint 5 B\nrule r = formerly within -5s A()", &[]);
+    assert_eq!(remarks(&output), ["stamped later", "asked here"]);
+    // A day, an hour, a minute and a second: one second decides.
+    let day = "point 0 A\npoint 90061 B\npoint 90062 B\nrule r = formerly within 90061s A()";
+    let (status, output) = why(day, &["--point", "1"]);
+    assert_eq!(
+        (status, output.contains("  1d 1h 1m 1s before  A              carried the yes\n")),
+        (0, true),
+        "{output}"
+    );
+    let (status, output) = why(day, &[]);
+    assert_eq!((status, output.contains("  1d 1h 1m 2s before  A              too old\n")), (1, true), "{output}");
+    assert!(output.contains("\n  -- the window begins at 1, 1d 1h 1m 1s back --\n"), "{output}");
+    // A window that reaches back from a date begins with one, before 1970, too.
+    let dates = "point -900000000 A\npoint 2026-03-01T14:05:00Z B\nrule r = formerly within 30000d A()";
+    let (_, output) = why(dates, &[]);
+    assert!(
+        output.contains("  within 30000d: from 1944-01-11T14:05:00Z to 2026-03-01T14:05:00Z; 1 of the 2"),
+        "{output}"
+    );
+    let (_, output) = why(&dates.replace("30000d", "20000d"), &[]);
+    assert!(output.contains("\n  -- the window begins at 1971-05-29T14:05:00Z, 20000d back --\n"), "{output}");
+    // A window that saturates holds every earlier time, those too that lie further back than it is long.
+    let ends = "point -5 A\npoint 9223372036854775807 B\nrule all = formerly within 9223372036854775807d A()\n\
+                rule most = formerly within 9223372036854775806s A()";
+    let (status, output) = why(ends, &["--rule", "all"]);
+    assert_eq!(status, 0);
+    assert!(output.contains(": from the beginning of time to 9223372036854775807; 2 of\n"), "{output}");
+    assert!(output.contains("  106751991167300d 15h 30m 12s before  "), "{output}");
+    let (_, json) = why(ends, &["--rule", "all", "--json"]);
+    assert!(json.contains(r#""from":-9223372036854775808,"to":9223372036854775807,"inside":2"#), "{json}");
+    let dashed = "stroke=\"#667080\" stroke-dasharray=\"3 2\"";
+    assert!(!picture(ends, &["--rule", "all"]).contains(dashed), "the window's beginning is not in the picture");
+    assert!(picture(ends, &["--rule", "most"]).contains(dashed), "here it is");
+    assert!(why(ends, &["--rule", "most"]).1.contains(": from 1 to 9223372036854775807; 1 of the 2 points up to\n"));
+}
+
 #[test]
 fn previous_shows_the_point_before() {
     let expected = r#"no: before at point 3, time 120
@@ -143,6 +184,8 @@ previous within 1m Flash()
     let (status, output) = why(BENCH, &["--rule", "before", "--point", "2"]);
     let expected = [": 0: 1 point, not asked", "stamped later", "-- in the window --", "asked here"];
     assert_eq!((status, remarks(&output)), (1, expected.map(str::to_string).to_vec()));
+    let json = why(BENCH, &["--rule", "before", "--json"]).1;
+    assert!(json.contains(r#""window":{"seconds":60,"from":60,"to":120},"#), "it counts no points: {json}");
     let yes = why("point 1 A\npoint 2 B\nrule r = previous within 1s A()", &[]);
     assert_eq!((yes.0, remarks(&yes.1)), (0, ["carried the yes", "asked here"].map(str::to_string).to_vec()));
 }
@@ -173,6 +216,27 @@ fn an_anchor_may_fail_an_earlier_one() {
         "left failed here (asked here)",
     ];
     assert_eq!(remarks(&output), expected);
+}
+
+/// Names and values are shown as a case's text has them: none is taken for another, none reaches the terminal raw.
+#[test]
+fn names_and_values_are_shown_as_they_are() {
+    let text = r#"
+point 0 "a\nb\u{1b}[31m"/"k\u{9b}1m" logged {"n: 3, board": "b  1\u{a0}\u{a0}\u{7}", board: "b2"}
+rule r = formerly within 1h "a\nb\u{1b}[31m"/"k\u{9b}1m"("n: 3, board": "b  1\u{a0}\u{a0}\u{7}")
+"#;
+    let (status, output) = why(text, &[]);
+    assert_eq!(status, 0);
+    assert!(output.chars().all(|c| c == '\n' || !c.is_control()), "{output:?}");
+    let event = r#"  "a\nb\u{1b}[31m"/"k\u{9b}1m"  "#;
+    let logged = r#"  board: "b2", "n: 3, board": "b  1\u{a0}\u{a0}\u{7}"  "#;
+    assert!(output.contains(event) && output.contains(logged), "{output}");
+    assert!(output.contains("\"b  1\u{a0}\u{a0}\\u{7}\")\n"), "the rule has its own blanks: {output}");
+    let svg = picture(text, &[]);
+    assert!(svg.chars().all(|c| c == '\n' || !c.is_control()), "{svg:?}");
+    assert!(svg.contains("&quot;b  1\u{a0}\u{a0}\\u{7}&quot;)</text>"), "{svg}");
+    let (_, json) = why(text, &["--json"]);
+    assert!(json.contains("\"event\":\"a\\nb\\u001b[31m/k\u{9b}1m\""), "{json}");
 }
 
 // ---- the walk
@@ -225,6 +289,45 @@ fn what_is_asked_of_the_point_itself_is_told_so() {
     let (status, output) = why(BENCH, &["--rule", "plain", "--point", "0"]);
     assert_eq!((status, output.starts_with("no: plain at point 0, time 100\n")), (1, true));
     assert_eq!(why("point 1 A\nrule r = 1 < 2", &[]).0, 0);
+    // What a variable stands for may be past.
+    let past =
+        "variables n\npoint 1 A logged {n: 3}\npoint 2 B\nrule r = exists n (formerly within 1h A(n: n) and n < 5)";
+    let (status, output) = why(past, &[]);
+    assert_eq!(
+        (status, output.contains("    yes: n < 5\n      it is asked of point 1 itself\n")),
+        (0, true),
+        "{output}"
+    );
+}
+
+/// A comparison of what is counted looks back: the numbers are shown.
+#[test]
+fn what_is_counted_is_shown_with_its_number() {
+    let text = format!(
+        "{BENCH}rule most = @reviews + (sum n for b, n where formerly within 1h Flash(board: b, n: n)) > 3 * @reviews\n\
+         rule of(b) = (count for n where formerly within 1h Flash(board: b, n: n)) == 2\n\
+         rule lazy = context.none + (count for n where formerly within 1h Flash(n: n)) == 2\n"
+    );
+    let how = |rule: &str, more: &[&str]| {
+        let (status, output) = why(&text, &[&["--rule", rule], more].concat());
+        assert!(!output.contains("nothing past decided it"), "{output}");
+        (
+            status,
+            output
+                .split("\n  it compares what is counted: ")
+                .nth(1)
+                .map(|how| how.split_whitespace().collect::<Vec<_>>().join(" ")),
+        )
+    };
+    let sum = "sum n for b, n where (formerly within 1h Flash(board: b, n: n)) is 11";
+    assert_eq!(how("most", &[]), (0, Some(format!("count where @reviewed is 1; {sum}"))));
+    let of = "count for n where (formerly within 1h Flash(board: b, n: n)) is";
+    assert_eq!(how("of", &["--bind", "b=b1"]), (0, Some(format!("{of} 2"))));
+    assert_eq!(how("of", &["--bind", "b=b2"]), (1, Some(format!("{of} 0"))));
+    // `ask` answers where the other side has no value, under limits that the count would not fit.
+    let of = "count for n where (formerly within 1h Flash(n: n)) is";
+    assert_eq!(how("lazy", &[]), (1, Some(format!("{of} 2"))));
+    assert_eq!(how("lazy", &["--room", "0"]), (1, Some(format!("{of} more than the limits allow to tell"))));
 }
 
 /// An event on the left of an `and` lends what it binds: the right side is asked under that.
@@ -264,6 +367,8 @@ fn exists_is_shown_with_what_is_found() {
     assert_eq!(status, 0);
     assert!(output.contains("\n  it holds with the first that is found:\n"), "{output}");
     assert_eq!(bench("first_found").0, 0);
+    let unbound = "variables n\npoint 1 A\nloose rule r = exists n (A() or not A(n: n))";
+    assert!(why(unbound, &[]).1.contains("\n  it holds with its variable unbound:\n"), "its row has no n");
     let (status, output) = bench("not_found");
     assert_eq!(status, 1);
     assert!(output.contains("\n  there is nothing that makes it hold:\n"), "{output}");
@@ -283,6 +388,63 @@ fn parts_that_say_another_thing_are_not_shown() {
     assert!(json.contains(r#""answer":false,"how":"its parts cannot be shown apart: "#), "{json}");
 }
 
+/// What no value of a variable makes hold is asked with it unbound. Nothing is shown that is not so of every value.
+#[test]
+fn what_differs_with_the_variable_is_not_shown() {
+    let text = r#"
+variables b n
+point 0 Review logged {board: "b1"}
+point 1 Review logged {board: "b2"}
+point 2 Finding logged {board: "b1"}
+point 3 Finding logged {board: "b2"}
+point 4 X logged {n: 3}
+point 5 Y logged {n: 4}
+rule quiet = exists b (not Finding(board: b) since within 1h Review(board: b))
+rule between = exists n (formerly within 1h X(n: n) and (n < 5 or n > 8) and formerly within 1h Y(n: n))
+rule unfound = exists b (formerly within 1h Review(board: b) and not formerly within 1h Finding(board: b))
+rule held = exists b (Finding(board: b) since within 1h Review(board: b))
+rule no_anchor = exists b (not Finding(board: b) since within 1s Review(board: b))
+rule left_apart = exists b (not Y() since within 1h Review(board: b))
+rule no_right = exists b (formerly within 1h Review(board: b) and formerly within 1s Finding(board: b))
+rule lent = exists n (Y(n: n) and not formerly within 1h Y(n: n))
+rule inner_lent = exists n (formerly within 1h (Y(n: n) and n > 4))
+loose rule deeper = exists b exists n (formerly within 1h X(n: n) and not formerly within 1h Finding(board: b) and n < 2)
+"#;
+    let ask = |rule: &str| why(text, &["--rule", rule]);
+    // Of b2 left fails at 3 and not at 2; 3 is less than 5; the review of b1 has a finding of its own.
+    for (rule, variable) in [("quiet", "b"), ("between", "n"), ("unfound", "b"), ("held", "b"), ("deeper", "b")] {
+        let (status, output) = ask(rule);
+        assert_eq!(status, 1, "{rule}");
+        let joined = output.split_whitespace().collect::<Vec<_>>().join(" ");
+        let why = "its parts cannot be shown apart: they differ with what is bound; `--node ";
+        let hint = format!(" --bind {variable}=..` shows them for one {variable}");
+        assert!(joined.contains(why) && joined.contains(&hint), "{rule}: {output}");
+        assert!(!output.contains("what it did"), "{rule}: {output}");
+    }
+    // The hint leads to an answer.
+    let (_, output) = ask("quiet");
+    let node = output.split("--node ").nth(1).and_then(|rest| rest.split(' ').next()).expect("it names a node");
+    let (status, output) = why(text, &["--node", node, "--bind", "b=b2"]);
+    assert_eq!((status, remarks(&output)[1].as_str()), (1, "right held here, but left failed at 3"));
+    // These are so of every value.
+    let (_, output) = ask("no_anchor");
+    assert_eq!(remarks(&output)[5..], ["right did not hold", "right did not hold (asked here)"]);
+    assert_eq!(remarks(&ask("left_apart").1)[0], "right held here, but left failed at 5");
+    let (_, output) = ask("no_right");
+    assert!(output.contains("\n    its right side does not hold:\n"), "left holds for some boards: {output}");
+    assert_eq!(parts(&output)[1], "    no: formerly within 1s Finding(board: b)");
+    assert_eq!(parts(&ask("lent").1)[1], "    no: not (formerly within 1h Y(n: n)) with n = 4");
+    assert_eq!(remarks(&ask("inner_lent").1)[5], "did not hold (asked here)");
+}
+
+/// However deep a part stands, its sentences are still lines.
+#[test]
+fn deep_parts_are_lines_still() {
+    let (status, output) = why(&format!("point 1 A\nrule r = {}formerly within 0s A()", "not ".repeat(60)), &[]);
+    assert_eq!(status, 0);
+    assert!(output.contains(" within 0s: from 1 to 1; 1 of the 1\n"), "{output}");
+}
+
 /// A rule may share its parts so often that they cannot all be shown.
 #[test]
 fn a_rule_with_many_parts_is_cut_short() {
@@ -294,6 +456,14 @@ fn a_rule_with_many_parts_is_cut_short() {
     assert_eq!(status, 0);
     assert!(output.contains("its parts cannot be shown apart: it has more parts than are shown"), "{output}");
     assert!(output.len() < 200_000, "{}", output.len());
+    // Where there is nothing to leave out, nothing is said to be left out.
+    let events = text.replace("formerly within 1h A()", "A()");
+    let (_, output) = why(&events, &["--rule", "r10"]);
+    assert!(output.contains(": it has more parts than are shown"), "{output}");
+    assert!(!output
+        .lines()
+        .zip(output.lines().skip(1))
+        .any(|(part, how)| part.ends_with(": A()") && how.contains("more parts")));
     // The whole of it takes more steps than anyone has: that is told, not cut.
     let (status, _, error) = run_with(&["why", "-", "--rule", "r40"], text.as_bytes());
     assert_eq!(status, 2);
@@ -393,7 +563,29 @@ fn no_timeline_is_longer_than_can_be_read() {
     let (status, output) = why(&text, &[]);
     assert_eq!(status, 1);
     assert!(output.lines().count() < 50, "{output}");
-    assert!(output.contains("points; at 1785 of them right held, but left failed later\n"), "{output}");
+    assert!(output.contains("points; at 1785 right held, but left failed later; at 1785 left failed\n"), "{output}");
+}
+
+/// A stretch of many sorts tells of every point in it that has a part in the verdict.
+#[test]
+fn a_folded_stretch_hides_nothing_that_decided() {
+    let mut text = String::new();
+    for k in 0..80 {
+        let (time, event) = (
+            if k % 2 == 0 { 100_000 + k } else { 10 },
+            ["N", "R", "F"][[2, 20].binary_search(&k).map_or(0, |at| at + 1)],
+        );
+        text.push_str(&format!("point {time} {event}\n"));
+    }
+    text.push_str("point 100100 N\nrule no = not F() since within 1h R()\nrule yes = not G() since within 1h R()\n");
+    text.push_str("rule never = formerly within 1h G()\n");
+    let (status, output) = why(&text, &["--rule", "no"]);
+    assert_eq!((status, remarks(&output)[4].as_str()), (1, "right held here, but left failed at 20"));
+    assert!(output.contains("\n  : 8 to 56: 49 points; at 1 left failed; at 12 left held\n"), "{output}");
+    let (status, output) = why(&text, &["--rule", "yes"]);
+    assert_eq!((status, output.contains("\n  : 8 to 56: 49 points; at 49 left held\n")), (0, true), "{output}");
+    let (status, output) = why(&text, &["--rule", "never"]);
+    assert_eq!((status, output.contains(": 8 to 56: 49 points, none of which decided it\n")), (1, true), "{output}");
 }
 
 // ---- the picture
@@ -518,6 +710,12 @@ fn the_picture_is_written_as_every_file_is() {
     answered(&["why", &case, "--svg", &svg, "--quiet"], 1, "");
     refused(&["why", &case, "--svg", &case], "this is the file that is read");
     assert_eq!(std::fs::read_to_string(&case).expect("it is there"), HEADLINE);
+    // The names of a packed case are read, too.
+    let (packed, names) = (format!("{case}.bin"), format!("{case}.bin.names"));
+    assert_eq!(run(&["pack", &case, &packed, "--quiet"]).0, 0);
+    let written = std::fs::read_to_string(&names).expect("they were written");
+    refused(&["why", &packed, "--svg", &names], "this is the file that is read");
+    assert_eq!(std::fs::read_to_string(&names).expect("they are there"), written);
     refused(&["why", &case, "--svg", "/nowhere/why.svg"], "/nowhere/why.svg: its folder does not exist: make it first");
     refused(&["why", &case, "--svg", "/tmp"], "this is a directory: name a file in it");
     let message =
@@ -563,6 +761,12 @@ fn refusals_say_what_to_do() {
     refused(&["why"], "`why` takes one file, not 0");
     let (status, output, _) = run(&["why", &case, "--rule", "seen", "--bind", "b=b2"]);
     assert_eq!((status, output.starts_with("yes: seen at point 3")), (0, true));
+    // A yes is of the board that is bound: words, JSON and picture name it.
+    assert!(output.contains("\nformerly within 1h Review(board: b) with b = \"b2\"\n"), "{output}");
+    let json = run(&["why", &case, "--rule", "seen", "--bind", "b=b2", "--json"]).1;
+    assert!(json.contains(r#""answer":true,"bound":{"b":"b2"},"kind":"formerly""#), "{json}");
+    let svg = run(&["why", &case, "--rule", "seen", "--bind", "b=b2", "--svg", "-"]).1;
+    assert!(svg.contains("Review(board: b) with b = &quot;b2&quot;</text>"), "{svg}");
     // Each question has the limits for itself: `ask` takes more steps than `why`.
     assert_eq!(run(&["ask", &case, "--rule", "reviewed", "--point", "1", "--steps", "1"]).0, 2);
     assert_eq!(run(&["why", &case, "--rule", "reviewed", "--point", "1", "--steps", "1"]).0, 0);

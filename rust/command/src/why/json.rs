@@ -1,6 +1,6 @@
 //! `why` as one line of JSON.
 
-use super::timeline::{seconds, Did, Line, Moment, Scan, Seen, Timeline};
+use super::timeline::{begins, seconds, Did, Line, Moment, Scan, Seen, Timeline};
 use super::told::{action, fields, Told};
 use crate::json::Object;
 use crate::opened::Opened;
@@ -27,13 +27,16 @@ pub fn part(opened: &Opened, told: &Told) -> String {
 fn of_timeline(opened: &Opened, timeline: &Timeline, object: Object) -> Object {
     let (span, now) = (seconds(timeline.within), opened.time(timeline.asked).0);
     let window = Object::new().plain("seconds", span);
-    let window = if span < 0 { window } else { window.plain("from", now.saturating_sub(span)).plain("to", now) };
+    let from = begins(timeline.within, now).unwrap_or(i64::MIN);
+    let window = if span < 0 { window } else { window.plain("from", from).plain("to", now) };
     let kind = match timeline.scan {
         Scan::Formerly => "formerly",
         Scan::Previous => "previous",
         Scan::Since => "since",
     };
-    let object = object.text("kind", kind).plain("window", window.plain("inside", timeline.inside()).done());
+    // Of Previous only the point before is looked at.
+    let window = if timeline.scan == Scan::Previous { window } else { window.plain("inside", timeline.inside()) };
+    let object = object.text("kind", kind).plain("window", window.done());
     let object = object.list("listed", timeline.listed.iter().map(usize::to_string));
     object.list("timeline", timeline.lines.iter().map(|&line| of_line(opened, timeline, line)))
 }
@@ -47,7 +50,8 @@ fn of_line(opened: &Opened, timeline: &Timeline, line: Line) -> String {
                 logged.plain(name, show::json(&opened.case, galivodern::Bound::Value(*value)))
             });
             let object = Object::new().plain("point", moment.point).plain("time", time).some("date", date.as_deref());
-            let object = object.text("event", &action(opened, moment.point)).plain("logged", logged.done());
+            let object =
+                object.text("event", &action(opened, moment.point, str::to_string)).plain("logged", logged.done());
             let object = object.text("seen", seen(moment.seen)).text("did", did(moment.did));
             let object = match moment.did {
                 Did::InVain(failed) | Did::FailedInVain(failed) => object.plain("failed_at", failed),

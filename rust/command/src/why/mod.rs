@@ -1,5 +1,6 @@
 //! `why`: which past event carried the yes, or why there is none.
 
+mod every;
 mod json;
 mod picture;
 mod timeline;
@@ -12,6 +13,7 @@ use galivodern::{Refusal, Refused, RuleNo, Sort};
 use crate::arguments::Options;
 use crate::ask::Question;
 use crate::failure::Failure;
+use crate::names::beside;
 use crate::output::{print, write_file};
 use crate::progress::Progress;
 use crate::Said;
@@ -44,8 +46,9 @@ pub fn why(options: &Options) -> Result<Said, Failure> {
             print(&drawn)?;
             return Ok(said(told.verdict));
         }
-        let schema = options.named_file("--schema");
-        let inputs: Vec<_> = [Some(options.file()?), schema].into_iter().flatten().collect();
+        let (case, schema) = (options.file()?, options.named_file("--schema"));
+        let names = beside(case);
+        let inputs: Vec<_> = [Some(case), schema, Some(&names)].into_iter().flatten().collect();
         write_file(file, drawn.as_bytes(), &inputs)?;
     }
     if options.flag("--json") {

@@ -3,8 +3,8 @@
 
 use std::collections::BTreeSet;
 
-use super::timeline::{seconds, Did, Line, Moment, Seen, Timeline};
-use super::told::{action, before, bound_words, clock, fields_words, window_words, yes_or_no, Told};
+use super::timeline::{begins, seconds, Did, Line, Moment, Seen, Timeline};
+use super::told::{action, before, bound_words, clock, fields_words, name, window_words, yes_or_no, Told};
 use super::words::{at, stretch, Edges};
 use crate::ask::Question;
 use crate::opened::Opened;
@@ -78,7 +78,7 @@ fn rows(opened: &Opened, timeline: &Timeline) -> Vec<Row> {
         rows.push(match line {
             Line::One(moment) => {
                 let point = moment.point;
-                let event = cut(&action(opened, point), MOST_EVENT);
+                let event = cut(&action(opened, point, name), MOST_EVENT);
                 let fields = cut(&fields_words(opened, point), MOST_FIELDS);
                 let before = before(opened, timeline.asked, point);
                 let time = clock(opened.time(point).0);
@@ -390,10 +390,11 @@ impl Scale {
         let times = || timeline.moments.iter().map(|moment| i128::from(opened.time(moment.point).0));
         let (first, last) = (times().min().unwrap_or(0), times().max().unwrap_or(0));
         let mut scale = Scale { left, right, first, last, window: None, begins: false };
-        let (span, now) = (i128::from(seconds(timeline.within)), i128::from(opened.time(timeline.asked).0));
-        if span >= 0 {
-            scale.begins = now - span >= first;
-            scale.window = Some((if scale.begins { scale.place(now - span) } else { left - 8.0 }, scale.place(now)));
+        let now = opened.time(timeline.asked).0;
+        if seconds(timeline.within) >= 0 {
+            let from = begins(timeline.within, now).filter(|&from| i128::from(from) >= first);
+            scale.begins = from.is_some();
+            scale.window = Some((from.map_or(left - 8.0, |from| scale.at(from)), scale.at(now)));
         }
         scale
     }
@@ -435,11 +436,11 @@ fn cut(text: &str, most: usize) -> String {
     kept
 }
 
-/// A text in lines of so many columns, broken at blanks; a longer word is cut.
+/// A text in lines of so many columns, broken at single blanks; a longer word is cut.
 fn in_lines(text: &str, most: usize) -> Vec<String> {
     let mut lines: Vec<String> = Vec::new();
     let wide = |text: &str| text.chars().map(columns).sum::<usize>();
-    for word in text.split_whitespace() {
+    for word in text.split(' ').filter(|_| !text.is_empty()) {
         let word = cut(word, most);
         match lines.last_mut() {
             Some(line) if wide(line) + 1 + wide(&word) <= most => {

@@ -61,9 +61,50 @@ pub enum Line {
     Mixed {
         from: usize,
         to: usize,
-        /// How many of them held in vain.
-        in_vain: usize,
+        decided: Decided,
     },
+}
+
+/// How many points of a stretch have a part in what decided.
+#[derive(Clone, Copy, Debug, Default, PartialEq, Eq)]
+pub struct Decided {
+    /// Right held at them, in vain.
+    pub in_vain: usize,
+    /// Left failed at them.
+    pub failed: usize,
+    /// Left held at them.
+    pub held: usize,
+}
+
+impl Decided {
+    fn of(moment: Moment, points: usize) -> Decided {
+        let is = |did: bool| if did { points } else { 0 };
+        Decided {
+            in_vain: is(matches!(moment.did, Did::InVain(_) | Did::FailedInVain(_))),
+            failed: is(matches!(moment.did, Did::Failed | Did::FailedInVain(_))),
+            held: is(moment.did == Did::LeftHeld),
+        }
+    }
+
+    fn and(self, more: Decided) -> Decided {
+        Decided { in_vain: self.in_vain + more.in_vain, failed: self.failed + more.failed, held: self.held + more.held }
+    }
+
+    /// What stands behind the number of points.
+    fn says(self) -> String {
+        let kinds = [
+            (self.in_vain, "right held, but left failed later"),
+            (self.failed, "left failed"),
+            (self.held, "left held"),
+        ];
+        let parts: Vec<String> =
+            kinds.iter().filter(|(count, _)| *count > 0).map(|(count, did)| format!("; at {count} {did}")).collect();
+        if parts.is_empty() {
+            ", none of which decided it".to_string()
+        } else {
+            parts.concat()
+        }
+    }
 }
 
 /// Which operator a timeline is of.
@@ -117,7 +158,7 @@ impl Timeline {
         };
         let first = if scan == Scan::Previous { asked.saturating_sub(1) } else { 0 };
         let moments: Vec<Moment> = did.into_iter().enumerate().skip(first).map(moment).collect();
-        let earlier = (first > 0).then(|| Line::Mixed { from: 0, to: first - 1, in_vain: 0 });
+        let earlier = (first > 0).then(|| Line::Mixed { from: 0, to: first - 1, decided: Decided::default() });
         let lines = earlier.into_iter().chain(folded(&moments, asked)).collect();
         let listed = carried.points.iter().map(|point| point.0).collect();
         Timeline { scan, within, asked, verdict: carried.verdict, listed, moments, lines }
@@ -161,14 +202,8 @@ impl Timeline {
             Line::Alike(first, to) => {
                 format!("{}, each: {}", counted(to - first.point + 1), self.says(first))
             }
-            Line::Mixed { from, to, in_vain } => {
-                let count = to - from + 1;
-                match in_vain {
-                    0 if self.scan == Scan::Previous => counted(count) + ", not asked",
-                    0 => counted(count) + ", none of which decided it",
-                    _ => format!("{}; at {in_vain} of them right held, but left failed later", counted(count)),
-                }
-            }
+            Line::Mixed { from, to, .. } if self.scan == Scan::Previous => counted(to - from + 1) + ", not asked",
+            Line::Mixed { from, to, decided } => counted(to - from + 1) + &decided.says(),
         }
     }
 }
@@ -216,6 +251,12 @@ pub fn seconds(within: Within) -> i64 {
     within.amount.saturating_mul([1, 60, 3_600, 86_400][within.unit as usize & 3])
 }
 
+/// The earliest time in a window, seen from a time; None where it reaches back to the beginning of time. So does the
+/// longest span that 64 bits hold, for no two times count as further apart.
+pub fn begins(within: Within, now: i64) -> Option<i64> {
+    now.checked_sub(seconds(within)).filter(|_| seconds(within) < i64::MAX)
+}
+
 /// The points as lines: long stretches of alike points are one line, and no more lines than can be read.
 fn folded(moments: &[Moment], asked: usize) -> Vec<Line> {
     if moments.len() <= ALL_SHOWN {
@@ -252,20 +293,19 @@ fn shortened(lines: Vec<Line>) -> Vec<Line> {
         let (from, to, more) = extent(line);
         match short.last_mut() {
             _ if stays(k) => short.push(line),
-            Some(Line::Mixed { to: last, in_vain, .. }) => (*last, *in_vain) = (to, *in_vain + more),
-            _ => short.push(Line::Mixed { from, to, in_vain: more }),
+            Some(Line::Mixed { to: last, decided, .. }) => (*last, *decided) = (to, decided.and(more)),
+            _ => short.push(Line::Mixed { from, to, decided: more }),
         }
     }
     short
 }
 
-/// The first and last point of a line, and how many of them held in vain.
-fn extent(line: Line) -> (usize, usize, usize) {
+/// The first and last point of a line, and how many of them had a part in what decided.
+fn extent(line: Line) -> (usize, usize, Decided) {
     match line {
-        Line::One(Moment { point, did: Did::InVain(_) | Did::FailedInVain(_), .. }) => (point, point, 1),
-        Line::One(Moment { point, .. }) => (point, point, 0),
-        Line::Alike(first, to) => (first.point, to, 0),
-        Line::Mixed { from, to, in_vain } => (from, to, in_vain),
+        Line::One(moment) => (moment.point, moment.point, Decided::of(moment, 1)),
+        Line::Alike(first, to) => (first.point, to, Decided::of(first, to - first.point + 1)),
+        Line::Mixed { from, to, decided } => (from, to, decided),
     }
 }
 
@@ -312,8 +352,9 @@ mod tests {
             assert!(lines.contains(&Line::One(moments[carried])), "seed {seed}");
             assert!(matches!(lines[lines.len() - 1], Line::One(_)), "seed {seed}");
             assert!(lines.len() <= MOST_LINES + 3, "seed {seed}: {}", lines.len());
-            let in_vain = moments.iter().filter(|moment| matches!(moment.did, Did::InVain(_))).count();
-            assert_eq!(lines.iter().map(|&line| extent(line).2).sum::<usize>(), in_vain, "seed {seed}");
+            let each = moments.iter().fold(Decided::default(), |sum, &moment| sum.and(Decided::of(moment, 1)));
+            let told = lines.iter().fold(Decided::default(), |sum, &line| sum.and(extent(line).2));
+            assert_eq!(told, each, "seed {seed}");
         }
     }
 }

@@ -4,7 +4,7 @@ use casefile::text::NodeTexts;
 use casefile::{time, Within};
 use galivodern::{Bound, PointNo, Value};
 
-use super::timeline::{seconds, Scan, Timeline};
+use super::timeline::{begins, seconds, Scan, Timeline};
 use super::walk::{By, Part};
 use crate::ask::Question;
 use crate::failure::Failure;
@@ -63,7 +63,18 @@ fn told(question: &Question, texts: &NodeTexts, part: &Part) -> Result<Told, Str
             told.how = how.to_string();
             told.parts = parts.iter().map(|part| self::told(question, texts, part)).collect::<Result<_, _>>()?;
         }
-        By::Itself => told.how = format!("nothing past decided it: it is asked of point {} itself", question.point),
+        By::Itself { variables } => {
+            let nothing_past = if *variables { "" } else { "nothing past decided it: " };
+            told.how = format!("{nothing_past}it is asked of point {} itself", question.point);
+        }
+        By::Numbers(numbers) => {
+            let number = |&(node, number): &(u32, Option<i64>)| {
+                let is = number.map_or("more than the limits allow to tell".to_string(), |number| number.to_string());
+                texts.node(node).map(|text| format!("{text} is {is}"))
+            };
+            let numbers: Vec<String> = numbers.iter().map(number).collect::<Result<_, _>>()?;
+            told.how = format!("it compares what is counted: {}", numbers.join("; "));
+        }
         By::Whole(why) => told.how = format!("its parts cannot be shown apart: {why}"),
     }
     Ok(told)
@@ -86,12 +97,18 @@ pub fn clock(seconds: i64) -> String {
     date.unwrap_or_else(|| seconds.to_string())
 }
 
-/// So many seconds, in the two largest units that they have.
-pub fn lasting(seconds: i64) -> String {
-    let mut left = seconds.unsigned_abs();
+/// The beginning of a window, as the time that it is seen from is read: before 1970, too.
+pub fn beginning(from: i64, now: i64) -> String {
+    let date = time::written(now).filter(|_| now >= LEAST_CLOCK).and_then(|_| time::written(from));
+    date.unwrap_or_else(|| clock(from))
+}
+
+/// So many seconds, to the second: the edge of a window lies between two of them.
+pub fn lasting(seconds: u64) -> String {
+    let mut left = seconds;
     let mut parts = Vec::new();
     for (unit, letter) in [(86_400, 'd'), (3_600, 'h'), (60, 'm'), (1, 's')] {
-        if left >= unit && parts.len() < 2 {
+        if left >= unit {
             parts.push(format!("{}{letter}", left / unit));
         }
         left %= unit;
@@ -106,12 +123,10 @@ pub fn lasting(seconds: i64) -> String {
 /// How long before the point asked about a point was stamped; nothing for that point itself.
 pub fn before(opened: &Opened, asked: usize, point: usize) -> String {
     let (now, then) = (opened.time(asked).0, opened.time(point).0);
-    let apart = now.saturating_sub(then);
-    match apart {
-        _ if point == asked => String::new(),
-        0.. => format!("{} before", lasting(apart)),
-        _ => format!("{} after", lasting(apart)),
+    if point == asked {
+        return String::new();
     }
+    format!("{} {}", lasting(now.abs_diff(then)), if then <= now { "before" } else { "after" })
 }
 
 /// A window as a rule writes it.
@@ -126,7 +141,7 @@ pub fn window_words(opened: &Opened, timeline: &Timeline) -> String {
     if span < 0 {
         return format!("{within}: no point lies in a negative window");
     }
-    let from = now.checked_sub(span).map_or("the beginning of time".to_string(), clock);
+    let from = begins(timeline.within, now).map_or("the beginning of time".to_string(), |from| beginning(from, now));
     let times = format!("{within}: from {from} to {}", clock(now));
     if timeline.scan == Scan::Previous {
         return times;
@@ -135,13 +150,21 @@ pub fn window_words(opened: &Opened, timeline: &Timeline) -> String {
     format!("{times}; {inside} of the {all} points up to point {} lie in it", timeline.asked)
 }
 
-/// What happened at a point: the action with its namespace and kind.
-pub fn action(opened: &Opened, point: usize) -> String {
+/// What happened at a point: the action with its namespace and kind, each name as it is told.
+pub fn action(opened: &Opened, point: usize, told: fn(&str) -> String) -> String {
     let Some(point) = opened.case.point(PointNo(point)) else { return String::new() };
-    let mut names: Vec<&str> = point.namespace().collect();
-    names.push(point.action());
-    let kind = if point.kind() == "request" { String::new() } else { format!("/{}", point.kind()) };
+    let names: Vec<String> = point.namespace().chain([point.action()]).map(told).collect();
+    let kind = if point.kind() == "request" { String::new() } else { format!("/{}", told(point.kind())) };
     names.join("::") + &kind
+}
+
+/// A name as a case's text has it: a plain word, or quoted, so that it is taken for nothing else.
+pub fn name(name: &str) -> String {
+    if !name.is_empty() && name.chars().all(|c| c.is_alphanumeric() || c == '_') {
+        name.to_string()
+    } else {
+        format!("{name:?}")
+    }
 }
 
 /// The logged fields of a point, as names and values of the case.
@@ -155,18 +178,18 @@ pub fn fields(opened: &Opened, point: usize) -> Vec<(String, u32)> {
 
 /// The logged fields in words, as `board: "b1", n: 3`.
 pub fn fields_words(opened: &Opened, point: usize) -> String {
-    let word =
-        |(name, value): &(String, u32)| format!("{name}: {}", show::text(&opened.case, Some(Bound::Value(*value))));
+    let word = |(field, value): &(String, u32)| {
+        format!("{}: {}", name(field), show::text(&opened.case, Some(Bound::Value(*value))))
+    };
     fields(opened, point).iter().map(word).collect::<Vec<_>>().join(", ")
 }
 
-/// A text cut to so many characters; control characters are dropped.
+/// A text cut to so many characters.
 pub fn cut(text: &str, most: usize) -> String {
-    let plain: Vec<char> = text.chars().map(|c| if c.is_control() { ' ' } else { c }).collect();
-    if plain.len() <= most {
-        plain.into_iter().collect()
+    if text.chars().count() <= most {
+        text.to_string()
     } else {
-        plain[..most - 1].iter().chain(['…'].iter()).collect()
+        text.chars().take(most - 1).chain(['…']).collect()
     }
 }
 

@@ -2,11 +2,13 @@
 //! chooses which, by the verdicts that they give.
 
 use std::cell::Cell;
+use std::collections::BTreeSet;
 
 use casefile::binding::Binding;
 use casefile::{Node, Variables};
-use galivodern::{Bindings, Bound, Carried, Limits, PointNo, Refused, RuleNo, VariableNo};
+use galivodern::{Answer, Bindings, Bound, Carried, Limits, PointNo, Refused, RuleNo, VariableNo};
 
+use super::every::Every;
 use crate::ask::Question;
 
 /// No more parts of one rule are looked at than this: rules may share their parts many times over.
@@ -14,6 +16,8 @@ const MOST_PARTS: usize = 200;
 
 const BOTH: &str = "all of its parts hold";
 const NEITHER: &str = "none of its parts holds";
+const TOO_MUCH: &str = "they take more than the limits allow; allow more with --steps and --room";
+pub const RIGHT_NO: &str = "its left side holds, its right side does not";
 
 /// A part of a rule, the verdict that it has in it, and what decided that.
 pub struct Part {
@@ -30,10 +34,12 @@ pub enum By {
     Points(Carried),
     /// Parts of it, and how.
     Parts(&'static str, Vec<Part>),
-    /// Nothing past: an event or a comparison at the point asked about.
-    Itself,
+    /// An event or a comparison at the point asked about: nothing past, but what its variables may be bound to.
+    Itself { variables: bool },
+    /// Counts and sums that a comparison has in it, with what they come to; none where that takes too much.
+    Numbers(Vec<(u32, Option<i64>)>),
     /// Its parts, none of which shows it alone; why not.
-    Whole(&'static str),
+    Whole(String),
 }
 
 /// A walk at the point asked about.
@@ -48,18 +54,19 @@ impl<'a> Walk<'a> {
         Walk { question, nodes: Binding::of(&question.opened.tables), looked: Cell::new(0) }
     }
 
-    /// The rule that is asked. Its verdict is that of one proved call on the whole of it.
+    /// The rule that is asked, with what is bound at the start. Its verdict is that of one proved call on the whole.
     pub fn rule(&self) -> Result<Part, Refused> {
         let Question { asked, start, .. } = self.question;
-        let part = self.part(asked.node, start)?;
-        if matches!(part.by, By::Points(_) | By::Itself) {
+        let bound = self.nodes.free(asked.node).iter().filter_map(|v| Some((v, start.get(VariableNo(v as u16))?)));
+        let part = Part { bound: bound.collect(), ..self.part(asked.node, start)? };
+        if matches!(part.by, By::Points(_) | By::Itself { .. } | By::Numbers(_)) {
             return Ok(part);
         }
         let verdict = self.verdict(asked.node, start)?;
         if part.verdict == verdict {
             return Ok(part);
         }
-        Ok(Part { verdict, by: By::Whole("its parts, asked one by one, say another thing"), ..part })
+        Ok(Part { verdict, by: By::Whole("its parts, asked one by one, say another thing".to_string()), ..part })
     }
 
     fn verdict(&self, node: u32, start: &Bindings) -> Result<bool, Refused> {
@@ -72,9 +79,9 @@ impl<'a> Walk<'a> {
         let of = |verdict, by| Part { node, verdict, bound: Vec::new(), by };
         self.looked.set(self.looked.get() + 1);
         let read = Node::read(opened.tables.nodes[node as usize]).unwrap_or(Node::Wildcard);
-        let scans = matches!(read, Node::Formerly { .. } | Node::Previous { .. } | Node::Since { .. });
-        if self.looked.get() > MOST_PARTS && !scans {
-            return Ok(of(self.verdict(node, start)?, By::Whole("it has more parts than are shown")));
+        let parted = matches!(read, Node::And { .. } | Node::Or { .. } | Node::Not { .. } | Node::Exists { .. });
+        if self.looked.get() > MOST_PARTS && parted {
+            return Ok(of(self.verdict(node, start)?, By::Whole("it has more parts than are shown".to_string())));
         }
         match read {
             Node::Formerly { .. } | Node::Previous { .. } | Node::Since { .. } => {
@@ -92,7 +99,32 @@ impl<'a> Walk<'a> {
                 let verdict = self.verdict(node, start)?;
                 Ok(of(verdict, self.exists(verdict, variable, body, start)?))
             }
-            _ => Ok(of(self.verdict(node, start)?, By::Itself)),
+            _ => Ok(of(self.verdict(node, start)?, self.leaf(node, start))),
+        }
+    }
+
+    /// An event or a comparison. What is counted or summed may be past.
+    fn leaf(&self, node: u32, start: &Bindings) -> By {
+        let Question { opened, point, limits, .. } = self.question;
+        let number = |node: u32| match opened.case.ask(PointNo(*point), RuleNo(node), start, *limits).ok()?.value {
+            Answer::Number(number) => Some(number),
+            Answer::Verdict(_) => None,
+        };
+        let mut terms = BTreeSet::from([node]);
+        let mut numbers = Vec::new();
+        while let Some(term) = terms.pop_last() {
+            match Node::read(opened.tables.nodes[term as usize]) {
+                Some(Node::Aggregate { aggregate }) => numbers.push(aggregate),
+                Some(read) => terms.extend(self.nodes.children(read)),
+                None => {}
+            }
+        }
+        numbers.sort_unstable();
+        numbers.dedup();
+        if numbers.is_empty() {
+            By::Itself { variables: !self.nodes.free(node).is_empty() }
+        } else {
+            By::Numbers(numbers.into_iter().map(|node| (node, number(node))).collect())
         }
     }
 
@@ -108,7 +140,7 @@ impl<'a> Walk<'a> {
         Ok(if second.verdict {
             (true, By::Parts(BOTH, chained(BOTH, first, second)))
         } else {
-            (false, By::Parts("its left side holds, its right side does not", vec![second]))
+            (false, By::Parts(RIGHT_NO, vec![second]))
         })
     }
 
@@ -155,14 +187,29 @@ impl<'a> Walk<'a> {
             let binder = [VariableNo(variable as u16)];
             let found = opened.case.rows(PointNo(*point), RuleNo(body), &binder, &under, *limits)?.value;
             bound.extend(found.get(0).and_then(|row| row.get(0)).map(|first| (variable, first)));
-            how = if found.len() > 1 { "it holds with the first that is found" } else { "it holds with what is found" };
+            how = match found.len() {
+                // Only a loose rule has rows that leave it unbound.
+                _ if bound.is_empty() => "it holds with its variable unbound",
+                0 | 1 => "it holds with what is found",
+                _ => "it holds with the first that is found",
+            };
         }
         let under = bound.iter().fold(under, |under, &(v, to)| under.with(VariableNo(v as u16), to));
         // The body is asked here in another manner than within the rule: its parts are shown if they come to the same.
-        Ok(match self.part(body, &under) {
-            Ok(inner) if inner.verdict == verdict => By::Parts(how, vec![Part { bound, ..inner }]),
-            Ok(_) => By::Whole("what it asks for is put together from several events; list it with `rows`"),
-            Err(_) => By::Whole("they take more than the limits allow; allow more with --steps and --room"),
+        let inner = match self.part(body, &under) {
+            Ok(inner) if inner.verdict != verdict => Err("what it asks for is put together from several events"),
+            Ok(inner) if verdict => Ok(inner),
+            Ok(inner) => {
+                Every::of(&opened.tables, &self.nodes, variable).part(inner).ok_or("they differ with what is bound")
+            }
+            Err(_) => return Ok(By::Whole(TOO_MUCH.to_string())),
+        };
+        Ok(match inner {
+            Ok(inner) => By::Parts(how, vec![Part { bound, ..inner }]),
+            Err(why) => {
+                let name = opened.variable_name(variable);
+                By::Whole(format!("{why}; `--node {body} --bind {name}=..` shows them for one {name}"))
+            }
         })
     }
 }

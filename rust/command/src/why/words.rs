@@ -1,7 +1,9 @@
 //! `why` in words: the verdict, and under it a timeline for each part that decided.
 
-use super::timeline::{Did, Line, Moment, Seen, Timeline};
-use super::told::{action, before, bound_words, clock, cut, fields_words, lasting, window_words, yes_or_no, Told};
+use super::timeline::{begins, seconds, Did, Line, Moment, Seen, Timeline};
+use super::told::{
+    action, before, beginning, bound_words, clock, cut, fields_words, lasting, name, window_words, yes_or_no, Told,
+};
 use crate::ask::Question;
 use crate::help::wrapped;
 use crate::opened::Opened;
@@ -12,7 +14,7 @@ pub fn words(question: &Question, told: &Told) -> String {
     let (opened, point) = (&question.opened, question.point);
     let asked = question.asked.shown();
     let mut text = format!("{}: {asked} at point {point}, {}\n", yes_or_no(told.verdict), at(opened, point));
-    push(opened, told, "", &told.text, &mut text);
+    push(opened, told, "", &format!("{}{}", told.text, bound_words(opened, &told.bound)), &mut text);
     text
 }
 
@@ -100,7 +102,8 @@ fn row(opened: &Opened, timeline: &Timeline, line: Line) -> Row {
             let point = moment.point;
             let fields = cut(&fields_words(opened, point), MOST_FIELDS);
             let time = clock(opened.time(point).0);
-            let cells = [point.to_string(), time, before(opened, timeline.asked, point), action(opened, point), fields];
+            let event = action(opened, point, name);
+            let cells = [point.to_string(), time, before(opened, timeline.asked, point), event, fields];
             Row { mark: mark(moment), cells, says }
         }
         Line::Alike(Moment { point: from, .. }, to) | Line::Mixed { from, to, .. } => {
@@ -148,16 +151,20 @@ impl Edges {
         let was = std::mem::replace(&mut self.before, is);
         let again = self.inside;
         self.inside |= is == Some(Seen::Inside);
-        let (span, now) = (super::timeline::seconds(timeline.within), opened.time(timeline.asked).0);
+        let (span, now) = (seconds(timeline.within), opened.time(timeline.asked).0);
+        let back = lasting(span.unsigned_abs());
         let edge = match (was?, is?) {
             (was, is) if was == is => return None,
             (_, Seen::Inside) if again => "in the window again".to_string(),
             (Seen::TooOld, Seen::Inside) => {
-                let from = now.checked_sub(span).map_or(String::new(), |from| format!(" at {}", clock(from)));
-                format!("the window begins{from}, {} back", lasting(span))
+                let from =
+                    begins(timeline.within, now).map_or(String::new(), |from| format!(" at {}", beginning(from, now)));
+                format!("the window begins{from}, {back} back")
             }
             (_, Seen::Inside) => "in the window".to_string(),
-            (_, Seen::TooOld) => format!("more than {} back", lasting(span)),
+            // A negative window has no edge, the point asked about lies outside, too.
+            (_, Seen::TooOld) if span < 0 => return None,
+            (_, Seen::TooOld) => format!("more than {back} back"),
             (_, Seen::Later) => format!("stamped later than point {}", timeline.asked),
         };
         Some(edge)

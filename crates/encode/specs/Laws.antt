@@ -1,0 +1,5 @@
+pub mod Words
+pub mod Encode
+pub mod Join
+pub mod Unsorted
+pub mod ReadBack

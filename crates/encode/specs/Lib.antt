@@ -4,3 +4,4 @@ pub mod Join
 pub mod Unsorted
 pub mod Write
 pub mod Laws
+pub mod Theorems

@@ -3,16 +3,18 @@ use mathlib.Core.Path.{_≡_, refl, _∙_}
 use mathlib.Core.Bool.{true}
 use mathlib.Core.List.{List, [], _∷_}
 use mathlib.Core.Option.{Option, none, some}
-use Prim.Native.Nat.{ℕ, _<_, _≤_, _/_}
+use Prim.Native.Nat.{ℕ, zero, suc, _<_, _≤_, _/_}
+use native.Mathlib.Omega.{arith}
 use lib.Dec.{eqb}
 use lib.ListN.{length}
-use Rattle.meaning.specs.Tests.{_and_, orElse}
+use Rattle.meaning.specs.Tests.{_and_, choose, orElse}
 use Rattle.meaning.specs.Case.{size, bodyWord, text, vars, strings, values, members, points, nodes, lists}
 use Rattle.meaning.specs.Check.{check, Checked, bodies, mosts, stringRules, valueRules, pointRules, nodeRules}
 use Rattle.meaning.specs.Laws.Tests.{both, yes, unbroken}
-use Rattle.encode.specs.Unsorted.{number, renamed, finished}
+use Rattle.encode.specs.Unsorted.{names, number, renamed, finished}
 use Rattle.encode.specs.Write.{makeRefusal, laterRefusal, writeRefusal}
-use Rattle.encode.specs.Laws.Unsorted.{finished-bodies}
+use Rattle.encode.specs.Laws.Unsorted.{kept, vars-kept, finished-bodies}
+use Rattle.encode.specs.Laws.ReadBack.{finished-word, reads-back, number-inside, number-outside}
 
 -- ---- 1: what is written passes the check
 
@@ -51,3 +53,34 @@ module _ (s marks room output : List ℕ) (none-refused : writeRefusal s marks r
             ∙ yes _ (both _ _ (five .0) .0)
             ∙ yes _ (both _ _ (six .0) .0);
       }
+
+-- ---- 2: it holds the unsorted one's records
+
+-- t is s with its strings under new numbers
+pub record Renumbered (s marks t : List ℕ) : Type 0 where
+  pub vars : vars t ≡ vars s
+  -- as many values, members, points, nodes and list words
+  pub sizes : (k : ℕ) → 0 < k → k < 6 → size t k ≡ size s k
+  -- each of their words is the old one, under its new number where it names a string
+  pub word : (k i : ℕ) → 0 < k → k < 6 → i < size s k / 4 → bodyWord t k i ≡ choose (names s marks k i) (number s (bodyWord s k i)) (bodyWord s k i)
+  -- the new number of a string is one's too and names the same text
+  pub inside : (n : ℕ) → n < strings s → number s n < strings t
+  pub text : (n : ℕ) → n < strings s → text t (number s n) ≡ text s n
+  -- what named no string names none
+  pub outside : (n : ℕ) → strings s ≤ n → strings t ≤ number s n
+
+-- of every file that has tables, refused later or not
+pub reads-as : (s marks : List ℕ) → bodies s ≡ true → Renumbered s marks (finished s marks)
+unfolding renamed
+reads-as s marks h = record {
+  vars = vars-kept s marks h;
+  sizes = λ k low high. kept s marks h k (omega arith) (λ e. absurd (omega arith)) (λ e. absurd (omega arith));
+  word = word;
+  inside = number-inside s marks h;
+  text = reads-back s marks;
+  outside = number-outside s marks h;
+}
+  where
+    word : (k i : ℕ) → 0 < k → k < 6 → i < size s k / 4 → bodyWord (finished s marks) k i ≡ choose (names s marks k i) (number s (bodyWord s k i)) (bodyWord s k i)
+    word zero i low high l = absurd (omega arith)
+    word (suc k) i low high l = finished-word s marks k i (omega arith) l

@@ -200,3 +200,19 @@ joined-long text k (suc n) h = go (ltb k (suc n)) refl (λ l. joined-long text k
     go : (b : Bool) → ltb k (suc n) ≡ b → (k ≤ n → length (joined text k) ≤ length (joined text n)) → length (joined text k) ≤ length (insertNew (text n) (joined text n))
     go true e rest = omega (arith, rest (omega (arith, ltb-true k (suc n) e)), insert-long (text n) (joined text n))
     go false e rest = let q : k ≡ suc n = omega (arith, ltb-false k (suc n) e) in rw q (omega arith)
+
+-- nor longer than one for each
+insert-most : (x : List ℕ) (l : List (List ℕ)) → length (insertNew x l) ≤ suc (length l)
+unfolding insertNew choose
+insert-most x [] = omega arith
+insert-most x (y ∷ ys) = go (before y x) (before x y) (insert-most x ys)
+  where
+    go : (a b : Bool) → length (insertNew x ys) ≤ suc (length ys) → length (choose a (y ∷ insertNew x ys) (choose b (x ∷ y ∷ ys) (y ∷ ys))) ≤ suc (suc (length ys))
+    go true b l = omega arith
+    go false true l = omega arith
+    go false false l = omega arith
+
+pub joined-most : (text : ℕ → List ℕ) (k : ℕ) → length (joined text k) ≤ k
+unfolding joined
+joined-most text zero = omega arith
+joined-most text (suc k) = omega (arith, insert-most (text k) (joined text k), joined-most text k)

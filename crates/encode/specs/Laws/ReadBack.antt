@@ -7,7 +7,7 @@ use Prim.Native.Nat.{ℕ, zero, suc, _+_, _*_, _/_, _<_, _≤_}
 use native.Mathlib.Omega.{arith}
 use lib.Dec.{ltb, lit<}
 use lib.ListN.{length, getD, take, drop}
-use borrow.Author.Tests.{ltb-true, ltb-false, lt-ltb}
+use borrow.Author.Tests.{ltb-true, ltb-false, lt-ltb, le-ltb}
 use Rattle.meaning.specs.Tests.{choose}
 use Rattle.meaning.specs.Text.{before}
 use Rattle.meaning.specs.Case.{words, size, body, bodyWord, stringWord, text, strings, vars, places}
@@ -18,9 +18,9 @@ use Rattle.encode.specs.Encode.{flat, placed}
 use Rattle.encode.specs.Join.{insertNew, below, joined}
 use Rattle.encode.specs.Unsorted.{texts, number, renamed, table, tables, parts, finished}
 use Rattle.encode.specs.Laws.Words.{words-packed}
-use Rattle.encode.specs.Laws.Join.{Rising, joined-rises, before-neither, before-not}
+use Rattle.encode.specs.Laws.Join.{Rising, joined-rises, joined-most, before-neither, before-not}
 use Rattle.encode.specs.Laws.Encode.{flat-at, placed-start, placed-size, encoded-body}
-use Rattle.encode.specs.Laws.Unsorted.{seven}
+use Rattle.encode.specs.Laws.Unsorted.{seven, strings-size}
 
 -- ---- every text is among those joined
 
@@ -75,6 +75,12 @@ place-of x (y ∷ ys) r h = ⊎-elim (λ e. here e) (λ i. there (before-of ys (
 
 -- ---- what the finished case reads as
 
+place-at : (f : ℕ → ℕ) (first n i : ℕ) → i < n → getD (map f (places first 1 n)) i 0 ≡ f (first + i)
+unfolding places
+place-at f first zero i h = absurd (omega arith)
+place-at f first (suc n) zero h = let z : first ≡ first + 0 = omega arith in ap f z
+place-at f first (suc n) (suc i) h = let z : first + 1 + i ≡ first + suc i = omega arith in place-at f (first + 1) n i (omega arith) ∙ ap f z
+
 module _ (s marks : List ℕ) where
   text-body : body (finished s marks) 6 ≡ flat (texts s)
   unfolding finished parts tables
@@ -88,6 +94,24 @@ module _ (s marks : List ℕ) where
   unfolding stringWord bodyWord
   place-word m j = ap (λ (b : List ℕ). getD (words b) (2 * m + j) 0) string-body ∙ ap (λ (ws : List ℕ). getD ws (2 * m + j) 0) (words-packed (placed 0 (texts s)))
 
+  table-body : (k : ℕ) → k < 5 → body (finished s marks) (suc k) ≡ table s marks (suc k)
+  unfolding finished parts tables
+  table-body zero h = encoded-body (vars s) (parts s marks) (seven s marks) 1 (lit< tt)
+  table-body (suc zero) h = encoded-body (vars s) (parts s marks) (seven s marks) 2 (lit< tt)
+  table-body (suc (suc zero)) h = encoded-body (vars s) (parts s marks) (seven s marks) 3 (lit< tt)
+  table-body (suc (suc (suc zero))) h = encoded-body (vars s) (parts s marks) (seven s marks) 4 (lit< tt)
+  table-body (suc (suc (suc (suc zero)))) h = encoded-body (vars s) (parts s marks) (seven s marks) 5 (lit< tt)
+  table-body (suc (suc (suc (suc (suc k))))) h = absurd (omega arith)
+
+  -- word i of table k + 1, counted from values to lists
+  pub finished-word : (k i : ℕ) → k < 5 → i < size s (suc k) / 4 → bodyWord (finished s marks) (suc k) i ≡ renamed s marks (suc k) i
+  unfolding bodyWord table
+  finished-word k i h l =
+      ap (λ (b : List ℕ). getD (words b) i 0) (table-body k h)
+      ∙ ap (λ (ws : List ℕ). getD ws i 0) (words-packed (map (renamed s marks (suc k)) (places 0 1 (size s (suc k) / 4))))
+      ∙ place-at (renamed s marks (suc k)) 0 (size s (suc k) / 4) i l
+      ∙ ap (renamed s marks (suc k)) (omega arith)
+
   -- string m of it is the m-th of the different texts
   pub finished-text : (m : ℕ) → m < length (texts s) → text (finished s marks) m ≡ getD (texts s) m []
   unfolding text
@@ -98,9 +122,22 @@ module _ (s marks : List ℕ) where
       let from : stringWord (finished s marks) m 0 ≡ length (flat (take m (texts s))) = omega (arith, start) in
       rw (many, from, text-body) (flat-at (texts s) m h)
 
+  -- a string's place among the texts
+  placed-text : (k : ℕ) → k < strings s → (below (text s k) (texts s) < length (texts s)) × (getD (texts s) (below (text s k) (texts s)) [] ≡ text s k)
+  unfolding texts
+  placed-text k h = place-of (text s k) (joined (text s) (strings s)) (joined-rises (text s) (strings s)) (in-joined (text s) k (strings s) h)
+
   -- a string's new number names the same text
   pub reads-back : (k : ℕ) → k < strings s → text (finished s marks) (number s k) ≡ text s k
-  unfolding number choose texts
-  reads-back k h =
-      let p = place-of (text s k) (joined (text s) (strings s)) (joined-rises (text s) (strings s)) (in-joined (text s) k (strings s) h) in
-      rw (lt-ltb k (strings s) h) (finished-text (below (text s k) (joined (text s) (strings s))) (p .0) ∙ p .1)
+  unfolding number choose
+  reads-back k h = rw (lt-ltb k (strings s) h) (finished-text (below (text s k) (texts s)) (placed-text k h .0) ∙ placed-text k h .1)
+
+  -- it is a string's, and a number that was none's stays none's
+  module _ (h : bodies s ≡ true) where
+    pub number-inside : (k : ℕ) → k < strings s → number s k < strings (finished s marks)
+    unfolding number choose
+    number-inside k l = rw (lt-ltb k (strings s) l) (omega (arith, placed-text k l .0, strings-size s marks h))
+
+    pub number-outside : (k : ℕ) → strings s ≤ k → strings (finished s marks) ≤ number s k
+    unfolding number choose texts
+    number-outside k l = rw (le-ltb k (strings s) l) (omega (arith, joined-most (text s) (strings s), strings-size s marks h))

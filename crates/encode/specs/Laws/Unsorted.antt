@@ -65,15 +65,15 @@ module _ (s marks : List ℕ) where
     part-long (suc (suc (suc (suc (suc (suc zero)))))) lt a b = absurd (b refl)
     part-long (suc (suc (suc (suc (suc (suc (suc k))))))) lt a b = absurd (omega arith)
 
-    kept : (k : ℕ) → k < 7 → (k ≡ 0 → ⊥) → (k ≡ 6 → ⊥) → size (finished s marks) k ≡ size s k
+    pub kept : (k : ℕ) → k < 7 → (k ≡ 0 → ⊥) → (k ≡ 6 → ⊥) → size (finished s marks) k ≡ size s k
     unfolding finished
     kept k lt a b = encoded-size (vars s) (parts s marks) seven k lt ∙ part-long k lt a b
 
-    strings-size : size (finished s marks) 0 ≡ 8 * length (texts s)
+    pub strings-size : size (finished s marks) 0 ≡ 8 * length (texts s)
     unfolding finished
     strings-size = encoded-size (vars s) (parts s marks) seven 0 (lit< tt) ∙ strings-long
 
-    vars-kept : contents (finished s marks) 1 ≡ vars s
+    pub vars-kept : contents (finished s marks) 1 ≡ vars s
     unfolding finished
     vars-kept = encoded-word (vars s) (parts s marks) seven 1 (lit< tt)
 

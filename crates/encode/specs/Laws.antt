@@ -3,3 +3,4 @@ pub mod Encode
 pub mod Join
 pub mod Unsorted
 pub mod ReadBack
+pub mod Own

@@ -75,7 +75,7 @@ place-of x (y ∷ ys) r h = ⊎-elim (λ e. here e) (λ i. there (before-of ys (
 
 -- ---- what the finished case reads as
 
-place-at : (f : ℕ → ℕ) (first n i : ℕ) → i < n → getD (map f (places first 1 n)) i 0 ≡ f (first + i)
+pub place-at : (f : ℕ → ℕ) (first n i : ℕ) → i < n → getD (map f (places first 1 n)) i 0 ≡ f (first + i)
 unfolding places
 place-at f first zero i h = absurd (omega arith)
 place-at f first (suc n) zero h = let z : first ≡ first + 0 = omega arith in ap f z

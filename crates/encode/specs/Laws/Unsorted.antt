@@ -16,7 +16,7 @@ use Rattle.encode.specs.Unsorted.{texts, renamed, table, tables, parts, 
 use Rattle.encode.specs.Laws.Words.{packed-long}
 use Rattle.encode.specs.Laws.Encode.{placed-long, encoded-long, encoded-size, encoded-word, encoded-bodies}
 
-places-long : (first n : ℕ) → length (places first 1 n) ≡ n
+pub places-long : (first n : ℕ) → length (places first 1 n) ≡ n
 unfolding places
 places-long first zero = refl
 places-long first (suc n) = ap suc (places-long (first + 1) n)
@@ -39,7 +39,7 @@ module _ (s marks : List ℕ) where
   strings-long = omega (arith, packed-long (placed 0 (texts s)), placed-long 0 (texts s))
 
   module _ (h : bodies s ≡ true) where
-    quarter : (k : ℕ) → k < 6 → 4 * (size s k / 4) ≡ size s k
+    pub quarter : (k : ℕ) → k < 6 → 4 * (size s k / 4) ≡ size s k
     unfolding pick
     quarter zero lt = omega (arith, wholes s h 0 (lit< tt))
     quarter (suc zero) lt = omega (arith, wholes s h 1 (lit< tt))

@@ -4,3 +4,4 @@ pub mod Join
 pub mod Unsorted
 pub mod ReadBack
 pub mod Own
+pub mod Again

@@ -90,7 +90,7 @@ every-at P [] i d e h = absurd (omega arith)
 every-at P (y ∷ ys) zero d e h = e .0
 every-at P (y ∷ ys) (suc i) d e h = every-at P ys i d (e .1) (omega arith)
 
-insert-every : (P : List ℕ → Type 0) (x : List ℕ) (l : List (List ℕ)) → P x → Every P l → Every P (insertNew x l)
+pub insert-every : (P : List ℕ → Type 0) (x : List ℕ) (l : List (List ℕ)) → P x → Every P l → Every P (insertNew x l)
 unfolding insertNew choose
 insert-every P x [] p e = (p, tt)
 insert-every P x (y ∷ ys) p e = go (before y x) (before x y) (insert-every P x ys p (e .1))

@@ -50,7 +50,7 @@ four a b c d rest ha hb hc =
     low : (x y : ℕ) → x < 256 → (x + 256 * y) % 256 ≡ x
     low x y h = omega arith
 
-pub packed-words : (s : List ℕ) → Bytes s → length s % 4 ≡ 0 → packed (words s) ≡ s
+packed-words : (s : List ℕ) → Bytes s → length s % 4 ≡ 0 → packed (words s) ≡ s
 unfolding words packed
 packed-words [] e h = refl
 packed-words (a ∷ []) e h = absurd (omega arith)
@@ -142,13 +142,17 @@ module _ (s : List ℕ) (h : bodies s ≡ true) where
     unfolding encoded startOf
     encoded-own = ap₂ (λ (p q : List ℕ). p ++ q) contents-own (flat-own 7 0 refl) ∙ take-append-drop 64 s
 
+    body-bytes : (k : ℕ) → Bytes (body s k)
+    unfolding body
+    body-bytes k = bytes-take (size s k) (drop (offset s k) s) (bytes-drop (offset s k) s bytes)
+
+    pub packed-own : (k : ℕ) → k < 6 → packed (words (body s k)) ≡ body s k
+    packed-own k l = packed-words (body s k) (body-bytes k) (omega (arith, body-length s h k (omega arith), quarter s s h k l))
+
     -- a table from its own words
     pub table-own : (k : ℕ) → k < 6 → packed (map (bodyWord s k) (places 0 1 (size s k / 4))) ≡ body s k
     unfolding bodyWord
     table-own k l =
         ap (λ (n : ℕ). packed (map (λ i. getD (words (body s k)) i 0) (places 0 1 n))) (ap (λ (n : ℕ). n / 4) (sym (body-length s h k (omega arith))) ∙ sym (words-count (body s k)))
         ∙ ap packed (entries (words (body s k)))
-        ∙ packed-words (body s k) bytes-of (omega (arith, body-length s h k (omega arith), quarter s s h k l))
-      where
-        bytes-of : Bytes (body s k)
-        bytes-of = unfold body in bytes-take (size s k) (drop (offset s k) s) (bytes-drop (offset s k) s bytes)
+        ∙ packed-own k l

@@ -1,20 +1,27 @@
--- What is shown of the writer: a case that it writes passes the check and holds the unsorted one's records
-use mathlib.Core.Path.{_≡_, refl, _∙_}
-use mathlib.Core.Bool.{true}
-use mathlib.Core.List.{List, [], _∷_}
+-- What is shown of the writer: a case that it writes passes the check and holds the unsorted one's records; a checked case is written as it stands; and where the output is too short
+use mathlib.Core.Path.{_≡_, refl, _∙_, ap}
+use mathlib.Core.Bool.{Bool, true, false, not}
+use mathlib.Core.List.{List, [], _∷_, _++_}
 use mathlib.Core.Option.{Option, none, some}
 use Prim.Native.Nat.{ℕ, zero, suc, _<_, _≤_, _/_}
 use native.Mathlib.Omega.{arith}
-use lib.Dec.{eqb}
+use lib.Dec.{leb, ltb, eqb}
 use lib.ListN.{length}
-use Rattle.meaning.specs.Tests.{_and_, choose, orElse}
+use borrow.Author.Tests.{eq-eqb, le-leb}
+use Rattle.meaning.specs.declared.Refusal.{Refusal}
+use Rattle.meaning.specs.declared.Refusal.the-variants.{BadStrings, BadValues, BadPoints, BadNodes, OutputTooShort}
+use Rattle.meaning.specs.Tests.{_and_, choose, onlyIf, orElse, firstBroken, allBelow}
 use Rattle.meaning.specs.Case.{size, bodyWord, text, vars, strings, values, members, points, nodes, lists}
 use Rattle.meaning.specs.Check.{check, Checked, bodies, mosts, stringRules, valueRules, pointRules, nodeRules}
-use Rattle.meaning.specs.Laws.Tests.{both, yes, unbroken}
-use Rattle.encode.specs.Unsorted.{names, number, renamed, finished}
-use Rattle.encode.specs.Write.{makeRefusal, laterRefusal, writeRefusal}
+use Rattle.meaning.specs.Laws.Tests.{both, pass, yes, unbroken}
+use Rattle.meaning.specs.Laws.Checked.{rules, checked-bodies}
+use Rattle.encode.specs.Unsorted.{inText, names, number, renamed, finished}
+use Rattle.encode.specs.Write.{pointMarks, nodeMarks, over, makeRefusal, laterRefusal, writeRefusal, outputAfter}
+use Rattle.encode.specs.Laws.Encode.{all-true}
 use Rattle.encode.specs.Laws.Unsorted.{kept, vars-kept, finished-bodies}
 use Rattle.encode.specs.Laws.ReadBack.{finished-word, reads-back, number-inside, number-outside}
+use Rattle.encode.specs.Laws.Own.{Bytes}
+use Rattle.encode.specs.Laws.Again.{end-in, finished-same}
 
 -- ---- 1: what is written passes the check
 
@@ -84,3 +91,65 @@ reads-as s marks h = record {
     word : (k i : ℕ) → 0 < k → k < 6 → i < size s k / 4 → bodyWord (finished s marks) k i ≡ choose (names s marks k i) (number s (bodyWord s k i)) (bodyWord s k i)
     word zero i low high l = absurd (omega arith)
     word (suc k) i low high l = finished-word s marks k i (omega arith) l
+
+-- ---- 3: reading and then writing
+
+module _ {s : List ℕ} (c : Checked s) (bytes : Bytes s) (marks : List ℕ) where
+  -- in a checked case no number changes, whatever is marked
+  pub same-again : finished s marks ≡ s
+  same-again = finished-same s (checked-bodies c) (rules s c .strings) bytes marks
+
+  -- with a mark for each list word, against which nothing is used, and room and output long enough
+  module _ (room output : List ℕ) (one-each : length marks ≡ lists s) (by-points : allBelow (points s) (pointMarks s marks) ≡ true) (by-nodes : allBelow (nodes s) (nodeMarks s marks) ≡ true) (roomy : length s ≤ length room) (fits : length s ≤ length output) where
+    lies-in-text : allBelow (strings s) (inText s) ≡ true
+    unfolding inText
+    lies-in-text = all-true (inText s) (strings s) (λ k l. le-leb _ _ (end-in s (checked-bodies c) (rules s c .strings) k l))
+
+    made-again : makeRefusal s marks room ≡ none
+    unfolding makeRefusal
+    made-again =
+        yes _ (pass (checked-bodies c) (eq-eqb _ _ one-each))
+        ∙ yes _ (ap mosts same-again ∙ rules s c .mosts)
+        ∙ yes _ (ap (λ (f : List ℕ). leb (length f) (length room)) same-again ∙ le-leb _ _ roomy)
+
+    checked-again : laterRefusal s marks room output ≡ none
+    unfolding laterRefusal
+    checked-again =
+        rw same-again
+        (yes _ (pass lies-in-text (rules s c .strings))
+        ∙ yes _ (rules s c .values)
+        ∙ yes _ (pass (rules s c .points) by-points)
+        ∙ yes _ (pass (rules s c .nodes) by-nodes)
+        ∙ yes _ (le-leb _ _ fits))
+
+    -- nothing is refused
+    pub accepted-again : writeRefusal s marks room output ≡ none
+    unfolding writeRefusal orElse
+    accepted-again = rw (made-again, checked-again)
+
+    -- and the case itself is written
+    pub written-again : outputAfter s marks room output (writeRefusal s marks room output) ≡ over s output
+    unfolding outputAfter
+    written-again = rw accepted-again (ap (λ (f : List ℕ). over f output) same-again)
+
+-- ---- 4: the output too short
+
+-- a rule at the end is told of where no other is broken
+rule-last : {A : Type 0} (first : Option A) (others : List (Bool × A)) (rule : Bool) (n : A) → orElse first (firstBroken (others ++ ((rule, n) ∷ []))) ≡ orElse (orElse first (firstBroken (others ++ ((true, n) ∷ [])))) (onlyIf (not rule) n)
+unfolding orElse choose onlyIf
+rule-last (some x) others rule n = refl
+rule-last none [] true n = refl
+rule-last none [] false n = refl
+rule-last none (o ∷ others) rule n = go (o .0) (rule-last none others rule n)
+  where
+    go : (b : Bool) → firstBroken (others ++ ((rule, n) ∷ [])) ≡ orElse (firstBroken (others ++ ((true, n) ∷ []))) (onlyIf (not rule) n) → choose b (firstBroken (others ++ ((rule, n) ∷ []))) (some (o .1)) ≡ orElse (choose b (firstBroken (others ++ ((true, n) ∷ []))) (some (o .1))) (onlyIf (not rule) n)
+    go true rest = rest
+    go false rest = refl
+
+-- 14 exactly where nothing else is refused and the output is shorter than the finished case
+pub short-output : (s marks room output : List ℕ) → writeRefusal s marks room output ≡ orElse (writeRefusal s marks room (finished s marks)) (onlyIf (not (leb (length (finished s marks)) (length output))) OutputTooShort)
+unfolding writeRefusal laterRefusal
+short-output s marks room output =
+    let f = finished s marks in
+    rw (le-leb (length f) (length f) (omega arith))
+    (rule-last (makeRefusal s marks room) ((allBelow (strings s) (inText s) and stringRules f, BadStrings) ∷ (valueRules f, BadValues) ∷ (pointRules f and allBelow (points f) (pointMarks f marks), BadPoints) ∷ (nodeRules f and allBelow (nodes f) (nodeMarks f marks), BadNodes) ∷ []) (leb (length f) (length output)) OutputTooShort)

@@ -92,7 +92,7 @@ module _ (s : List ℕ) (h : bodies s ≡ true) (rules : stringRules s ≡ true)
   unfolding placeRule
   start-is k l = eqb-true _ _ (both _ _ (in-place k l) .0)
 
-  end-in : (k : ℕ) → k < strings s → stringWord s k 0 + stringWord s k 1 ≤ size s 6
+  pub end-in : (k : ℕ) → k < strings s → stringWord s k 0 + stringWord s k 1 ≤ size s 6
   unfolding placeRule
   end-in k l = leb-true _ _ (both _ _ (in-place k l) .1)
 

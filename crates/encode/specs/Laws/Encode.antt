@@ -1,6 +1,6 @@
 -- What a file of seven bodies reads as: its contents, its bodies, and that rule 1 holds of it
 use mathlib.Core.Path.{_≡_, refl, sym, _∙_, ap}
-use mathlib.Core.Bool.{true}
+use mathlib.Core.Bool.{Bool, true}
 use mathlib.Core.List.{List, [], _∷_, _++_, append-assoc, append-nil}
 use Prim.Native.Nat.{ℕ, zero, suc, _+_, _*_, _%_, _<_, _≤_}
 use native.Mathlib.Omega.{arith}
@@ -17,6 +17,11 @@ use Rattle.meaning.specs.Laws.Words.{words-first}
 use Rattle.encode.specs.Words.{packed}
 use Rattle.encode.specs.Encode.{flat, placed, encoded}
 use Rattle.encode.specs.Laws.Words.{words-packed, packed-long}
+
+pub all-true : (test : ℕ → Bool) (n : ℕ) → ((i : ℕ) → i < n → test i ≡ true) → allBelow n test ≡ true
+unfolding allBelow
+all-true test zero f = refl
+all-true test (suc n) f = pass (all-true test n (λ i h. f i (omega arith))) (f n (omega arith))
 
 -- ---- parts end to end
 
@@ -141,14 +146,9 @@ module _ (v : ℕ) (bs : List (List ℕ)) (seven : length bs ≡ 7) where
         pass (eq-eqb _ _ (encoded-offset k h ∙ sym (starts k (omega arith))))
         (eq-eqb _ _ (ap (λ (n : ℕ). n % recordBytes k) (encoded-size k h) ∙ whole k h))
 
-    all : (n : ℕ) → n ≤ 7 → allBelow n (bodyRule (encoded v bs)) ≡ true
-    unfolding allBelow
-    all zero h = refl
-    all (suc n) h = pass (all n (omega arith)) (rule n (omega arith))
-
     pub encoded-bodies : bodies (encoded v bs) ≡ true
     unfolding bodies
     encoded-bodies =
         pass (le-leb 64 (length (encoded v bs)) (omega (arith, encoded-long)))
         (pass (eq-eqb _ _ (encoded-word 0 (lit< tt)))
-        (pass (all 7 (omega arith)) (eq-eqb _ _ (starts 7 (omega arith) ∙ ap (λ (l : List (List ℕ)). 64 + length (flat l)) (take-all 7 bs (omega (arith, seven))) ∙ sym encoded-long))))
+        (pass (all-true (bodyRule (encoded v bs)) 7 rule) (eq-eqb _ _ (starts 7 (omega arith) ∙ ap (λ (l : List (List ℕ)). 64 + length (flat l)) (take-all 7 bs (omega (arith, seven))) ∙ sym encoded-long))))

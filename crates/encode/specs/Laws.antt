@@ -5,3 +5,4 @@ pub mod Unsorted
 pub mod ReadBack
 pub mod Own
 pub mod Again
+pub mod Read

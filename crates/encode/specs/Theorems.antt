@@ -1,27 +1,29 @@
 -- What is shown of the writer: a case that it writes passes the check and holds the unsorted one's records; a checked case is written as it stands; and where the output is too short
-use mathlib.Core.Path.{_≡_, refl, _∙_, ap}
+use mathlib.Core.Path.{_≡_, refl, sym, _∙_, ap}
 use mathlib.Core.Bool.{Bool, true, false, not}
 use mathlib.Core.List.{List, [], _∷_, _++_}
 use mathlib.Core.Option.{Option, none, some}
+use mathlib.Core.Logic.{_⊎_, inl, inr}
 use Prim.Native.Nat.{ℕ, zero, suc, _<_, _≤_, _/_}
 use native.Mathlib.Omega.{arith}
-use lib.Dec.{leb, ltb, eqb}
+use lib.Dec.{leb, eqb}
 use lib.ListN.{length}
 use borrow.Author.Tests.{eq-eqb, le-leb}
-use Rattle.meaning.specs.declared.Refusal.{Refusal}
 use Rattle.meaning.specs.declared.Refusal.the-variants.{BadStrings, BadValues, BadPoints, BadNodes, OutputTooShort}
 use Rattle.meaning.specs.Tests.{_and_, choose, onlyIf, orElse, firstBroken, allBelow}
-use Rattle.meaning.specs.Case.{size, bodyWord, text, vars, strings, values, members, points, nodes, lists}
+use Rattle.meaning.specs.Case.{size, bodyWord, text, vars, strings, points, nodes, lists}
 use Rattle.meaning.specs.Check.{check, Checked, bodies, mosts, stringRules, valueRules, pointRules, nodeRules}
-use Rattle.meaning.specs.Laws.Tests.{both, pass, yes, unbroken}
+use Rattle.meaning.specs.Laws.Tests.{both, pass, after, yes, unbroken}
 use Rattle.meaning.specs.Laws.Checked.{rules, checked-bodies}
 use Rattle.encode.specs.Unsorted.{inText, names, number, renamed, finished}
 use Rattle.encode.specs.Write.{pointMarks, nodeMarks, over, makeRefusal, laterRefusal, writeRefusal, outputAfter}
+use Rattle.encode.specs.Read.{readMarks, oneWay}
 use Rattle.encode.specs.Laws.Encode.{all-true}
 use Rattle.encode.specs.Laws.Unsorted.{kept, vars-kept, finished-bodies}
 use Rattle.encode.specs.Laws.ReadBack.{finished-word, reads-back, number-inside, number-outside}
 use Rattle.encode.specs.Laws.Own.{Bytes}
 use Rattle.encode.specs.Laws.Again.{end-in, finished-same}
+use Rattle.encode.specs.Laws.Read.{never, read-long, points-fit, nodes-fit, used-one-way}
 
 -- ---- 1: what is written passes the check
 
@@ -92,47 +94,62 @@ reads-as s marks h = record {
     word zero i low high l = absurd (omega arith)
     word (suc k) i low high l = finished-word s marks k i (omega arith) l
 
--- ---- 3: reading and then writing
+-- ---- 3: a checked case written
 
-module _ {s : List ℕ} (c : Checked s) (bytes : Bytes s) (marks : List ℕ) where
-  -- in a checked case no number changes, whatever is marked
-  pub same-again : finished s marks ≡ s
-  same-again = finished-same s (checked-bodies c) (rules s c .strings) bytes marks
+module _ {s : List ℕ} (c : Checked s) (bytes : Bytes s) where
+  -- no number changes, whatever is marked
+  pub same-again : (marks : List ℕ) → finished s marks ≡ s
+  same-again marks = finished-same s (checked-bodies c) (rules s c .strings) bytes marks
 
-  -- with a mark for each list word, against which nothing is used, and room and output long enough
-  module _ (room output : List ℕ) (one-each : length marks ≡ lists s) (by-points : allBelow (points s) (pointMarks s marks) ≡ true) (by-nodes : allBelow (nodes s) (nodeMarks s marks) ≡ true) (roomy : length s ≤ length room) (fits : length s ≤ length output) where
-    lies-in-text : allBelow (strings s) (inText s) ≡ true
-    unfolding inText
-    lies-in-text = all-true (inText s) (strings s) (λ k l. le-leb _ _ (end-in s (checked-bodies c) (rules s c .strings) k l))
+  lies-in-text : allBelow (strings s) (inText s) ≡ true
+  unfolding inText
+  lies-in-text = all-true (inText s) (strings s) (λ k l. le-leb _ _ (end-in s (checked-bodies c) (rules s c .strings) k l))
 
+  module _ (marks room output : List ℕ) (one-each : length marks ≡ lists s) (roomy : length s ≤ length room) where
     made-again : makeRefusal s marks room ≡ none
     unfolding makeRefusal
     made-again =
         yes _ (pass (checked-bodies c) (eq-eqb _ _ one-each))
-        ∙ yes _ (ap mosts same-again ∙ rules s c .mosts)
-        ∙ yes _ (ap (λ (f : List ℕ). leb (length f) (length room)) same-again ∙ le-leb _ _ roomy)
+        ∙ yes _ (ap mosts (same-again marks) ∙ rules s c .mosts)
+        ∙ yes _ (ap (λ (f : List ℕ). leb (length f) (length room)) (same-again marks) ∙ le-leb _ _ roomy)
 
-    checked-again : laterRefusal s marks room output ≡ none
-    unfolding laterRefusal
-    checked-again =
-        rw same-again
+    -- refused are only places used against their marks, and a short output
+    pub refused-again : writeRefusal s marks room output ≡ firstBroken ((allBelow (points s) (pointMarks s marks), BadPoints) ∷ (allBelow (nodes s) (nodeMarks s marks), BadNodes) ∷ (leb (length s) (length output), OutputTooShort) ∷ [])
+    unfolding writeRefusal laterRefusal orElse
+    refused-again =
+        rw (made-again, same-again marks)
         (yes _ (pass lies-in-text (rules s c .strings))
         ∙ yes _ (rules s c .values)
-        ∙ yes _ (pass (rules s c .points) by-points)
-        ∙ yes _ (pass (rules s c .nodes) by-nodes)
-        ∙ yes _ (le-leb _ _ fits))
+        ∙ cc (after {b = allBelow (points s) (pointMarks s marks)} (rules s c .points), after {b = allBelow (nodes s) (nodeMarks s marks)} (rules s c .nodes)))
 
-    -- nothing is refused
-    pub accepted-again : writeRefusal s marks room output ≡ none
-    unfolding writeRefusal orElse
-    accepted-again = rw (made-again, checked-again)
+    module _ (by-points : allBelow (points s) (pointMarks s marks) ≡ true) (by-nodes : allBelow (nodes s) (nodeMarks s marks) ≡ true) (fits : length s ≤ length output) where
+      pub accepted-again : writeRefusal s marks room output ≡ none
+      accepted-again = refused-again ∙ yes _ by-points ∙ yes _ by-nodes ∙ yes _ (le-leb _ _ fits)
 
-    -- and the case itself is written
-    pub written-again : outputAfter s marks room output (writeRefusal s marks room output) ≡ over s output
-    unfolding outputAfter
-    written-again = rw accepted-again (ap (λ (f : List ℕ). over f output) same-again)
+      -- and the case itself is what is written
+      pub written-again : outputAfter s marks room output (writeRefusal s marks room output) ≡ over s output
+      unfolding outputAfter
+      written-again = rw accepted-again (ap (λ (f : List ℕ). over f output) (same-again marks))
 
--- ---- 4: the output too short
+  -- ---- 4: with the marks that reading gives
+
+  -- a case with no list place used both ways is written as it stands
+  pub read-written : (room output : List ℕ) → oneWay s ≡ true → length s ≤ length room → length s ≤ length output → outputAfter s (readMarks s) room output (writeRefusal s (readMarks s) room output) ≡ over s output
+  read-written room output one roomy fits = written-again (readMarks s) room output (read-long s) roomy (points-fit c one) (nodes-fit c one) fits
+
+  -- with such a place it is 5 or 6, whatever the marks
+  pub both-ways : (marks room output : List ℕ) → length marks ≡ lists s → length s ≤ length room → oneWay s ≡ false → (writeRefusal s marks room output ≡ some BadPoints) ⊎ (writeRefusal s marks room output ≡ some BadNodes)
+  unfolding choose
+  both-ways marks room output one-each roomy not-one =
+      rw (refused-again marks room output one-each roomy) (go (allBelow (points s) (pointMarks s marks)) (allBelow (nodes s) (nodeMarks s marks)) refl refl)
+    where
+      go : (a b : Bool) → allBelow (points s) (pointMarks s marks) ≡ a → allBelow (nodes s) (nodeMarks s marks) ≡ b
+          → (firstBroken ((a, BadPoints) ∷ (b, BadNodes) ∷ (leb (length s) (length output), OutputTooShort) ∷ []) ≡ some BadPoints) ⊎ (firstBroken ((a, BadPoints) ∷ (b, BadNodes) ∷ (leb (length s) (length output), OutputTooShort) ∷ []) ≡ some BadNodes)
+      go false b p q = inl refl
+      go true false p q = inr refl
+      go true true p q = never (sym not-one ∙ used-one-way s marks p q)
+
+-- ---- 5: the output too short
 
 -- a rule at the end is told of where no other is broken
 rule-last : {A : Type 0} (first : Option A) (others : List (Bool × A)) (rule : Bool) (n : A) → orElse first (firstBroken (others ++ ((rule, n) ∷ []))) ≡ orElse (orElse first (firstBroken (others ++ ((true, n) ∷ [])))) (onlyIf (not rule) n)

@@ -2,13 +2,13 @@
 use mathlib.Core.Path.{_≡_, refl, sym, _∙_, ap, ap₂}
 use mathlib.Core.Bool.{true}
 use mathlib.Core.List.{List, [], _∷_, _++_, map}
-use Prim.Native.Nat.{ℕ, zero, suc, _+_, _*_, _/_, _%_, _<_, _≤_}
+use Prim.Native.Nat.{ℕ, zero, suc, _+_, _*_, _/_, _%_, _<_}
 use native.Mathlib.Omega.{arith}
 use native.Mathlib.Numerals.{add-one}
 use lib.ListN.{length, getD, take, drop, length-map, take-append-drop, drop-of-length-le}
 use lib.Seq.{ext-getD, drop-cons, drop-drop, drop-length, length-take-le}
 use borrow.Author.Tests.{eqb-true}
-use Rattle.meaning.specs.Tests.{_and_, allBelow}
+use Rattle.meaning.specs.Tests.{_and_}
 use Rattle.meaning.specs.Case.{word, words, contents, offset, size, body, bodyWord, vars, places}
 use Rattle.meaning.specs.Check.{startOf, bodyRule, bodies}
 use Rattle.meaning.specs.Laws.Tests.{both, all-at}

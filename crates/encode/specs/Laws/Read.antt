@@ -1,12 +1,12 @@
 -- Laws of the marks that reading gives: nothing is used against them where no place is used both ways; and where one is, something is used against any marks
 use mathlib.Core.Path.{_≡_, refl, sym, _∙_, ap}
 use mathlib.Core.Bool.{Bool, true, false, not}
-use mathlib.Core.List.{List, [], _∷_, map}
+use mathlib.Core.List.{List}
 use Prim.Native.Nat.{ℕ, zero, suc, _+_, _*_, _<_, _≤_}
 use native.Mathlib.Omega.{arith}
 use lib.Dec.{leb, ltb, eqb}
-use lib.ListN.{length, getD, length-map, List·getD-eq-default}
-use borrow.Author.Tests.{ltb-true, ltb-false, leb-true, eqb-true, eq-eqb, not-true, not-false}
+use lib.ListN.{length, length-map, List·getD-eq-default}
+use borrow.Author.Tests.{ltb-true, ltb-false, leb-true, eqb-true, eq-eqb, not-true}
 use Rattle.meaning.specs.declared.Node.{Node}
 use Rattle.meaning.specs.declared.Node.the-variants.{And, Or, Not, Formerly, Previous, Since, Predicate, Comparison, Exists, Tp, Literal, Context, Scope, Variable, Wildcard, Aggregate, Arithmetic, Sum, Count, Broken}
 use Rattle.meaning.specs.Tests.{_and_, _or_, choose, allBelow}
@@ -37,7 +37,7 @@ unfolding _or_
 or-either true b e f g = f refl
 or-either false b e f g = g e
 
-never : {P : Type 0} → false ≡ true → P
+pub never : {P : Type 0} → false ≡ true → P
 never e = let z : _≡_ {A = ℕ} 0 1 = cc in absurd (omega arith)
 
 some-at : (test : ℕ → Bool) (n k : ℕ) → k < n → test k ≡ true → someBelow n test ≡ true

@@ -6,3 +6,4 @@ pub mod ReadBack
 pub mod Own
 pub mod Again
 pub mod Read
+pub mod Records

@@ -4,5 +4,6 @@ pub mod Join
 pub mod Unsorted
 pub mod Write
 pub mod Read
+pub mod Records
 pub mod Laws
 pub mod Theorems

@@ -18,9 +18,11 @@ use Rattle.meaning.specs.Laws.Checked.{rules, checked-bodies}
 use Rattle.encode.specs.Unsorted.{inText, names, number, renamed, finished}
 use Rattle.encode.specs.Write.{pointMarks, nodeMarks, over, makeRefusal, laterRefusal, writeRefusal, outputAfter}
 use Rattle.encode.specs.Read.{readMarks, oneWay}
+use Rattle.encode.specs.Records.{Renumbered, SameRecords}
 use Rattle.encode.specs.Laws.Encode.{all-true}
 use Rattle.encode.specs.Laws.Unsorted.{kept, vars-kept, finished-bodies}
 use Rattle.encode.specs.Laws.ReadBack.{finished-word, reads-back, number-inside, number-outside}
+use Rattle.encode.specs.Laws.Records.{same-records}
 use Rattle.encode.specs.Laws.Own.{Bytes}
 use Rattle.encode.specs.Laws.Again.{end-in, finished-same}
 use Rattle.encode.specs.Laws.Read.{never, read-long, points-fit, nodes-fit, used-one-way}
@@ -32,53 +34,44 @@ unfolding orElse
 neither none b h = (refl, h)
 neither (some x) b h = (h, cc)
 
-module _ (s marks room output : List ℕ) (none-refused : writeRefusal s marks room output ≡ none) where
-  made : makeRefusal s marks room ≡ none
-  unfolding writeRefusal
-  made = neither _ _ none-refused .0
+-- what is known where nothing is refused
+record Accepted (s marks : List ℕ) : Type 0 where
+  tables : bodies s ≡ true
+  checked : Checked (finished s marks)
+  by-points : allBelow (points (finished s marks)) (pointMarks (finished s marks) marks) ≡ true
+  by-nodes : allBelow (nodes (finished s marks)) (nodeMarks (finished s marks) marks) ≡ true
 
-  later : laterRefusal s marks room output ≡ none
-  unfolding writeRefusal
-  later = neither _ _ none-refused .1
-
-  unsorted : bodies s ≡ true
-  unfolding makeRefusal
-  unsorted = both _ _ (unbroken (bodies s and eqb (length marks) (lists s)) _ _ made .0) .0
-
-  pub passes : Checked (finished s marks)
-  unfolding makeRefusal laterRefusal check
-  passes =
-      let most = unbroken (mosts (finished s marks)) _ _ (unbroken (bodies s and eqb (length marks) (lists s)) _ _ made .1) in
-      let three = unbroken _ _ _ later in
-      let four = unbroken _ _ _ (three .1) in
-      let five = unbroken _ _ _ (four .1) in
-      let six = unbroken _ _ _ (five .1) in
-      record {
+accepted : (s marks room output : List ℕ) → writeRefusal s marks room output ≡ none → Accepted s marks
+unfolding writeRefusal makeRefusal laterRefusal check
+accepted s marks room output h =
+    let made = neither (makeRefusal s marks room) (laterRefusal s marks room output) h in
+    let one = unbroken (bodies s and eqb (length marks) (lists s)) _ _ (made .0) in
+    let two = unbroken (mosts (finished s marks)) _ _ (one .1) in
+    let three = unbroken (allBelow (strings s) (inText s) and stringRules (finished s marks)) _ _ (made .1) in
+    let four = unbroken (valueRules (finished s marks)) _ _ (three .1) in
+    let five = unbroken _ _ _ (four .1) in
+    let six = unbroken _ _ _ (five .1) in
+    record {
+      tables = both _ _ (one .0) .0;
+      checked = record {
         passes =
-            yes _ (finished-bodies s marks unsorted)
-            ∙ yes _ (most .0)
+            yes _ (finished-bodies s marks (both _ _ (one .0) .0))
+            ∙ yes _ (two .0)
             ∙ yes _ (both _ _ (three .0) .1)
             ∙ yes _ (four .0)
             ∙ yes _ (both _ _ (five .0) .0)
             ∙ yes _ (both _ _ (six .0) .0);
-      }
+      };
+      by-points = both _ _ (five .0) .1;
+      by-nodes = both _ _ (six .0) .1;
+    }
+
+pub passes : (s marks room output : List ℕ) → writeRefusal s marks room output ≡ none → Checked (finished s marks)
+passes s marks room output h = accepted s marks room output h .checked
 
 -- ---- 2: it holds the unsorted one's records
 
--- t is s with its strings under new numbers
-pub record Renumbered (s marks t : List ℕ) : Type 0 where
-  pub vars : vars t ≡ vars s
-  -- as many values, members, points, nodes and list words
-  pub sizes : (k : ℕ) → 0 < k → k < 6 → size t k ≡ size s k
-  -- each of their words is the old one, under its new number where it names a string
-  pub word : (k i : ℕ) → 0 < k → k < 6 → i < size s k / 4 → bodyWord t k i ≡ choose (names s marks k i) (number s (bodyWord s k i)) (bodyWord s k i)
-  -- the new number of a string is one's too and names the same text
-  pub inside : (n : ℕ) → n < strings s → number s n < strings t
-  pub text : (n : ℕ) → n < strings s → text t (number s n) ≡ text s n
-  -- what named no string names none
-  pub outside : (n : ℕ) → strings s ≤ n → strings t ≤ number s n
-
--- of every file that has tables, refused later or not
+-- word by word, of every file that has tables, refused later or not
 pub reads-as : (s marks : List ℕ) → bodies s ≡ true → Renumbered s marks (finished s marks)
 unfolding renamed
 reads-as s marks h = record {
@@ -93,6 +86,12 @@ reads-as s marks h = record {
     word : (k i : ℕ) → 0 < k → k < 6 → i < size s k / 4 → bodyWord (finished s marks) k i ≡ choose (names s marks k i) (number s (bodyWord s k i)) (bodyWord s k i)
     word zero i low high l = absurd (omega arith)
     word (suc k) i low high l = finished-word s marks k i (omega arith) l
+
+-- record by record, where nothing is refused
+pub holds : (s marks room output : List ℕ) → writeRefusal s marks room output ≡ none → SameRecords s (finished s marks)
+holds s marks room output h =
+    let a = accepted s marks room output h in
+    same-records (reads-as s marks (a .tables)) (a .tables) (a .checked) (a .by-points) (a .by-nodes)
 
 -- ---- 3: a checked case written
 

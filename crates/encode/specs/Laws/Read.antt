@@ -23,11 +23,11 @@ use Rattle.encode.specs.Laws.ReadBack.{place-at}
 
 -- ---- some of several
 
-or-left : {a : Bool} (b : Bool) → a ≡ true → (a or b) ≡ true
+pub or-left : {a : Bool} (b : Bool) → a ≡ true → (a or b) ≡ true
 unfolding _or_
 or-left b e = rw e
 
-or-right : {b : Bool} (a : Bool) → b ≡ true → (a or b) ≡ true
+pub or-right : {b : Bool} (a : Bool) → b ≡ true → (a or b) ≡ true
 unfolding _or_
 or-right true e = refl
 or-right false e = e
@@ -40,7 +40,7 @@ or-either false b e f g = g e
 pub never : {P : Type 0} → false ≡ true → P
 never e = let z : _≡_ {A = ℕ} 0 1 = cc in absurd (omega arith)
 
-some-at : (test : ℕ → Bool) (n k : ℕ) → k < n → test k ≡ true → someBelow n test ≡ true
+pub some-at : (test : ℕ → Bool) (n k : ℕ) → k < n → test k ≡ true → someBelow n test ≡ true
 unfolding someBelow
 some-at test zero k h e = absurd (omega arith)
 some-at test (suc n) k h e = go (ltb k n) refl (λ l. some-at test n k l e)
@@ -54,7 +54,7 @@ unfolding someBelow
 some-of test zero e f = never e
 some-of test (suc n) e f = or-either (someBelow n test) (test n) e (λ a. some-of test n a (λ k h t. f k (omega arith) t)) (λ a. f n (omega arith) a)
 
-one-at : (first items k : ℕ) → k < items → oneOf first items (first + k) ≡ true
+pub one-at : (first items k : ℕ) → k < items → oneOf first items (first + k) ≡ true
 one-at first items k h = some-at (λ j. eqb (first + k) (first + j)) items k h (eq-eqb (first + k) (first + k) refl)
 
 one-of : {P : Type 0} (first items i : ℕ) → oneOf first items i ≡ true → ((k : ℕ) → k < items → i ≡ first + k → P) → P
@@ -87,13 +87,13 @@ module _ (s marks : List ℕ) where
       pass (all-marked marks (pointWord s p 2) (pointWord s p 3) (λ i e. strings i (or-left _ e)))
       (all-true _ (pointWord s p 11) (λ e h. pass (all-marked marks (pointWord s p 10 + 3 * e) 2 (λ i o. strings i (or-right _ (some-at (λ e. oneOf (pointWord s p 10 + 3 * e) 2 i) (pointWord s p 11) e h o)))) (ap not (others (pointWord s p 10 + 3 * e + 2) (some-at (λ j. eqb (pointWord s p 10 + 3 * e + 2) (pointWord s p 10 + 3 * j + 2)) (pointWord s p 11) e h (eq-eqb _ _ (refl {a = pointWord s p 10 + 3 * e + 2})))))))
 
-  point-says : (p i : ℕ) → pointMarks s marks p ≡ true → pointStrings s p i ≡ true → marked marks i ≡ true
+  pub point-says : (p i : ℕ) → pointMarks s marks p ≡ true → pointStrings s p i ≡ true → marked marks i ≡ true
   unfolding pointMarks pointStrings entityMarks
   point-says p i h o =
       or-either _ _ o (λ e. marked-of marks (pointWord s p 2) (pointWord s p 3) i (both _ _ h .0) e)
       (λ e. some-of _ (pointWord s p 11) e (λ k l q. marked-of marks (pointWord s p 10 + 3 * k) 2 i (both _ _ (all-at _ (pointWord s p 11) k (both _ _ h .1) l) .0) q))
 
-  point-denies : (p i : ℕ) → pointMarks s marks p ≡ true → pointOthers s p i ≡ true → marked marks i ≡ false
+  pub point-denies : (p i : ℕ) → pointMarks s marks p ≡ true → pointOthers s p i ≡ true → marked marks i ≡ false
   unfolding pointMarks pointOthers entityMarks
   point-denies p i h o =
       some-of _ (pointWord s p 11) o (λ k l q. let z : i ≡ pointWord s p 10 + 3 * k + 2 = eqb-true i (pointWord s p 10 + 3 * k + 2) q in rw z (not-true _ (both _ _ (all-at _ (pointWord s p 11) k (both _ _ h .1) l) .1)))
@@ -124,7 +124,7 @@ module _ (s marks : List ℕ) where
   node-fits (Count binders b) strings others = none-marked marks (binders .first) (binders .count) others
   node-fits Broken strings others = refl
 
-  node-says : (n : Node) (i : ℕ) → marksOf s marks n ≡ true → stringsOf s n i ≡ true → marked marks i ≡ true
+  pub node-says : (n : Node) (i : ℕ) → marksOf s marks n ≡ true → stringsOf s n i ≡ true → marked marks i ≡ true
   unfolding marksOf stringsOf argumentMarks
   node-says (And l r) i h o = never o
   node-says (Or l r) i h o = never o
@@ -149,7 +149,7 @@ module _ (s marks : List ℕ) where
   node-says (Count binders b) i h o = never o
   node-says Broken i h o = never o
 
-  node-denies : (n : Node) (i : ℕ) → marksOf s marks n ≡ true → othersOf s n i ≡ true → marked marks i ≡ false
+  pub node-denies : (n : Node) (i : ℕ) → marksOf s marks n ≡ true → othersOf s n i ≡ true → marked marks i ≡ false
   unfolding marksOf othersOf argumentMarks
   node-denies (And l r) i h o = never o
   node-denies (Or l r) i h o = never o
@@ -202,7 +202,7 @@ run-in : (first items i most : ℕ) → oneOf first items i ≡ true → leb (fi
 run-in first items i most o l = one-of first items i o (λ k h q. omega (arith, leb-true (first + 1 * items) most l))
 
 module _ (s : List ℕ) where
-  point-in : (p i : ℕ) → pointRule s p ≡ true → pointStrings s p i ≡ true → i < lists s
+  pub point-in : (p i : ℕ) → pointRule s p ≡ true → pointStrings s p i ≡ true → i < lists s
   unfolding pointRule pointStrings stringRun entityRun
   point-in p i h o =
       or-either _ _ o (λ e. run-in (pointWord s p 2) (pointWord s p 3) i (lists s) e (both _ _ (both _ _ h .0) .0)) (λ e. some-of _ (pointWord s p 11) e (λ k l q. one-of (pointWord s p 10 + 3 * k) 2 i q (λ j m z. omega (arith, entities))))
@@ -210,7 +210,7 @@ module _ (s : List ℕ) where
       entities : pointWord s p 10 + 3 * pointWord s p 11 ≤ lists s
       entities = leb-true _ _ (both _ _ (both _ _ (both _ _ (both _ _ (both _ _ (both _ _ (both _ _ (both _ _ h .1) .1) .1) .1) .1) .1) .1) .0)
 
-  node-in : (nd : Node) (n i : ℕ) → ruleOf s n nd ≡ true → stringsOf s nd i ≡ true → i < lists s
+  pub node-in : (nd : Node) (n i : ℕ) → ruleOf s n nd ≡ true → stringsOf s nd i ≡ true → i < lists s
   unfolding ruleOf stringsOf stringRun pathRun argumentRun argumentRule
   node-in (And l r) n i h o = never o
   node-in (Or l r) n i h o = never o

@@ -2,9 +2,11 @@
 use mathlib.Core.Path.{_≡_, refl}
 use mathlib.Core.Bool.{true, false}
 use mathlib.Core.List.{List, [], _∷_}
+use mathlib.Core.Option.{none}
 use Prim.Native.Nat.{ℕ, _/_}
 use lib.ListN.{length}
 use Rattle.meaning.specs.Case.{nothing}
+use Rattle.meaning.specs.Check.{check}
 use Rattle.meaning.specs.Written.{table}
 use Rattle.encode.specs.Read.{readMarks, oneWay}
 use Rattle.write_examples.specs.Asked.{all, wanted, got, unsorted, wrote}
@@ -121,6 +123,11 @@ marks-read = refl
 used-one-way : oneWay (over (point 0 1 0 0) ((10 ∷ []) ∷ (31 ∷ 1 ∷ 1 ∷ []) ∷ []) (0 ∷ 0 ∷ [])) ≡ true
 unfolding all table point over
 used-one-way = refl
+
+-- it passes the check all the same
+checked-both-ways : check bothWays ≡ none
+unfolding all table point over bothWays
+checked-both-ways = refl
 
 used-both-ways : oneWay bothWays ≡ false
 unfolding all table point over bothWays

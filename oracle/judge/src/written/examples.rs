@@ -126,6 +126,13 @@ fn examples() -> Vec<Example> {
     add("a path's name without a mark", marked(1, 0).call(999), Err(6), None);
     add("an argument's term with a mark", marked(4, 1).call(999), Err(6), None);
     add("a binder with a mark", marked(5, 1).call(999), Err(6), None);
+    let both_ways = |mark: u8| {
+        let mut unsorted = marked(0, mark);
+        (unsorted.tables.variables, unsorted.tables.nodes[2][1]) = (16, 0);
+        unsorted.call(999)
+    };
+    add("a namespace word that is a binder too, marked", both_ways(1), Err(6), None);
+    add("a namespace word that is a binder too, unmarked", both_ways(0), Err(5), None);
     let no_point = |place: usize, mark: u8| {
         let mut unsorted = marked(place, mark);
         unsorted.tables.points.clear();

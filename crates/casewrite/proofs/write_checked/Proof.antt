@@ -3,35 +3,25 @@ use borrow.Author.Needs.{needs}
 use Rattle.casewrite.proofs.write_checked.Statement.{statement}
 use Rattle.casewrite.proofs.write_checked.Tie as tie
 use Rattle.casewrite.proofs.write_checked.Reads as reads
-use Rattle.casewrite.proofs.write_checked.Lts as lts
-use Rattle.casewrite.proofs.against_case.Reads as against-case-reads
-use Rattle.casewrite.proofs.write_out.Reads as write-out-reads
 
--- src/lib.rt:110:9
 against-case-requires : tie.Need-against-case-requires
 against-case-requires c κs = (search needs, (search (finished-tables, needs), search needs))
 
--- src/lib.rt:112:26
 enum-known-found : tie.Need-enum-known-found
 enum-known-found c = search needs
 
--- src/lib.rt:113:42
 enum-told : tie.Need-enum-told
 enum-told c = search needs
 
--- src/lib.rt:113:29
 write-out-requires : tie.Need-write-out-requires
 write-out-requires c κs = search needs
 
--- src/lib.rt:104:1
 returns : tie.Need-returns
 returns c = search (checked-refused, needs)
 
--- src/lib.rt:104:1
 same-length : tie.Need-same-length
 same-length c = search needs
 
--- src/lib.rt:104:1
 returns-2 : tie.Need-returns-2
 returns-2 c = search (checked-written, needs)
 

@@ -31,6 +31,7 @@ use Rattle.casewrite.specs.declared.Written.{Written}
 use Rattle.casewrite.specs.declared.Written.the-variants.{Wrote, Refused}
 use Rattle.casewrite.specs.declared.Against.{Against}
 use Rattle.casewrite.specs.declared.Against.the-variants as A
+use Rattle.casewrite.specs.Laws.{four, some-none, later-some, later-none}
 use Rattle.casewrite.specs.Written.{writtenAs, Writes, againstAs, marksRefusal, caseRefusal, WritesOut, WritesChecked}
 
 -- ---- marks
@@ -59,15 +60,8 @@ module _ (marks f : List ℕ) (pass : Bool) {t : Bool} (is : t ≡ allBelow (poi
 
 -- ---- the check and the marks
 
--- refusals 3 to 6 by their rules
-abbrev four : Bool → Bool → Bool → Bool → Option Refusal
-four a b d e = firstBroken ((a, BadStrings) ∷ (b, BadValues) ∷ (d, BadPoints) ∷ (e, BadNodes) ∷ [])
-
 abbrev two : Bool → Bool → Option Refusal
 two p n = firstBroken ((p, BadPoints) ∷ (n, BadNodes) ∷ [])
-
-some-none : {r : Refusal} → some r ≡ none → ⊥
-some-none e = let z : _≡_ {A = ℕ} 0 1 = cc in omega arith
 
 numbers : {r r′ : Refusal} → some r ≡ some r′ → numberOf r ≡ numberOf r′
 numbers e = cc
@@ -151,26 +145,6 @@ module _ (f output : List ℕ) where
 
 -- ---- the finished case
 
--- refusals 3 to 6, and 14
-abbrev five : Bool → Bool → Bool → Bool → Bool → Option Refusal
-five a b d e f = firstBroken ((a, BadStrings) ∷ (b, BadValues) ∷ (d, BadPoints) ∷ (e, BadNodes) ∷ (f, OutputTooShort) ∷ [])
-
-five-of : (a b d e f : Bool) {r : Refusal} → four a b d e ≡ some r → five a b d e f ≡ some r
-unfolding choose
-five-of true true true true f h = absurd (some-none (sym h))
-five-of true true true false f h = h
-five-of true true false e f h = h
-five-of true false d e f h = h
-five-of false b d e f h = h
-
-fifth : (a b d e f : Bool) → four a b d e ≡ none → five a b d e f ≡ choose f none (some OutputTooShort)
-unfolding choose
-fifth true true true true f h = refl
-fifth true true true false f h = absurd (some-none h)
-fifth true true false e f h = absurd (some-none h)
-fifth true false d e f h = absurd (some-none h)
-fifth false b d e f h = absurd (some-none h)
-
 against-some : (o : Option Refusal) {r : Refusal} → A.Refused r ≡ againstAs o → o ≡ some r
 unfolding againstAs
 against-some none h = let z : _≡_ {A = ℕ} 0 1 = cc in absurd (omega arith)
@@ -186,18 +160,17 @@ module _ (s marks f output : List ℕ) {found : Against} (made : f ≡ finished 
   case-is e = sym e ∙ says ∙ ap (λ (g : List ℕ). againstAs (caseRefusal s marks g)) made
 
   pub checked-refused : {r : Refusal} → found ≡ A.Refused r → WritesChecked s marks output output (Refused r)
-  unfolding caseRefusal laterRefusal writtenAs outputAfter
+  unfolding writtenAs outputAfter
   checked-refused {r} e =
-      let told : laterRefusal s marks [] output ≡ some r = five-of _ _ _ _ _ (against-some (caseRefusal s marks (finished s marks)) (case-is e)) in
+      let told : laterRefusal s marks [] output ≡ some r = later-some s marks output (against-some (caseRefusal s marks (finished s marks)) (case-is e)) in
       record { is = sym (ap (writtenAs (length (finished s marks))) told); gives = sym (ap (outputAfter s marks [] output) told) }
 
   pub checked-written : {r : Written} {w : List ℕ} → found ≡ A.Nothing → WritesOut f output w r → WritesChecked s marks output w r
-  unfolding caseRefusal laterRefusal
   checked-written {r} {w} e o =
       go (leb (length (finished s marks)) (length output)) refl
     where
       later : laterRefusal s marks [] output ≡ choose (leb (length (finished s marks)) (length output)) none (some OutputTooShort)
-      later = fifth _ _ _ _ _ (against-none (caseRefusal s marks (finished s marks)) (case-is e))
+      later = later-none s marks output (against-none (caseRefusal s marks (finished s marks)) (case-is e))
 
       go : (b : Bool) → leb (length (finished s marks)) (length output) ≡ b → WritesChecked s marks output w r
       go true h = unfold writtenAs outputAfter in

@@ -2,7 +2,6 @@
 use finish::is_marked;
 use meaning::Node;
 use meaning::NodeNo;
-use meaning::Run;
 use meaning::StrNo;
 use stringcheck::both;
 use stringcheck::node_count;
@@ -15,28 +14,31 @@ use tables::size_of;
 use tables::string_word;
 use tables::wide;
 ghost use mathlib.Core.Path.{_≡_};
-ghost use mathlib.Core.Bool.{Bool, true, not};
-ghost use Prim.Native.Nat.{_+_, _*_, _≤_};
-ghost use Rattle.meaning.specs.Tests.{allBelow};
+ghost use mathlib.Core.Bool.{Bool, true, false};
+ghost use Prim.Native.Nat.{_+_, _≤_};
+ghost use Rattle.meaning.specs.Tests.{_and_, allBelow};
 ghost use Rattle.meaning.specs.Case.{points, nodes, strings};
 ghost use Rattle.meaning.specs.Check.{bodies};
-ghost use Rattle.encode.specs.Unsorted.{marked, inText};
-ghost use Rattle.encode.specs.Write.{allMarked, noneMarked, entityMarks, pointMarks, argumentMarks, nodeMarks};
+ghost use Rattle.encode.specs.Unsorted.{inText};
+ghost use Rattle.encode.specs.Write.{pointMarks, nodeMarks};
+ghost use Rattle.marking.specs.Runs.{word, wordOf, item, itemOf};
 
-fn unmarked(marks: &[u8], i: usize) -> bool
-    ensures { λ r. ⌜ _≡_ {A = Bool} r (not (marked (now (marks .entry)) i)) ⌝ }
+// ---- words
+
+// is word i marked as one that names a string, or as another?
+fn is_word(marks: &[u8], names: bool, i: usize) -> bool
+    ensures { λ r. ⌜ _≡_ {A = Bool} r (word (now (marks .entry)) names i) ⌝ }
 {
-    !is_marked(marks, i)
+    let marked = is_marked(marks, i);
+    if names { marked } else { !marked }
 }
 
-// every place of a run is marked
-fn all_marked(marks: &[u8], first: usize, items: u32) -> bool
-    requires { ⌜ first ≤ 17179869184 ⌝ }
-    ensures { λ r. ⌜ _≡_ {A = Bool} r (allMarked (now (marks .entry)) first items) ⌝ }
+fn word_run(marks: &[u8], names: bool, first: u32, items: u32) -> bool
+    ensures { λ r. ⌜ _≡_ {A = Bool} r (allBelow items (wordOf (now (marks .entry)) names first)) ⌝ }
 {
     let mut i = 0;
     while i < items {
-        if !is_marked(marks, first + wide(i)) {
+        if !is_word(marks, names, wide(first) + wide(i)) {
             return false;
         }
         i += 1;
@@ -44,68 +46,62 @@ fn all_marked(marks: &[u8], first: usize, items: u32) -> bool
     true
 }
 
-// no place of a run is marked
-fn none_marked(marks: &[u8], first: usize, items: u32) -> bool
-    requires { ⌜ first ≤ 17179869184 ⌝ }
-    ensures { λ r. ⌜ _≡_ {A = Bool} r (noneMarked (now (marks .entry)) first items) ⌝ }
-{
-    let mut i = 0;
-    while i < items {
-        if !unmarked(marks, first + wide(i)) {
-            return false;
-        }
-        i += 1;
-    }
-    true
-}
+// ---- entities and arguments
 
-fn run_marked(marks: &[u8], run: Run) -> bool
-    ensures { λ r. ⌜ _≡_ {A = Bool} r (allMarked (now (marks .entry)) (run .first) (run .count)) ⌝ }
-{
-    all_marked(marks, wide(run.first), run.count)
-}
-
-fn run_unmarked(marks: &[u8], run: Run) -> bool
-    ensures { λ r. ⌜ _≡_ {A = Bool} r (noneMarked (now (marks .entry)) (run .first) (run .count)) ⌝ }
-{
-    none_marked(marks, wide(run.first), run.count)
-}
-
-// type and id are marked, the attribute object is not
-fn entity_marks(marks: &[u8], i: usize) -> bool
+// an entity's type and id name strings, an argument's path run does not; the third word never does
+fn own_words(marks: &[u8], names: bool, i: usize) -> bool
     requires { ⌜ i ≤ 17179869184 ⌝ }
-    ensures { λ r. ⌜ _≡_ {A = Bool} r (entityMarks (now (marks .entry)) i) ⌝ }
+    ensures { λ r. ⌜ _≡_ {A = Bool} r ((word (now (marks .entry)) names i and word (now (marks .entry)) names (i + 1)) and word (now (marks .entry)) false (i + 2)) ⌝ }
 {
-    both(all_marked(marks, i, 2), unmarked(marks, i + 2))
+    both(
+        both(is_word(marks, names, i), is_word(marks, names, i + 1)),
+        is_word(marks, false, i + 2),
+    )
 }
 
-fn entities_marked(marks: &[u8], run: Run) -> bool
-    ensures { λ r. ⌜ _≡_ {A = Bool} r (allBelow (run .count) (λ i. entityMarks (now (marks .entry)) (run .first + 3 * i))) ⌝ }
+// an argument's path names strings
+fn is_item(f: &[u8], marks: &[u8], argument: bool, i: usize) -> bool
+    requires { ⌜ bodies (now f) ≡ true ⌝ }
+    requires { ⌜ i ≤ 17179869184 ⌝ }
+    ensures { λ r. ⌜ _≡_ {A = Bool} r (item (now (f .entry)) (now (marks .entry)) argument i) ⌝ }
 {
-    let first = wide(run.first);
-    let items = run.count;
+    let own = own_words(marks, !argument, i);
+    if !argument {
+        return own;
+    }
+    let first = list_at(f, i);
+    both(own, word_run(marks, true, first, list_at(f, i + 1)))
+}
+
+fn item_run(f: &[u8], marks: &[u8], argument: bool, first: u32, items: u32) -> bool
+    requires { ⌜ bodies (now f) ≡ true ⌝ }
+    ensures { λ r. ⌜ _≡_ {A = Bool} r (allBelow items (itemOf (now (f .entry)) (now (marks .entry)) argument first)) ⌝ }
+{
     let mut i = 0;
     while i < items {
-        if !entity_marks(marks, first + 3 * wide(i)) {
+        if !is_item(f, marks, argument, wide(first) + 3 * wide(i)) {
             return false;
         }
         i += 1;
     }
     true
 }
+
+// ---- points and nodes
 
 // namespace and entities of point p
-fn point_marks(f: &[u8], marks: &[u8], p: usize) -> bool
+fn point_marks(f: &[u8], marks: &[u8], p: u32) -> bool
     requires { ⌜ bodies (now f) ≡ true ⌝ }
     ensures { λ r. ⌜ _≡_ {A = Bool} r (pointMarks (now (f .entry)) (now (marks .entry)) p) ⌝ }
 {
-    let a = point_word(f, p, 2);
-    let b = point_word(f, p, 3);
-    let d = point_word(f, p, 10);
-    let e = point_word(f, p, 11);
-    let namespace = run_marked(marks, Run { first: a, count: b });
-    let entities = entities_marked(marks, Run { first: d, count: e });
-    both(namespace, entities)
+    let at = wide(p);
+    let place = point_word(f, at, 2);
+    let namespace = word_run(marks, true, place, point_word(f, at, 3));
+    let first = point_word(f, at, 10);
+    both(
+        namespace,
+        item_run(f, marks, false, first, point_word(f, at, 11)),
+    )
 }
 
 pub fn points_marked(f: &[u8], marks: &[u8]) -> bool
@@ -115,7 +111,7 @@ pub fn points_marked(f: &[u8], marks: &[u8]) -> bool
     let many = point_count(f);
     let mut p = 0;
     while p < many {
-        if !point_marks(f, marks, wide(p)) {
+        if !point_marks(f, marks, p) {
             return false;
         }
         p += 1;
@@ -123,41 +119,12 @@ pub fn points_marked(f: &[u8], marks: &[u8]) -> bool
     true
 }
 
-// an argument's three words are not marked, the names of its path are
-fn argument_marks(f: &[u8], marks: &[u8], i: usize) -> bool
-    requires { ⌜ bodies (now f) ≡ true ⌝ }
-    requires { ⌜ i ≤ 17179869184 ⌝ }
-    ensures { λ r. ⌜ _≡_ {A = Bool} r (argumentMarks (now (f .entry)) (now (marks .entry)) i) ⌝ }
-{
-    let own = none_marked(marks, i, 3);
-    let a = list_at(f, i);
-    let b = list_at(f, i + 1);
-    let path = run_marked(marks, Run { first: a, count: b });
-    both(own, path)
-}
-
-fn arguments_marked(f: &[u8], marks: &[u8], run: Run) -> bool
-    requires { ⌜ bodies (now f) ≡ true ⌝ }
-    ensures { λ r. ⌜ _≡_ {A = Bool} r (allBelow (run .count) (λ i. argumentMarks (now (f .entry)) (now (marks .entry)) (run .first + 3 * i))) ⌝ }
-{
-    let first = wide(run.first);
-    let items = run.count;
-    let mut i = 0;
-    while i < items {
-        if !argument_marks(f, marks, first + 3 * wide(i)) {
-            return false;
-        }
-        i += 1;
-    }
-    true
-}
-
 // the list places that node n uses
-fn node_marks(f: &[u8], marks: &[u8], n: NodeNo) -> bool
+fn node_marks(f: &[u8], marks: &[u8], n: u32) -> bool
     requires { ⌜ bodies (now f) ≡ true ⌝ }
-    ensures { λ r. ⌜ _≡_ {A = Bool} r (nodeMarks (now (f .entry)) (now (marks .entry)) (n .0)) ⌝ }
+    ensures { λ r. ⌜ _≡_ {A = Bool} r (nodeMarks (now (f .entry)) (now (marks .entry)) n) ⌝ }
 {
-    let node = node_at(f, n);
+    let node = node_at(f, NodeNo(n));
     match node {
         Node::Predicate {
             namespace,
@@ -165,17 +132,20 @@ fn node_marks(f: &[u8], marks: &[u8], n: NodeNo) -> bool
             kind: _,
             arguments,
         } => {
-            let names = run_marked(marks, namespace);
-            both(names, arguments_marked(f, marks, arguments))
+            let names = word_run(marks, true, namespace.first, namespace.count);
+            both(
+                names,
+                item_run(f, marks, true, arguments.first, arguments.count),
+            )
         }
-        Node::Context(path) => run_marked(marks, path),
-        Node::Scope(_, path) => run_marked(marks, path),
+        Node::Context(path) => word_run(marks, true, path.first, path.count),
+        Node::Scope(_, path) => word_run(marks, true, path.first, path.count),
         Node::Sum {
             variable: _,
             binders,
             body: _,
-        } => run_unmarked(marks, binders),
-        Node::Count { binders, body: _ } => run_unmarked(marks, binders),
+        } => word_run(marks, false, binders.first, binders.count),
+        Node::Count { binders, body: _ } => { word_run(marks, false, binders.first, binders.count) }
         _ => true,
     }
 }
@@ -187,7 +157,7 @@ pub fn nodes_marked(f: &[u8], marks: &[u8]) -> bool
     let many = node_count(f);
     let mut n = 0;
     while n < many {
-        if !node_marks(f, marks, NodeNo(n)) {
+        if !node_marks(f, marks, n) {
             return false;
         }
         n += 1;

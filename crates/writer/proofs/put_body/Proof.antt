@@ -2,12 +2,6 @@ use Rattle.writer.proofs.Rules.{fits-long, body-inside, body-put}
 use borrow.Author.Needs.{needs}
 use Rattle.writer.proofs.put_body.Statement.{statement}
 use Rattle.writer.proofs.put_body.Tie as tie
-use Rattle.writer.proofs.put_body.Reads as reads
-use Rattle.writer.proofs.put_body.Lts as lts
-use Rattle.encode.proofs.copy_at.Reads as copy-at-reads
-use Rattle.tables.proofs.offset_of.Reads as offset-of-reads
-use Rattle.tables.proofs.size_of.Reads as size-of-reads
-use Rattle.tables.proofs.wide.Reads as wide-reads
 
 offset-of-requires : tie.Need-offset-of-requires
 offset-of-requires c κs = search (fits-long, needs)

@@ -2,9 +2,6 @@ use Rattle.writer.proofs.Rules.{contents-long, contents-fit, contents-p
 use borrow.Author.Needs.{needs}
 use Rattle.writer.proofs.put_contents.Statement.{statement}
 use Rattle.writer.proofs.put_contents.Tie as tie
-use Rattle.writer.proofs.put_contents.Reads as reads
-use Rattle.writer.proofs.put_contents.Lts as lts
-use Rattle.encode.proofs.copy_at.Reads as copy-at-reads
 
 slice-aggregate-copy-at : tie.Need-slice-aggregate-copy-at
 slice-aggregate-copy-at c = search (contents-long, needs)

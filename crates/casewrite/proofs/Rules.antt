@@ -8,9 +8,9 @@ use native.Mathlib.Omega.{arith}
 use lib.Dec.{leb, eqb}
 use lib.ListN.{length, take, drop, length-append}
 use lib.Seq.{take-at, length-take-le}
-use borrow.Author.Tests.{not-true, not-false, leb-true, lt-leb, le-leb}
+use borrow.Author.Tests.{not-true, not-false, lt-leb, le-leb}
 use Rattle.meaning.specs.declared.Refusal.{Refusal}
-use Rattle.meaning.specs.declared.Refusal.the-variants.{BadContents, TooLarge, BadStrings, BadValues, BadPoints, BadNodes, BadLimits, OutputTooShort}
+use Rattle.meaning.specs.declared.Refusal.the-variants.{BadStrings, BadPoints, BadNodes, OutputTooShort}
 use Rattle.meaning.specs.Tests.{_and_, choose, orElse, firstBroken, allBelow}
 use Rattle.meaning.specs.Case.{strings, lists, points, nodes}
 use Rattle.meaning.specs.Check.{bodies, mosts, stringRules, valueRules, pointRules, nodeRules, check}

@@ -1,16 +1,15 @@
 -- What the output is after so many bodies, and after the contents
 use mathlib.Core.Path.{_≡_, refl, sym, _∙_, ap, ap₂, subst}
-use mathlib.Core.Bool.{true}
-use mathlib.Core.List.{List, [], _∷_, _++_, append-assoc}
+use mathlib.Core.List.{List, _++_, append-assoc}
 use Prim.Native.Nat.{ℕ, zero, suc, _+_, _-_, _<_, _≤_}
 use native.Mathlib.Omega.{arith}
 use lib.ListN.{length, take, drop, length-append, length-drop, take-append-drop}
-use lib.Seq.{length-take-le, take-all, take-add, drop-drop, drop-append-add, drop-append-seam}
+use lib.Seq.{length-take-le, take-all, take-add, drop-drop, drop-append-add}
 use borrow.Author.Tests.{eqb-true}
 use Rattle.meaning.specs.Case.{offset, size, body}
 use Rattle.meaning.specs.Check.{bodies, startOf, bodyRule}
 use Rattle.meaning.specs.Laws.Tests.{both, all-at}
-use Rattle.meaning.specs.Laws.Bodies.{long, body-ends, body-length}
+use Rattle.meaning.specs.Laws.Bodies.{long, body-ends}
 use Rattle.meaning.specs.Laws.Writing.{Writing, write-none, write-more}
 use Rattle.encode.specs.Write.{over}
 use Rattle.writer.specs.Put.{put, Fits, Starts, Whole}

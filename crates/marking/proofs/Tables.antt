@@ -44,7 +44,7 @@ zeros zero b = refl
 zeros (suc n) zero = refl
 zeros (suc n) (suc b) = zeros n b
 
-pub known-none : {test : ℕ → ℕ → Bool} {n : ℕ} → n ≡ 8192 → Known test (replicate n 0)
+known-none : {test : ℕ → ℕ → Bool} {n : ℕ} → n ≡ 8192 → Known test (replicate n 0)
 unfolding allBelow
 known-none {test} {n} e = record { long = length-replicate n 0 ∙ e; at = λ b. rw (zeros n b) refl }
 

@@ -14,6 +14,10 @@ unfoldable pub word : List ℕ → Bool → ℕ → Bool
 word marks true i = marked marks i
 word marks false i = not (marked marks i)
 
+-- an entity's type and id name strings, an argument's path run does not; the third word never does
+unfoldable pub ownWords : List ℕ → Bool → ℕ → Bool
+ownWords marks names i = (word marks names i and word marks names (i + 1)) and word marks false (i + 2)
+
 -- word i of a run
 unfoldable pub wordOf : List ℕ → Bool → ℕ → ℕ → Bool
 wordOf marks names first i = word marks names (first + i)
@@ -38,6 +42,7 @@ pub record ItemPlace (first i at : ℕ) : Type 0 where
 unfoldable pub known : List ℕ → ℕ → ℕ
 known table at = choose (eqb (at % 128) 0 and ltb (at / 128) 8192) (getD table (at / 128) 0) 0
 
+-- an entry more, if the table has one for word i
 unfoldable pub kept : List ℕ → ℕ → ℕ → List ℕ
 kept table i items = choose (eqb (i % 128) 0) (set table (i / 128) items) table
 

@@ -17,12 +17,12 @@ ghost use mathlib.Core.Path.{_≡_};
 ghost use mathlib.Core.Bool.{Bool, true, false};
 ghost use Prim.Native.Nat.{_+_, _<_, _≤_, min};
 ghost use lib.ListN.{length};
-ghost use Rattle.meaning.specs.Tests.{_and_, choose, allBelow};
+ghost use Rattle.meaning.specs.Tests.{choose, allBelow};
 ghost use Rattle.meaning.specs.Case.{points, nodes, strings};
 ghost use Rattle.meaning.specs.Check.{bodies};
 ghost use Rattle.encode.specs.Unsorted.{inText};
 ghost use Rattle.encode.specs.Write.{pointMarks, nodeMarks};
-ghost use Rattle.marking.specs.Runs.{word, wordOf, item, itemOf, ItemPlace, known, kept, Known};
+ghost use Rattle.marking.specs.Runs.{word, ownWords, wordOf, item, itemOf, ItemPlace, known, kept, Known};
 
 // ---- runs may overlap and are long, so stretches that pass are known ahead: at every 128th word, how many items from it on
 
@@ -112,10 +112,10 @@ fn word_run(marks: &[u8], table: &[u32; 8192], names: bool, first: u32, items: u
 
 // ---- entities and arguments
 
-// an entity's type and id name strings, an argument's path run does not; the third word never does
+// the three words of an entity or of an argument
 fn own_words(marks: &[u8], names: bool, i: usize) -> bool
     requires { ⌜ i ≤ 17179869184 ⌝ }
-    ensures { λ r. ⌜ _≡_ {A = Bool} r ((word (now (marks .entry)) names i and word (now (marks .entry)) names (i + 1)) and word (now (marks .entry)) false (i + 2)) ⌝ }
+    ensures { λ r. ⌜ _≡_ {A = Bool} r (ownWords (now (marks .entry)) names i) ⌝ }
 {
     both(
         both(is_word(marks, names, i), is_word(marks, names, i + 1)),

@@ -8,15 +8,14 @@ use native.Mathlib.Omega.{arith}
 use lib.Dec.{leb, eqb}
 use lib.ListN.{length, take, drop, length-append}
 use lib.Seq.{take-at, length-take-le}
-use borrow.Author.Tests.{not-true, not-false, leb-true, lt-leb, le-leb}
+use borrow.Author.Tests.{not-true, not-false, lt-leb, le-leb}
 use Rattle.meaning.specs.declared.Refusal.{Refusal}
-use Rattle.meaning.specs.declared.Refusal.the-variants.{BadContents, TooLarge, BadStrings, BadValues, BadPoints, BadNodes, BadLimits, OutputTooShort}
+use Rattle.meaning.specs.declared.Refusal.the-variants.{BadStrings, BadPoints, BadNodes, OutputTooShort}
 use Rattle.meaning.specs.Tests.{_and_, choose, orElse, firstBroken, allBelow}
 use Rattle.meaning.specs.Case.{strings, lists, points, nodes}
 use Rattle.meaning.specs.Check.{bodies, mosts, stringRules, valueRules, pointRules, nodeRules, check}
 use Rattle.meaning.specs.Calls.{numberOf}
 use Rattle.meaning.specs.Laws.Tests.{both, stop, after, yes, no, unbroken}
-use Rattle.meaning.specs.Laws.Writing.{Writing}
 use Rattle.encode.specs.Unsorted.{inText, finished}
 use Rattle.encode.specs.Write.{pointMarks, nodeMarks, makeRefusal, roomAfter, laterRefusal, writeRefusal, outputAfter, over}
 use Rattle.encode.specs.Laws.Unsorted.{finished-bodies}
@@ -24,6 +23,7 @@ use Rattle.casecheck.specs.declared.Contents.{Contents}
 use Rattle.casecheck.specs.declared.Checking.{Checking}
 use Rattle.casecheck.specs.declared.Checking.the-variants as Che
 use Rattle.casecheck.specs.Answer.{contentsOf, answer, asChecking, passed}
+use Rattle.writer.specs.Put.{Whole}
 use Rattle.making.specs.declared.Made.{Made}
 use Rattle.making.specs.declared.Made.the-variants as M
 use Rattle.making.specs.Made.{madeAs, Makes}
@@ -136,12 +136,13 @@ module _ (f output : List ℕ) where
       let short : leb (length f) (length output) ≡ false = lt-leb (length f) (length output) h in
       record { is = sym (no _ short refl); gives = sym (no _ short refl) }
 
-  pub out-written : {w : List ℕ} → length f ≤ length output → Writing output w 0 f → WritesOut f output w (Wrote (length f))
-  unfolding over
-  out-written h d =
+  pub out-fits : bodies f ≡ true → length f ≤ length output → Whole output f
+  out-fits b h = record { passes = b; held = h }
+
+  pub out-written : {w : List ℕ} → length f ≤ length output → w ≡ over f output → WritesOut f output w (Wrote (length f))
+  out-written h e =
       let fits : leb (length f) (length output) ≡ true = le-leb (length f) (length output) h in
-      let from : 0 + length f ≡ length f = omega arith in
-      record { is = sym (yes _ fits); gives = d .is ∙ ap (λ (n : ℕ). f ++ drop n output) from ∙ sym (yes _ fits) }
+      record { is = sym (yes _ fits); gives = e ∙ sym (yes _ fits) }
 
 -- ---- the finished case
 

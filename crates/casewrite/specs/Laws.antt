@@ -9,7 +9,7 @@ use lib.Dec.{leb}
 use lib.ListN.{length}
 use Rattle.meaning.specs.declared.Refusal.{Refusal}
 use Rattle.meaning.specs.declared.Refusal.the-variants.{BadStrings, BadValues, BadPoints, BadNodes, OutputTooShort}
-use Rattle.meaning.specs.Tests.{_and_, choose, firstBroken}
+use Rattle.meaning.specs.Tests.{choose, firstBroken}
 use Rattle.encode.specs.Unsorted.{finished}
 use Rattle.encode.specs.Write.{laterRefusal}
 use Rattle.casewrite.specs.Written.{caseRefusal}

@@ -14,7 +14,7 @@ use Rattle.meaning.specs.Tests.{choose, orElse, firstBroken}
 use Rattle.meaning.specs.Calls.{numberOf}
 use Rattle.meaning.specs.Laws.Tests.{no}
 use Rattle.encode.specs.Unsorted.{finished}
-use Rattle.encode.specs.Write.{makeRefusal, roomAfter, laterRefusal, writeRefusal, outputAfter, over}
+use Rattle.encode.specs.Write.{makeRefusal, laterRefusal, writeRefusal, outputAfter, over}
 use Rattle.casewrite.specs.declared.Written.{Written}
 use Rattle.casewrite.specs.declared.Written.the-variants.{Wrote, Refused}
 use Rattle.casewrite.specs.Written.{writtenAs, Writes, caseRefusal}

@@ -1,7 +1,6 @@
 // The writer: an unsorted case becomes a finished one, checked in the room before the output is touched.
 use casecheck::Checking;
 use casecheck::check;
-use encode::copy_at;
 use making::Made;
 use making::make;
 use marking::nodes_marked;
@@ -9,6 +8,7 @@ use marking::points_marked;
 use marking::strings_in_text;
 use meaning::Refusal;
 use refusals::number;
+use writer::write_case;
 ghost use mathlib.Core.Path.{_≡_};
 ghost use mathlib.Core.Bool.{true};
 ghost use Rattle.meaning.specs.Check.{bodies, mosts};
@@ -68,12 +68,13 @@ fn against_case(s: &[u8], marks: &[u8], f: &[u8]) -> Against
 
 // a case over the output, if it fits
 fn write_out(f: &[u8], out: &mut [u8]) -> Written
+    requires { ⌜ bodies (now f) ≡ true ⌝ }
     ensures { λ r. ⌜ WritesOut (now (f .entry)) (now (out .entry)) (now (out .exit)) r ⌝ }
 {
     if out.len() < f.len() {
         return Written::Refused(Refusal::OutputTooShort);
     }
-    copy_at(out, 0, f);
+    write_case(out, f);
     Written::Wrote(f.len())
 }
 

@@ -13,10 +13,10 @@ use Rattle.meaning.specs.declared.Node.{Node}
 use Rattle.meaning.specs.declared.Node.the-variants.{And, Or, Not, Formerly, Previous, Since, Predicate, Comparison, Exists, Tp, Literal, Context, Scope, Variable, Wildcard, Aggregate, Arithmetic, Sum, Count, Broken}
 use Rattle.meaning.specs.Tests.{_and_, allBelow}
 use Rattle.meaning.specs.Case.{size, stringWord, pointWord, list, nodeAt}
-use Rattle.meaning.specs.Laws.Tests.{record-no, record-yes, all-end}
+use Rattle.meaning.specs.Laws.Tests.{stop, after, record-no, record-yes, all-end}
 use Rattle.encode.specs.Unsorted.{marked, inText}
 use Rattle.encode.specs.Write.{allMarked, noneMarked, entityMarks, pointMarks, argumentMarks, marksOf, nodeMarks}
-use Rattle.marking.specs.Runs.{word, wordOf, item, itemOf}
+use Rattle.marking.specs.Runs.{word, ownWords, wordOf, item, itemOf}
 
 -- the first i have passed
 pub record Passing (test : ℕ → Bool) (n i : ℕ) : Type 0 where
@@ -50,33 +50,33 @@ pub other-as : {names r : Bool} (marks : List ℕ) (i : ℕ) → names ≡ false
 unfolding word
 other-as marks i n e = rw n (ap not e)
 
-pub word-at : {a j : ℕ} {r : Bool} (marks : List ℕ) (names : Bool) (first i : ℕ) → a ≡ first → j ≡ i → r ≡ word marks names (a + j) → r ≡ wordOf marks names first i
-unfolding wordOf
-word-at marks names first i p q e = e ∙ rw (p, q) refl
-
 -- ---- entities and arguments
 
-pub own-as : {x y z u q A B C : Bool} → u ≡ (x and y) → q ≡ (u and z) → x ≡ A → y ≡ B → z ≡ C → q ≡ ((A and B) and C)
-own-as d e a b c = e ∙ rw (d, a, b, c) refl
+pub own-as : {x y z u q : Bool} (marks : List ℕ) (names : Bool) (i : ℕ) → u ≡ (x and y) → q ≡ (u and z) → x ≡ word marks names i → y ≡ word marks names (i + 1) → z ≡ word marks false (i + 2) → q ≡ ownWords marks names i
+unfolding ownWords
+own-as marks names i d e a b c = and-parts e (and-parts d a b) c
 
 module _ (f marks : List ℕ) (argument : Bool) (i : ℕ) {own : Bool} where
-  pub entity-as : not argument ≡ true → own ≡ ((word marks (not argument) i and word marks (not argument) (i + 1)) and word marks false (i + 2)) → own ≡ item f marks argument i
-  unfolding item word entityMarks allMarked allBelow _and_
+  pub entity-as : not argument ≡ true → own ≡ ownWords marks (not argument) i → own ≡ item f marks argument i
+  unfolding item ownWords word entityMarks allMarked allBelow _and_
   entity-as n e =
       let q : argument ≡ false = not-true argument n in
       let z : i + 0 ≡ i = omega arith in
       rw (q, z) (rw q at e)
 
-  pub argument-as : {a b : ℕ} {p q : Bool} → not argument ≡ false → own ≡ ((word marks (not argument) i and word marks (not argument) (i + 1)) and word marks false (i + 2)) → a ≡ list f i → b ≡ list f (i + 1) → p ≡ allBelow b (wordOf marks true a) → q ≡ (own and p) → q ≡ item f marks argument i
-  unfolding item word wordOf argumentMarks noneMarked allMarked allBelow _and_
-  argument-as n e la lb ep eq =
+  own-argument : not argument ≡ false → own ≡ ownWords marks (not argument) i → item f marks argument i ≡ (own and allMarked marks (list f i) (list f (i + 1)))
+  unfolding item ownWords word argumentMarks noneMarked allBelow _and_
+  own-argument n e =
       let y : argument ≡ true = not-false argument n in
       let z : i + 0 ≡ i = omega arith in
-      eq ∙ rw (y, z, ep, la, lb, rw y at e) refl
+      rw (y, z, rw y at e) refl
 
-pub item-at : {a j : ℕ} {r : Bool} (f marks : List ℕ) (argument : Bool) (first i : ℕ) → a ≡ first → j ≡ i → r ≡ item f marks argument (a + 3 * j) → r ≡ itemOf f marks argument first i
-unfolding itemOf
-item-at f marks argument first i p q e = e ∙ rw (p, q) refl
+  pub argument-stops : not argument ≡ false → own ≡ ownWords marks (not argument) i → not own ≡ true → false ≡ item f marks argument i
+  argument-stops n e h = sym (own-argument n e ∙ stop _ (not-true own h))
+
+  pub argument-as : {a b : ℕ} {p : Bool} → not argument ≡ false → own ≡ ownWords marks (not argument) i → not own ≡ false → a ≡ list f i → b ≡ list f (i + 1) → p ≡ allBelow b (wordOf marks true a) → p ≡ item f marks argument i
+  unfolding wordOf word allMarked
+  argument-as n e h la lb ep = ep ∙ rw (la, lb) (sym (own-argument n e ∙ after (not-false own h)))
 
 -- ---- points and nodes
 

@@ -2,7 +2,6 @@ use Rattle.casewrite.proofs.Rules.{strings-against, case-other, case-pa
 use borrow.Author.Needs.{needs}
 use Rattle.casewrite.proofs.against_case.Statement.{statement}
 use Rattle.casewrite.proofs.against_case.Tie as tie
-use Rattle.casewrite.proofs.against_case.Reads as reads
 
 strings-in-text-requires : tie.Need-strings-in-text-requires
 strings-in-text-requires c κs = search needs

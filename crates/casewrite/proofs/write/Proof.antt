@@ -2,7 +2,6 @@ use Rattle.casewrite.proofs.Rules.{made-fits, made-long, made-tables, m
 use borrow.Author.Needs.{needs}
 use Rattle.casewrite.proofs.write.Statement.{statement}
 use Rattle.casewrite.proofs.write.Tie as tie
-use Rattle.casewrite.proofs.write.Reads as reads
 
 make-requires : tie.Need-make-requires
 make-requires c κs = search needs

@@ -2,7 +2,6 @@ use Rattle.casewrite.proofs.Rules.{finished-tables, checked-refused, ch
 use borrow.Author.Needs.{needs}
 use Rattle.casewrite.proofs.write_checked.Statement.{statement}
 use Rattle.casewrite.proofs.write_checked.Tie as tie
-use Rattle.casewrite.proofs.write_checked.Reads as reads
 
 against-case-requires : tie.Need-against-case-requires
 against-case-requires c κs = (search needs, (search (finished-tables, needs), search needs))
@@ -14,7 +13,7 @@ enum-told : tie.Need-enum-told
 enum-told c = search needs
 
 write-out-requires : tie.Need-write-out-requires
-write-out-requires c κs = search needs
+write-out-requires c κs = search (finished-tables, needs)
 
 returns : tie.Need-returns
 returns c = search (checked-refused, needs)

@@ -1,14 +1,13 @@
-use Rattle.casewrite.proofs.Rules.{out-short, out-written}
+use Rattle.casewrite.proofs.Rules.{out-short, out-fits, out-written}
 use borrow.Author.Needs.{needs}
 use Rattle.casewrite.proofs.write_out.Statement.{statement}
 use Rattle.casewrite.proofs.write_out.Tie as tie
-use Rattle.casewrite.proofs.write_out.Reads as reads
 
 returns : tie.Need-returns
 returns c = search (out-short, needs)
 
-copy-at-requires : tie.Need-copy-at-requires
-copy-at-requires c κs = search needs
+write-case-requires : tie.Need-write-case-requires
+write-case-requires c κs = search (out-fits, needs)
 
 same-length : tie.Need-same-length
 same-length c = search needs
@@ -17,4 +16,4 @@ returns-2 : tie.Need-returns-2
 returns-2 c = search (out-written, needs)
 
 pub write-out-spec : {M : Type 1} → statement M
-write-out-spec = tie.close (tie.spec returns copy-at-requires same-length returns-2)
+write-out-spec = tie.close (tie.spec returns write-case-requires same-length returns-2)

@@ -1,4 +1,4 @@
-use Rattle.marking.proofs.Rules.{entity-as, argument-as}
+use Rattle.marking.proofs.Rules.{entity-as, argument-stops, argument-as}
 use borrow.Author.Needs.{needs}
 use Rattle.marking.proofs.is_item.Statement.{statement}
 use Rattle.marking.proofs.is_item.Tie as tie
@@ -8,6 +8,9 @@ own-words-requires c κs = search needs
 
 returns : tie.Need-returns
 returns c = search (entity-as, needs)
+
+returns-2 : tie.Need-returns-2
+returns-2 c = search (argument-stops, needs)
 
 list-at-requires : tie.Need-list-at-requires
 list-at-requires c κs = search needs
@@ -21,11 +24,8 @@ list-at-requires-2 c κs = search needs
 word-run-requires : tie.Need-word-run-requires
 word-run-requires c κs = search needs
 
-both-requires : tie.Need-both-requires
-both-requires c κs = search needs
-
-returns-2 : tie.Need-returns-2
-returns-2 c = search (argument-as, needs)
+returns-3 : tie.Need-returns-3
+returns-3 c = search (argument-as, needs)
 
 pub is-item-spec : {M : Type 1} → statement M
 is-item-spec =
@@ -33,9 +33,9 @@ is-item-spec =
     (tie.spec
     own-words-requires
     returns
+    returns-2
     list-at-requires
     add-list-at
     list-at-requires-2
     word-run-requires
-    both-requires
-    returns-2)
+    returns-3)

@@ -6,10 +6,19 @@ use Rattle.marking.proofs.nodes_marked.Statement.{statement}
 use Rattle.marking.proofs.nodes_marked.Tie as tie
 
 abbrev Inv-loop : tie.InvT-loop
-Inv-loop f marks many n₀ n = Passing (nodeMarks f marks) many n
+Inv-loop f marks names others items many n₀ n = Passing (nodeMarks f marks) many n
 
 abbrev μ-loop : tie.MeasureT-loop
-μ-loop f marks many n₀ n = many - n
+μ-loop f marks names others items many n₀ n = many - n
+
+word-table-requires : tie.Need-word-table-requires Inv-loop μ-loop
+word-table-requires c κs = search needs
+
+word-table-requires-2 : tie.Need-word-table-requires-2 Inv-loop μ-loop
+word-table-requires-2 c κs = search needs
+
+item-table-requires : tie.Need-item-table-requires Inv-loop μ-loop
+item-table-requires c κs = search needs
 
 node-count-requires : tie.Need-node-count-requires Inv-loop μ-loop
 node-count-requires c κs = search needs
@@ -41,6 +50,9 @@ nodes-marked-spec =
     (tie.spec
     Inv-loop
     μ-loop
+    word-table-requires
+    word-table-requires-2
+    item-table-requires
     node-count-requires
     loop-holds
     node-marks-requires

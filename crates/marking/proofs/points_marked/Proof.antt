@@ -6,10 +6,16 @@ use Rattle.marking.proofs.points_marked.Statement.{statement}
 use Rattle.marking.proofs.points_marked.Tie as tie
 
 abbrev Inv-loop : tie.InvT-loop
-Inv-loop f marks many p₀ p = Passing (pointMarks f marks) many p
+Inv-loop f marks names entities many p₀ p = Passing (pointMarks f marks) many p
 
 abbrev μ-loop : tie.MeasureT-loop
-μ-loop f marks many p₀ p = many - p
+μ-loop f marks names entities many p₀ p = many - p
+
+word-table-requires : tie.Need-word-table-requires Inv-loop μ-loop
+word-table-requires c κs = search needs
+
+item-table-requires : tie.Need-item-table-requires Inv-loop μ-loop
+item-table-requires c κs = search needs
 
 point-count-requires : tie.Need-point-count-requires Inv-loop μ-loop
 point-count-requires c κs = search needs
@@ -41,6 +47,8 @@ points-marked-spec =
     (tie.spec
     Inv-loop
     μ-loop
+    word-table-requires
+    item-table-requires
     point-count-requires
     loop-holds
     point-marks-requires

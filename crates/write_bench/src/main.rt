@@ -1,8 +1,8 @@
-// Makes the bench case of data/unsorted.bin and its marks, and says whether it passes the check and is data/bench.bin byte for byte.
+// Writes the bench case of data/unsorted.bin and its marks twice. Into an output that has room: says whether what is written passes the check and is data/bench.bin byte for byte. Into one that is a byte short: says the refusal, and whether the output is as it was.
 use casecheck::Checking;
+use casewrite::Written;
+use casewrite::write;
 use libc::STDOUT_FILENO;
-use making::Made;
-use making::make;
 ghost use mathlib.Core.Path.{_≡_};
 ghost use lib.ListN.{length};
 ghost use Rattle.io.specs.Counts.{Counts};
@@ -30,33 +30,48 @@ fn passes(file: &[u8]) -> bool {
     }
 }
 
-fn tell(made: &[u8], stored: &[u8]) {
+fn tell(written: &[u8], stored: &[u8]) {
     io::write_all(STDOUT_FILENO, b"passes the check: ");
-    say(passes(made));
+    say(passes(written));
     io::write_all(STDOUT_FILENO, b"as stored: ");
-    say(check::same(made, stored));
+    say(check::same(written, stored));
 }
 
-fn report(room: &[u8], size: usize, stored: &[u8]) {
-    if room.len() < size {
+fn report(out: &[u8], size: usize, stored: &[u8]) {
+    if out.len() < size {
         return;
     }
     io::write_all(STDOUT_FILENO, b"bytes: ");
     io::print_decimal(STDOUT_FILENO, size as u64);
     io::write_all(STDOUT_FILENO, b"\n");
     let from = 0;
-    tell(&room[from..size], stored);
+    tell(&out[from..size], stored);
 }
 
-fn make_and_report(unsorted: &[u8], marks: &[u8], stored: &[u8]) {
+fn write_and_report(unsorted: &[u8], marks: &[u8], stored: &[u8], out: &mut [u8]) {
     let mut lent: [u8; 4096] = [0; 4096];
-    let made = make(unsorted, marks, &mut lent);
-    match made {
-        Made::Put(size) => report(&lent, size, stored),
-        Made::Refused(r) => {
-            io::write_all(STDOUT_FILENO, b"refused\n");
+    let written = write(unsorted, marks, &mut lent, out);
+    match written {
+        Written::Wrote(size) => report(out, size, stored),
+        Written::Refused(r) => {
+            io::write_all(STDOUT_FILENO, b"refused ");
+            io::print_decimal(STDOUT_FILENO, refusals::number(r));
+            io::write_all(STDOUT_FILENO, b"\n");
         }
     }
+}
+
+// into an output that is a byte shorter than the stored case
+fn write_short(unsorted: &[u8], marks: &[u8], stored: &[u8]) {
+    if stored.len() == 0 || stored.len() > 4096 {
+        return;
+    }
+    let short = stored.len() - 1;
+    let mut out: [u8; 4096] = [7; 4096];
+    write_and_report(unsorted, marks, stored, &mut out[..short]);
+    let before: [u8; 4096] = [7; 4096];
+    io::write_all(STDOUT_FILENO, b"output as it was: ");
+    say(check::same(&out, &before));
 }
 
 fn read(path: &[u8], into: &mut [u8]) -> usize
@@ -79,5 +94,7 @@ fn main() {
     let m = read(b"marks.bin", &mut marks);
     let mut stored = room();
     let k = read(b"bench.bin", &mut stored);
-    make_and_report(&unsorted[..n], &marks[..m], &stored[..k]);
+    let mut out = room();
+    write_and_report(&unsorted[..n], &marks[..m], &stored[..k], &mut out);
+    write_short(&unsorted[..n], &marks[..m], &stored[..k]);
 }

@@ -61,17 +61,19 @@ fn write_and_report(unsorted: &[u8], marks: &[u8], stored: &[u8], out: &mut [u8]
     }
 }
 
-// into an output that is a byte shorter than the stored case
-fn write_short(unsorted: &[u8], marks: &[u8], stored: &[u8]) {
-    if stored.len() == 0 || stored.len() > 4096 {
+// into an output that is a byte shorter than the stored case, and as it was before
+fn write_short(unsorted: &[u8], marks: &[u8], stored: &[u8], out: &mut [u8], before: &[u8]) {
+    if stored.len() == 0 {
+        return;
+    }
+    if out.len() < stored.len() {
         return;
     }
     let short = stored.len() - 1;
-    let mut out: [u8; 4096] = [7; 4096];
-    write_and_report(unsorted, marks, stored, &mut out[..short]);
-    let before: [u8; 4096] = [7; 4096];
+    let from = 0;
+    write_and_report(unsorted, marks, stored, &mut out[from..short]);
     io::write_all(STDOUT_FILENO, b"output as it was: ");
-    say(check::same(&out, &before));
+    say(check::same(out, before));
 }
 
 fn read(path: &[u8], into: &mut [u8]) -> usize
@@ -96,5 +98,12 @@ fn main() {
     let k = read(b"bench.bin", &mut stored);
     let mut out = room();
     write_and_report(&unsorted[..n], &marks[..m], &stored[..k], &mut out);
-    write_short(&unsorted[..n], &marks[..m], &stored[..k]);
+    let mut other = room();
+    write_short(
+        &unsorted[..n],
+        &marks[..m],
+        &stored[..k],
+        &mut other,
+        &room(),
+    );
 }

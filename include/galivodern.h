@@ -33,21 +33,22 @@ extern "C" {
 /* What a call returns: 0 for an answer, else why there is none. */
 enum galivodern_refusal {
     GALIVODERN_ANSWERED = 0,
-    GALIVODERN_BAD_CONTENTS = 1,     /* shorter than 64 bytes, edition not 1, or tables misplaced */
-    GALIVODERN_TOO_LARGE = 2,        /* file, a table or the number of variables above its most */
-    GALIVODERN_BAD_STRINGS = 3,      /* a string rule is broken */
-    GALIVODERN_BAD_VALUES = 4,       /* a value or member rule is broken, or a value is too deep */
-    GALIVODERN_BAD_POINTS = 5,       /* a point or entity rule is broken */
-    GALIVODERN_BAD_NODES = 6,        /* a node rule is broken, or a node is too high */
-    GALIVODERN_NO_SUCH_POINT = 7,    /* the case has no such point */
-    GALIVODERN_NO_SUCH_NODE = 8,     /* no such node, or none that the call is about */
-    GALIVODERN_BAD_START = 9,        /* the starting bindings are malformed */
-    GALIVODERN_BAD_LIMITS = 10,      /* a limit above its most, or a workspace too small */
-    GALIVODERN_STEPS_EXHAUSTED = 11, /* the answer takes more steps than allowed */
-    GALIVODERN_ROOM_EXHAUSTED = 12,  /* the answer takes more rows than allowed */
-    GALIVODERN_BAD_OUTPUT = 13,      /* output too short, or a binder that is no variable */
-    GALIVODERN_LIST_TOO_SHORT = 15,  /* the list has fewer cells than there are points to show */
-    /* of this layer alone: `contents` or `told` too short, and nothing was done */
+    GALIVODERN_BAD_CONTENTS = 1,      /* shorter than 64 bytes, edition not 1, or tables misplaced */
+    GALIVODERN_TOO_LARGE = 2,         /* file, a table or the number of variables above its most */
+    GALIVODERN_BAD_STRINGS = 3,       /* a string rule is broken */
+    GALIVODERN_BAD_VALUES = 4,        /* a value or member rule is broken, or a value is too deep */
+    GALIVODERN_BAD_POINTS = 5,        /* a point or entity rule is broken */
+    GALIVODERN_BAD_NODES = 6,         /* a node rule is broken, or a node is too high */
+    GALIVODERN_NO_SUCH_POINT = 7,     /* the case has no such point */
+    GALIVODERN_NO_SUCH_NODE = 8,      /* no such node, or none that the call is about */
+    GALIVODERN_BAD_START = 9,         /* the starting bindings are malformed */
+    GALIVODERN_BAD_LIMITS = 10,       /* a limit above its most, or a workspace too small */
+    GALIVODERN_STEPS_EXHAUSTED = 11,  /* the answer takes more steps than allowed */
+    GALIVODERN_ROOM_EXHAUSTED = 12,   /* the answer takes more rows than allowed */
+    GALIVODERN_BAD_OUTPUT = 13,       /* output too short, or a binder that is no variable */
+    GALIVODERN_OUTPUT_TOO_SHORT = 14, /* the finished case is longer than the output */
+    GALIVODERN_LIST_TOO_SHORT = 15,   /* the list has fewer cells than there are points to show */
+    /* of this layer alone: `contents`, `told` or `written` too short, and nothing was done */
     GALIVODERN_TOO_FEW_CELLS = 100
 };
 
@@ -55,9 +56,13 @@ enum galivodern_refusal {
 #define GALIVODERN_MOST_STEPS 1000000000u
 #define GALIVODERN_MOST_ROOM 16384u
 
-/* Cells of `contents` and of `told` that a call needs. */
+/* The most bytes that a case may have. */
+#define GALIVODERN_MOST_BYTES 4194304u
+
+/* Cells of `contents`, of `told` and of `written` that a call needs. */
 #define GALIVODERN_CONTENTS_CELLS 5
 #define GALIVODERN_TOLD_CELLS 4
+#define GALIVODERN_WRITTEN_CELLS 1
 
 /* What `contents` holds after a check that passes. */
 enum galivodern_contents {
@@ -86,6 +91,46 @@ enum galivodern_sort {
 /* Checks a case. Returns 0, or a refusal from 1 to 6: the lowest that applies.
  * On 0 the first five cells of `contents` are filled. Else it is unchanged. */
 uint64_t galivodern_check(const uint8_t *file, size_t file_len, uint64_t *contents, size_t contents_len);
+
+/* Writes a case. Takes:
+ *
+ *   unsorted   an unsorted case: a case file in all but its strings, which may stand
+ *              in any order, be equal, overlap and leave gaps in text. All else (values,
+ *              members, points, nodes, lists) is as it will be in the case, only that
+ *              strings have the numbers that they have here;
+ *   marks      a byte for each word of the lists: not 0 where the word is a string's
+ *              number (namespaces, paths, an entity's type and id), 0 where it is
+ *              another (an entity's attributes, an argument's three words, binders).
+ *              A word that no point and no node uses may be marked either way;
+ *   room       bytes to make the finished case in, before the output is touched: as many
+ *              as it will have. GALIVODERN_MOST_BYTES always suffice. Whatever is in it
+ *              counts for nothing. On 0, 3 to 6 and 14 it begins with the finished case;
+ *              on 1, 2 and 10, and behind the finished case, it is unchanged;
+ *   output     where the case goes. It changes only on 0, in the bytes written;
+ *   written    a cell for the number of bytes written; 0 where the call refuses.
+ *
+ * The finished case has each different string once, in rising byte order; every
+ * number of a string is the new one; a number that is none of a string stays. Members
+ * and entities are not sorted: they have to rise by the text of their names as they
+ * stand. A checked case that is written with right marks comes out as it is.
+ *
+ * Returns 0, and then galivodern_check passes what was written; or the first of these:
+ *
+ *   1    no tables: shorter than 64 bytes, edition not 1, tables misplaced; or the
+ *        marks are not one for each list word;
+ *   2    the finished case, one of its tables or V above its most: strings count once
+ *        they are joined, the unsorted case may be as long as it likes;
+ *   10   the room is shorter than the finished case;
+ *   3    a string leaves text, or is not UTF-8;
+ *   4    a value or member rule is broken, or a value is too deep;
+ *   5    a point or entity rule is broken, or a point uses a list word against its mark;
+ *   6    a node rule is broken, or a node is too high, or it uses a list word against
+ *        its mark;
+ *   14   the output is shorter than the finished case;
+ *   100  `written` has no cell: nothing was done. */
+uint64_t galivodern_write(const uint8_t *unsorted, size_t unsorted_len, const uint8_t *marks, size_t marks_len,
+                          uint8_t *room, size_t room_len, uint8_t *output, size_t output_len, uint64_t *written,
+                          size_t written_len);
 
 /* The window test: where time `to` lies, seen from time `from`, in a window of
  * `span` seconds. It needs no case and takes any numbers. A span is an amount
@@ -202,17 +247,19 @@ static inline const char *galivodern_refusal_text(uint64_t returned) {
                "value's number";
     case GALIVODERN_BAD_LIMITS:
         return "more than 1,000,000,000 steps or room for more than 16,384 rows is asked for, or the workspace is too "
-               "small";
+               "small, or the room to write a case in";
     case GALIVODERN_STEPS_EXHAUSTED:
         return "the answer takes more steps than allowed";
     case GALIVODERN_ROOM_EXHAUSTED:
         return "the answer takes more rows than allowed";
     case GALIVODERN_BAD_OUTPUT:
         return "rows are asked for a variable that the case does not have, or the output is too short";
+    case GALIVODERN_OUTPUT_TOO_SHORT:
+        return "the finished case is longer than the output";
     case GALIVODERN_LIST_TOO_SHORT:
         return "the list is too short for the points that made the answer";
     case GALIVODERN_TOO_FEW_CELLS:
-        return "`contents` or `told` has too few cells: nothing was done";
+        return "`contents`, `told` or `written` has too few cells: nothing was done";
     default:
         return "a number that no call returns";
     }

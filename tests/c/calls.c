@@ -171,16 +171,70 @@ static void test_carried(shows *carried, const uint8_t *file, size_t length) {
     CHECK(same(told, 0, 0, 0) && told[GALIVODERN_FILLED] == 0 && same(points, 0, 8, 8));
 }
 
+static void put_words(uint8_t *file, size_t at, const uint32_t *from, size_t count) {
+    for (size_t k = 0; k < count; k++) {
+        at = put(file, at, from[k]);
+    }
+}
+
+/* The case with its strings in another order and one of them twice: written, it is the case again. */
+static void test_write(const uint8_t *file, size_t length) {
+    static const uint32_t strings[] = {1, 7, 0, 1, 8, 1, 0, 1}; /* "request", "n", "A", "n" over nrequestA */
+    static uint8_t unsorted[512], room[512], output[512];
+    uint8_t marks[5] = {0, 0, 0, 0, 1};
+    uint64_t written[2] = {8, 8};
+    const size_t longer = length + 8, values = 64 + 32;
+    memcpy(unsorted + 8 + 64, file + 64, length - 64);
+    put(unsorted, put(unsorted, 0, 1), 1);
+    for (uint32_t k = 0, offset = 64; k < 7; k++) {
+        put(unsorted, put(unsorted, 8 + 8 * k, offset), lengths[k] + (k == 0 ? 8 : 0));
+        offset += lengths[k] + (k == 0 ? 8 : 0);
+    }
+    put_words(unsorted, 64, strings, 8);
+    put(unsorted, values + 48, 3);          /* the member's name: the second "n" */
+    put(unsorted, values + 56 + 16, 2);     /* the point's action and kind */
+    put(unsorted, values + 56 + 20, 0);
+    put(unsorted, values + 104 + 44, 2);    /* the Predicate's */
+    put(unsorted, values + 104 + 48, 0);
+    put(unsorted, values + 264 + 16, 1);    /* the path: the first "n" */
+    memcpy(unsorted + longer - 9, "nrequestA", 9);
+    memset(room, 8, sizeof room);
+    memset(output, 8, sizeof output);
+
+    CHECK(galivodern_write(unsorted, longer, marks, 5, room, 512, output, 512, written, 0) == GALIVODERN_TOO_FEW_CELLS);
+    CHECK(written[0] == 8 && room[0] == 8 && output[0] == 8);
+    CHECK(galivodern_write(unsorted, 63, marks, 5, room, 512, output, 512, written, 2) == GALIVODERN_BAD_CONTENTS);
+    CHECK(galivodern_write(unsorted, longer, marks, 4, room, 512, output, 512, written, 2) == GALIVODERN_BAD_CONTENTS);
+    CHECK(written[0] == 0 && written[1] == 8);
+    CHECK(galivodern_write(unsorted, longer, marks, 5, room, length - 1, output, 512, written, 1) == GALIVODERN_BAD_LIMITS);
+    CHECK(room[0] == 8 && output[0] == 8);
+    marks[4] = 0;
+    CHECK(galivodern_write(unsorted, longer, marks, 5, room, 512, output, 512, written, 1) == GALIVODERN_BAD_NODES);
+    CHECK(room[0] == 1 && room[length] == 8 && output[0] == 8);
+    marks[4] = 255;
+    memset(room, 8, sizeof room);
+    CHECK(galivodern_write(unsorted, longer, marks, 5, room, length, output, length - 1, written, 1) ==
+          GALIVODERN_OUTPUT_TOO_SHORT);
+    CHECK(written[0] == 0 && memcmp(room, file, length) == 0 && output[0] == 8);
+    CHECK(galivodern_write(unsorted, longer, marks, 5, room, length, output, length, written, 1) == GALIVODERN_ANSWERED);
+    CHECK(written[0] == length && memcmp(output, file, length) == 0 && output[length] == 8);
+    CHECK(galivodern_write(file, length, marks, 5, room, 512, output, 512, written, 2) == GALIVODERN_ANSWERED);
+    CHECK(written[0] == length && written[1] == 8 && memcmp(output, file, length) == 0);
+    put(unsorted, 16 + 64, 10); /* the third string leaves text */
+    CHECK(galivodern_write(unsorted, longer, marks, 5, room, 512, output, 512, written, 1) == GALIVODERN_BAD_STRINGS);
+    put(unsorted, 4, 17);
+    CHECK(galivodern_write(unsorted, longer, marks, 5, room, 512, output, 512, written, 1) == GALIVODERN_TOO_LARGE);
+}
+
 /* Every number that a call returns has a text of its own, and no other number has one of these. */
 static void test_refusal_text(void) {
-    const char *known[] = {0, 0, 0, 0, 0, 0, 0, 0, 0, 0, 0, 0, 0, 0, 0, 0};
+    const char *known[17];
     const char *unknown = galivodern_refusal_text(UINT64_MAX);
-    for (uint64_t returned = 0; returned <= GALIVODERN_BAD_OUTPUT; returned++) {
+    for (uint64_t returned = 0; returned <= GALIVODERN_LIST_TOO_SHORT; returned++) {
         known[returned] = galivodern_refusal_text(returned);
     }
-    known[14] = galivodern_refusal_text(GALIVODERN_TOO_FEW_CELLS);
-    known[15] = galivodern_refusal_text(GALIVODERN_LIST_TOO_SHORT);
-    for (size_t k = 0; k < 16; k++) {
+    known[16] = galivodern_refusal_text(GALIVODERN_TOO_FEW_CELLS);
+    for (size_t k = 0; k < 17; k++) {
         CHECK(strcmp(known[k], unknown) != 0);
         for (size_t other = 0; other < k; other++) {
             CHECK(strcmp(known[k], known[other]) != 0);
@@ -206,6 +260,7 @@ int main(void) {
     test_rows(galivodern_checked_rows, file, length);
     test_carried(galivodern_carried, file, length);
     test_carried(galivodern_checked_carried, file, length);
+    test_write(file, length);
     /* A damaged case is refused by each call that has not seen it checked. */
     file[64 + 24 + 48] = 7;
     CHECK(galivodern_ask(file, length, 0, PREDICATE, unbound, 2, 9, 2, work, 4, told, 4) == GALIVODERN_BAD_VALUES);

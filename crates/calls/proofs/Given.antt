@@ -16,7 +16,8 @@ use Rattle.meaning.specs.Rows.{Row, onto, cells}
 use Rattle.meaning.specs.Calls.{gives, allUnder, cellsOf, filled}
 use Rattle.meaning.specs.Laws.Tests.{both, stop, skip, pass}
 use Rattle.rows.specs.declared.Shape.{Shape}
-use Rattle.rows.specs.Table.{Fit, rowsIn, Reduces, Variables, Writing}
+use Rattle.rows.specs.Table.{Fit, rowsIn, Reduces, Variables}
+use Rattle.meaning.specs.Laws.Writing.{Writing}
 use Rattle.rows.specs.Laws.{rows-many, top-is}
 use Rattle.rows.proofs.Out.{cellsOf-length}
 use Rattle.calls.specs.declared.SaidRows.the-variants.{Gives, Refuses}

@@ -2,12 +2,16 @@
 use mathlib.Core.Path.{_≡_}
 use mathlib.Core.Bool.{Bool, cond}
 use mathlib.Core.List.{List, [], _∷_, _++_}
+use mathlib.Core.Option.{Option, none, some}
 use Prim.Native.Nat.{ℕ}
 use lib.Dec.{ltb}
 use lib.ListN.{length, drop}
 use Rattle.meaning.specs.Tests.{choose}
-use Rattle.meaning.specs.Calls.{checkCall, Said, gives, refuses, Result, Answer, verdict, number}
+use Rattle.meaning.specs.Calls.{numberOf, checkCall, Said, gives, refuses, Result, Answer, verdict, number}
 use Rattle.meaning.specs.Carried.{Carried}
+use Rattle.meaning.specs.declared.Refusal.{Refusal}
+use Rattle.encode.specs.Unsorted.{finished}
+use Rattle.encode.specs.Write.{makeRefusal, roomAfter, writeRefusal, outputAfter}
 
 -- the layer's own complaint, which no document's refusal has: the cells for the answer are too few, and nothing was done
 abbrev pub tooFew : ℕ
@@ -93,3 +97,22 @@ carriedCell r = yesCell (r .verdict)
 
 abbrev pub filledCell : Carried → ℕ
 filledCell r = r .filled
+
+-- ---- the writer: the number returned, the room, the output, and one cell with the bytes written
+
+unfoldable pub refusalNumber : Option Refusal → ℕ
+refusalNumber none = 0
+refusalNumber (some r) = numberOf r
+
+unfoldable pub sizeCell : ℕ → Option Refusal → ℕ
+sizeCell size none = size
+sizeCell size (some r) = 0
+
+-- the room stands in the workspace's place
+unfoldable pub writeSeen : List ℕ → List ℕ → List ℕ → List ℕ → List ℕ → Seen
+writeSeen s marks room output lent =
+    choose (ltb (length lent) 1) (seen tooFew room output lent)
+    (seen (refusalNumber (writeRefusal s marks room output)) (roomAfter s marks room (makeRefusal s marks room)) (outputAfter s marks room output (writeRefusal s marks room output)) (sizeCell (length (finished s marks)) (writeRefusal s marks room output) ∷ drop 1 lent))
+
+pub record WriteTells (s marks room output lent : List ℕ) (after : Seen) : Type 0 where
+  pub is : after ≡ writeSeen s marks room output lent

@@ -2,7 +2,9 @@
 use mathlib.Core.Path.{_≡_}
 use mathlib.Core.List.{List, [], _∷_}
 use Prim.Native.Nat.{ℕ}
-use Rattle.meaning.specs.Calls.{Said}
+use Rattle.meaning.specs.Calls.{Said, numberOf}
+use Rattle.casewrite.specs.declared.Written.{Written}
+use Rattle.casewrite.specs.declared.Written.the-variants.{Wrote, Refused}
 use Rattle.capi.specs.declared.telling.Telling.{Telling as Told}
 use Rattle.capi.specs.Seen.{saidNumber, toldCells}
 
@@ -16,3 +18,15 @@ refusing n steps most = record { number = n; answer = 0; steps = steps; most = m
 pub record Telling {A : Type 0} (cell fourth : A → ℕ) (said : Said A) (t : Told) : Type 0 where
   pub number : t .number ≡ saidNumber said
   pub cells : cellsOf t ≡ toldCells cell fourth said
+
+-- ---- the writer
+
+-- 0 where bytes were written, or the refusal's number
+unfoldable pub writtenNumber : Written → ℕ
+writtenNumber (Wrote size) = 0
+writtenNumber (Refused r) = numberOf r
+
+-- how many bytes were written
+unfoldable pub writtenCell : Written → ℕ
+writtenCell (Wrote size) = size
+writtenCell (Refused r) = 0

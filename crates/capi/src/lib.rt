@@ -12,6 +12,7 @@ use telling::of_carried;
 use telling::of_rows;
 use telling::tell;
 use telling::tell_contents;
+use telling::tell_written;
 ghost use mathlib.Core.Path.{_≡_};
 ghost use mathlib.Core.List.{[]};
 ghost use mir.Val.{toZ};
@@ -22,7 +23,7 @@ ghost use Rattle.meaning.specs.Check.{Checked};
 ghost use Rattle.meaning.specs.Calls.{askCall, rowsCall};
 ghost use Rattle.meaning.specs.Carried.{carriedCall};
 ghost use Rattle.calls.specs.Promises.{callOf};
-ghost use Rattle.capi.specs.Seen.{Checks, Tells, seen, answerCell, sortCell, countCell, noCell, carriedCell, filledCell};
+ghost use Rattle.capi.specs.Seen.{Checks, Tells, WriteTells, seen, answerCell, sortCell, countCell, noCell, carriedCell, filledCell};
 ghost use Rattle.capi.specs.Window.{windowNumber};
 
 // the layer's own complaint: the cells for the answer are too few
@@ -30,6 +31,9 @@ const TOO_FEW: u64 = 100;
 
 // the answer's cell, steps, rows held, and the call's own fourth
 const TOLD_CELLS: usize = 4;
+
+// how many bytes were written
+const WRITTEN_CELLS: usize = 1;
 
 #[no_mangle]
 pub extern "C" fn galivodern_check(file: &[u8], contents: &mut [u64]) -> u64
@@ -196,6 +200,23 @@ pub extern "C" fn galivodern_checked_carried(
     let limits = Limits { steps, room };
     let said = checked::carried(file, point, NodeNo(node), start, limits, work, list);
     tell(of_carried(said), told)
+}
+
+#[no_mangle]
+pub extern "C" fn galivodern_write(
+    unsorted: &[u8],
+    marks: &[u8],
+    room: &mut [u8],
+    output: &mut [u8],
+    written: &mut [u64],
+) -> u64
+    ensures { λ r. ⌜ WriteTells (now (unsorted .entry)) (now (marks .entry)) (now (room .entry)) (now (output .entry)) (now (written .entry)) (seen r (now (room .exit)) (now (output .exit)) (now (written .exit))) ⌝ }
+{
+    if written.len() < WRITTEN_CELLS {
+        return TOO_FEW;
+    }
+    let said = casewrite::write(unsorted, marks, room, output);
+    tell_written(said, written)
 }
 
 #[no_mangle]

@@ -3,6 +3,7 @@ use calls::SaidAnswer;
 use calls::SaidCarried;
 use calls::SaidRows;
 use casecheck::Contents;
+use casewrite::Written;
 use meaning::Refusal;
 ghost use mathlib.Core.Path.{_≡_};
 ghost use mathlib.Core.List.{[], _∷_, _++_};
@@ -11,7 +12,7 @@ ghost use lib.ListN.{length, drop};
 ghost use Rattle.meaning.specs.Calls.{numberOf};
 ghost use Rattle.calls.specs.Promises.{asAnswer, asCarried, asRows};
 ghost use Rattle.capi.specs.Seen.{yesCell, answerCell, sortCell, countCell, noCell, carriedCell, filledCell};
-ghost use Rattle.capi.specs.Telling.{cellsOf, refusing, Telling as TellingOf};
+ghost use Rattle.capi.specs.Telling.{cellsOf, refusing, Telling as TellingOf, writtenNumber, writtenCell};
 
 // the number to return, and the four cells
 pub struct Telling {
@@ -112,5 +113,21 @@ pub fn of_carried(said: SaidCarried) -> Telling
             fourth: filled as u64,
         },
         SaidCarried::Refuses(refusal, steps, most) => refuse(refusal, steps, most),
+    }
+}
+
+pub fn tell_written(said: Written, lent: &mut [u64]) -> u64
+    requires { ⌜ 1 ≤ length (now lent) ⌝ }
+    ensures { λ r. ⌜ (r ≡ writtenNumber said) × (now (lent .exit) ≡ writtenCell said ∷ drop 1 (now (lent .entry))) ⌝ }
+{
+    match said {
+        Written::Wrote(size) => {
+            lent[0] = size as u64;
+            0
+        }
+        Written::Refused(refusal) => {
+            lent[0] = 0;
+            refusals::number(refusal)
+        }
     }
 }

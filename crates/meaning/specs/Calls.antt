@@ -11,7 +11,7 @@ use mir.Syntax.{w64}
 use Rattle.meaning.specs.declared.Limits.{Limits}
 use Rattle.meaning.specs.declared.Node.{Node}
 use Rattle.meaning.specs.declared.Refusal.{Refusal}
-use Rattle.meaning.specs.declared.Refusal.the-variants.{BadContents, TooLarge, BadStrings, BadValues, BadPoints, BadNodes, NoSuchPoint, NoSuchNode, BadStart, BadLimits, StepsExhausted, RoomExhausted, BadOutput, ListTooShort}
+use Rattle.meaning.specs.declared.Refusal.the-variants.{BadContents, TooLarge, BadStrings, BadValues, BadPoints, BadNodes, NoSuchPoint, NoSuchNode, BadStart, BadLimits, StepsExhausted, RoomExhausted, BadOutput, OutputTooShort, ListTooShort}
 use Rattle.meaning.specs.Tests.{_and_, _or_, choose, onlyIf, isSome, pick, firstBroken}
 use Rattle.meaning.specs.Walk.{W, started, Outcome, answered, refused, outcome}
 use Rattle.meaning.specs.Case.{Value, conditions, aggregates, isSort, sortOf, vars, strings, values, points, nodes, valueAt, nodeAt, pointAt, caseOf}
@@ -20,7 +20,7 @@ use Rattle.meaning.specs.Equal.{Bound, boundOf, integer}
 use Rattle.meaning.specs.Rows.{Row, at, onto, addNew, inCells, cells}
 use Rattle.meaning.specs.Meaning.{Meaning, Question, meaning, question}
 
--- document 01's number of each refusal
+-- the number of each refusal: document 01's, then those that document 02 adds
 unfoldable pub numberOf : Refusal → ℕ
 numberOf BadContents = 1
 numberOf TooLarge = 2
@@ -35,6 +35,7 @@ numberOf BadLimits = 10
 numberOf StepsExhausted = 11
 numberOf RoomExhausted = 12
 numberOf BadOutput = 13
+numberOf OutputTooShort = 14
 numberOf ListTooShort = 15
 
 -- ---- what is asked, and what is given

@@ -1,6 +1,7 @@
 pub mod Below
 pub mod Tests
 pub mod Words
+pub mod Writing
 pub mod Bodies
 pub mod Number
 pub mod Window

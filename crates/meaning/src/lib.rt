@@ -171,5 +171,6 @@ pub enum Refusal {
     StepsExhausted,
     RoomExhausted,
     BadOutput,
+    OutputTooShort,
     ListTooShort,
 }

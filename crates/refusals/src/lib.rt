@@ -1,4 +1,4 @@
-// The numbers that document 01 gives the refusals, for those who print or return one.
+// The numbers of the refusals, for those who print or return one.
 use meaning::Refusal;
 ghost use mathlib.Core.Path.{_≡_};
 ghost use Prim.Native.Nat.{_<_};
@@ -21,6 +21,7 @@ pub fn number(r: Refusal) -> u64
         Refusal::StepsExhausted => 11,
         Refusal::RoomExhausted => 12,
         Refusal::BadOutput => 13,
+        Refusal::OutputTooShort => 14,
         Refusal::ListTooShort => 15,
     }
 }

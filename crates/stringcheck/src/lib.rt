@@ -281,7 +281,7 @@ fn check_utf8(s: &[u8]) -> bool
     true
 }
 
-fn is_before(x: &[u8], y: &[u8]) -> bool
+pub fn is_before(x: &[u8], y: &[u8]) -> bool
     ensures { λ r. ⌜ _≡_ {A = Bool} r (before (now (x .entry)) (now (y .entry))) ⌝ }
 {
     let mut i = 0;

@@ -9,6 +9,7 @@ pub mod examples;
 pub mod random;
 pub mod rules;
 mod rules_base;
+pub mod unsorted;
 
 pub use calls::{Call, Kind};
 pub use cases::{Profile, RandomCase};

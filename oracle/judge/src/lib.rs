@@ -11,3 +11,4 @@ pub mod reach;
 pub mod run;
 pub mod rust;
 pub mod variants;
+pub mod written;

@@ -12,6 +12,7 @@ use model::{Model, Variant};
 
 const USAGE: &str = "usage: oracle compare N SEED    put N questions to the model and to the Rust
        oracle carried N SEED     the same of request #106, beside single verdicts of the Rust
+       oracle written N SEED     N inputs put to the model's writer of request #101
        oracle examples           ask E1 to E12, the sample and the counted examples of both
        oracle variants SEED [X]  catch every wrong variant of the model whose name begins with X
        oracle lists              write data/*.bin again, byte for byte";
@@ -23,6 +24,7 @@ fn main() -> ExitCode {
     let done = match arguments[..] {
         ["compare", questions, seed] => number(questions).and_then(|n| compare(n, number(seed)?)),
         ["carried", questions, seed] => number(questions).and_then(|n| carried(n, number(seed)?)),
+        ["written", inputs, seed] => number(inputs).and_then(|n| written(n, number(seed)?)),
         ["examples"] => examples(),
         ["variants", seed] => number(seed).and_then(|seed| variants(seed, "")),
         ["variants", seed, named] => number(seed).and_then(|seed| variants(seed, named)),
@@ -71,14 +73,36 @@ fn carried(questions: u64, seed: u64) -> Result<bool, String> {
     Ok(report.differences.is_empty())
 }
 
+/// Puts inputs of request #101 to the model, beside what is known of them.
+fn written(inputs: u64, seed: u64) -> Result<bool, String> {
+    let begun = Instant::now();
+    let mut report = judge::written::Report::new(Model::document());
+    let mut random = Random::new(seed);
+    report.huge();
+    report.rule_files(&mut random);
+    report.run(&mut random, inputs, 0, 10);
+    println!("seed {seed}: {} inputs put to the model in {:.1} s", report.inputs, begun.elapsed().as_secs_f64());
+    for (kind, count) in &report.counts {
+        println!("{count:>9}  {kind}");
+    }
+    for difference in &report.differences {
+        println!("\nDIFFERENCE\n{difference}");
+    }
+    println!("{} unlisted differences", report.differences.len());
+    Ok(report.differences.is_empty())
+}
+
 fn examples() -> Result<bool, String> {
     let (asked, mut differences) = ask_examples(Model::document())?;
     let (of_106, more) = judge::carried::examples::ask(Model::document())?;
     differences.extend(more);
+    let (of_101, more) = judge::written::examples::ask(Model::document());
+    differences.extend(more);
     for difference in &differences {
         println!("DIFFERENCE\n{difference}");
     }
-    println!("{asked} examples asked of both, {of_106} of #106 of the model, {} differences", differences.len());
+    let of_the_model = format!("{of_106} of #106 and {of_101} of #101 of the model");
+    println!("{asked} examples asked of both, {of_the_model}, {} differences", differences.len());
     Ok(differences.is_empty())
 }
 
@@ -94,8 +118,9 @@ fn variants(seed: u64, named: &str) -> Result<bool, String> {
     let mut missed = 0;
     let all = Variant::WRONG.iter().map(|variant| (variant, caught as fn(_, _) -> _));
     let carried = Variant::WRONG_CARRIED.iter().map(|variant| (variant, judge::carried::caught as fn(_, _) -> _));
+    let written = Variant::WRONG_WRITTEN.iter().map(|variant| (variant, judge::written::caught as fn(_, _) -> _));
     let wanted = |(variant, _): &(&Variant, _)| format!("{variant:?}").starts_with(named);
-    let all: Vec<_> = all.chain(carried).filter(wanted).collect();
+    let all: Vec<_> = all.chain(carried).chain(written).filter(wanted).collect();
     for &(&variant, caught) in &all {
         let by: Vec<String> = caught(variant, seed)?;
         missed += by.is_empty() as usize;

@@ -78,3 +78,44 @@ fn wrong_variants_of_carried_are_caught() {
         assert!(!by.is_empty(), "{variant:?}: {}", variant.says());
     }
 }
+
+/// Request #101: what the model writes is what the making of its input foretells, and every end is met.
+#[test]
+fn written_is_what_the_making_foretells() {
+    assert_eq!(judge::written::examples::ask(Model::document()), (40, Vec::new()));
+    let mut report = judge::written::Report::new(Model::document());
+    let mut random = Random::new(3);
+    report.huge();
+    report.rule_files(&mut random);
+    report.run(&mut random, 10_000, 0, 1);
+    assert!(report.differences.is_empty(), "{}", report.differences[0]);
+    for what in [
+        "at an edge, written",
+        "damaged, refused 1",
+        "damaged, refused 3",
+        "damaged, refused 4",
+        "damaged, refused 5",
+        "damaged, refused 6",
+        "damaged, written",
+        "read and written, written",
+        "scrambled, the case itself",
+        "with one fault, refused 1",
+        "with one fault, refused 3",
+        "with one fault, refused 4",
+        "with one fault, refused 5",
+        "with one fault, refused 6",
+        "with one fault, refused 10",
+        "with one fault, refused 14",
+    ] {
+        assert!(report.counts.get(what).is_some_and(|&inputs| inputs >= 5), "{what}: {:?}", report.counts);
+    }
+}
+
+/// Every wrong variant of the writer is caught.
+#[test]
+fn wrong_variants_of_the_writer_are_caught() {
+    for &variant in Variant::WRONG_WRITTEN {
+        let by = judge::written::caught(variant, 1).expect("the examples can be asked");
+        assert!(!by.is_empty(), "{variant:?}: {}", variant.says());
+    }
+}

@@ -22,7 +22,7 @@ pub fn check(variant: Variant, bytes: &[u8]) -> u32 {
 }
 
 /// Bodies end to end from the contents to the file's end, each a whole number of records.
-fn bodies_in_place(file: File) -> bool {
+pub fn bodies_in_place(file: File) -> bool {
     let mut end = CONTENTS;
     for table in TABLES {
         if file.offset(table) != end || !file.length(table).is_multiple_of(table.record_bytes()) {

@@ -11,12 +11,14 @@ mod utf8;
 mod variant;
 mod walk;
 mod window;
+mod write;
 
 pub use calls::{Model, Outcome, Question};
 pub use carried::Carried;
 pub use equality::decimal;
 pub use variant::Variant;
 pub use window::{window, Window};
+pub use write::{marks_of_reading, uses, Use};
 
 /// Whether two values of a checked case are equal.
 pub fn values_equal(case: &[u8], a: u32, b: u32) -> bool {

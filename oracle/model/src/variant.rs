@@ -1,13 +1,16 @@
 //! The document, and the wrong variants that the comparison must catch.
 
 macro_rules! variants {
-    ($($name:ident: $says:literal),* $(,)?; carried: $($of_106:ident: $says_106:literal),* $(,)?) => {
+    ($($name:ident: $says:literal),* $(,)?;
+     carried: $($of_106:ident: $says_106:literal),* $(,)?;
+     written: $($of_101:ident: $says_101:literal),* $(,)?) => {
         /// One rule changed in each; `Document` changes none.
         #[derive(Clone, Copy, Debug, PartialEq, Eq)]
         pub enum Variant {
             Document,
             $($name,)*
             $($of_106,)*
+            $($of_101,)*
         }
 
         impl Variant {
@@ -17,12 +20,16 @@ macro_rules! variants {
             /// Every wrong variant of request #106, which shows in no other call.
             pub const WRONG_CARRIED: &'static [Variant] = &[$(Variant::$of_106),*];
 
+            /// Every wrong variant of request #101.
+            pub const WRONG_WRITTEN: &'static [Variant] = &[$(Variant::$of_101),*];
+
             /// What it gets wrong.
             pub fn says(self) -> &'static str {
                 match self {
                     Variant::Document => "document 01",
                     $(Variant::$name => $says,)*
                     $(Variant::$of_106 => $says_106,)*
+                    $(Variant::$of_101 => $says_101,)*
                 }
             }
         }
@@ -104,5 +111,29 @@ variants! {
     CarriedAnswerNumbers: "an answer tells what its last question took",
     CarriedFifteenNumbers: "15 tells what the last question took",
     CarriedShortFirst: "15 comes before questions that are left",
-    CarriedListCut: "a list too short is filled as far as it goes",
+    CarriedListCut: "a list too short is filled as far as it goes";
+    written:
+    WrittenNotJoined: "equal strings are not joined",
+    WrittenShorterFirst: "shorter strings come first",
+    WrittenTextKept: "text is copied as it stands",
+    WrittenOutsideRenumbered: "a number outside the strings becomes the last one's",
+    WrittenDecimalLeft: "a Decimal's string is left as it was",
+    WrittenIdLeft: "an Entity's id is left as it was",
+    WrittenPointKindLeft: "a point's kind is left as it was",
+    WrittenPredicateLeft: "a Predicate's action and kind are left as they were",
+    WrittenMarkedLeft: "a marked list word is left as it was",
+    WrittenMarkOfOne: "only 1 is a mark",
+    WrittenEveryWord: "every list word is marked",
+    WrittenMarksLack: "marks may be fewer than list words",
+    WrittenMarksUnasked: "a place used against its mark passes",
+    WrittenPointsAsNodes: "a point's place used against its mark is 6",
+    WrittenLeavingPasses: "a string that leaves text is cut and passes",
+    WrittenCountsRecords: "2 counts strings before they are joined",
+    WrittenLongInput: "2 where the unsorted case is longer than a case may be",
+    WrittenRoomFirst: "10 comes before 2",
+    WrittenRoomLast: "10 comes after 6",
+    WrittenFullRoomRefused: "a room exactly as long as the finished case is too short",
+    WrittenShortFirst: "14 comes before 3",
+    WrittenFullOutputRefused: "an output exactly as long as the finished case is too short",
+    WrittenOutputTouched: "the output is filled though the case is refused",
 }

@@ -1,15 +1,16 @@
-//! Builds the tables record by record. Strings are given as text in any order:
-//! until `finish` a string has a provisional number, then all are sorted and numbered.
+//! Builds the tables record by record. Strings are given as text in any order, and numbered as they come:
+//! `unsorted` gives them so, `finish` sorted.
 
 use std::collections::HashMap;
 
 use crate::records::{Node, Point, Run, Value};
 use crate::tables::{Tables, NONE};
+use crate::unsorted::Unsorted;
 
 /// An entity of a point's list: type, id, attribute object.
 pub type EntityItem<'a> = (&'a str, &'a str, u32);
 
-#[derive(Clone, Default)]
+#[derive(Clone, Debug, Default)]
 pub struct Builder {
     variables: u32,
     strings: Vec<String>,
@@ -21,8 +22,8 @@ pub struct Builder {
     lists: Vec<ListWord>,
 }
 
-/// A list word is a string, to be renumbered, or a plain number.
-#[derive(Clone, Copy)]
+/// A list word names a string or is a plain number.
+#[derive(Clone, Copy, Debug)]
 enum ListWord {
     String(u32),
     Number(u32),
@@ -33,7 +34,7 @@ impl Builder {
         Builder { variables, ..Builder::default() }
     }
 
-    /// The provisional number of a string.
+    /// The number of a string among those that came so far.
     pub fn string(&mut self, text: &str) -> u32 {
         if let Some(&number) = self.numbers.get(text) {
             return number;
@@ -146,57 +147,39 @@ impl Builder {
         self.points.len()
     }
 
-    /// Sorts and numbers the strings and gives the tables.
-    pub fn finish(self) -> Tables {
-        let mut order: Vec<usize> = (0..self.strings.len()).collect();
-        order.sort_by(|&a, &b| self.strings[a].as_bytes().cmp(self.strings[b].as_bytes()));
-        let mut number = vec![0; order.len()];
+    /// The tables with the strings in the order in which they came, and a mark for each list word that names one.
+    pub fn unsorted(self) -> Unsorted {
         let (mut strings, mut text) = (Vec::new(), Vec::new());
-        for (k, &old) in order.iter().enumerate() {
-            number[old] = k as u32;
-            strings.push([text.len() as u32, self.strings[old].len() as u32]);
-            text.extend(self.strings[old].bytes());
+        for string in &self.strings {
+            strings.push([text.len() as u32, string.len() as u32]);
+            text.extend(string.bytes());
         }
-        let string = |old: u32| number[old as usize];
-        let name = |old: u32| if old == NONE { NONE } else { string(old) };
-        Tables {
+        let (lists, marks) = self.lists.iter().map(|word| word.marked()).unzip();
+        let tables = Tables {
             variables: self.variables,
             strings,
-            values: self.values.iter().map(|v| renumbered_value(*v, &string).words()).collect(),
-            members: self.members.iter().map(|&[n, value]| [name(n), value]).collect(),
-            points: self
-                .points
-                .iter()
-                .map(|p| Point { action: string(p.action), kind: string(p.kind), ..*p }.words())
-                .collect(),
-            nodes: self.nodes.iter().map(|n| renumbered_node(*n, &string).words()).collect(),
-            lists: self.lists.iter().map(|w| list_word(*w, &string)).collect(),
+            values: self.values.iter().map(|value| value.words()).collect(),
+            members: self.members,
+            points: self.points.iter().map(|point| point.words()).collect(),
+            nodes: self.nodes.iter().map(|node| node.words()).collect(),
+            lists,
             text,
+        };
+        Unsorted { tables, marks }
+    }
+
+    /// The tables of the case, by this crate's own sorting.
+    pub fn finish(self) -> Tables {
+        self.unsorted().sorted()
+    }
+}
+
+impl ListWord {
+    /// The word, and 1 where it names a string.
+    fn marked(self) -> (u32, u8) {
+        match self {
+            ListWord::String(number) => (number, 1),
+            ListWord::Number(number) => (number, 0),
         }
-    }
-}
-
-fn renumbered_value(value: Value, string: &impl Fn(u32) -> u32) -> Value {
-    match value {
-        Value::Decimal(text) => Value::Decimal(string(text)),
-        Value::String(text) => Value::String(string(text)),
-        Value::Entity(ty, id) => Value::Entity(string(ty), string(id)),
-        other => other,
-    }
-}
-
-fn renumbered_node(node: Node, string: &impl Fn(u32) -> u32) -> Node {
-    match node {
-        Node::Predicate { namespace, action, kind, arguments } => {
-            Node::Predicate { namespace, action: string(action), kind: string(kind), arguments }
-        }
-        other => other,
-    }
-}
-
-fn list_word(word: ListWord, string: &impl Fn(u32) -> u32) -> u32 {
-    match word {
-        ListWord::String(number) => string(number),
-        ListWord::Number(number) => number,
     }
 }

@@ -5,7 +5,7 @@ use std::path::{Path, PathBuf};
 use std::process::Command;
 
 /// File under src/, a text that stands there once, and what takes its place.
-const SWAPS: [(&str, &str, &str); 72] = [
+const SWAPS: [(&str, &str, &str); 74] = [
     // Units, operators and roots.
     ("text/mod.rs", r#"["s", "m", "h", "d"]"#, r#"["m", "s", "h", "d"]"#),
     ("text/mod.rs", r#"["s", "m", "h", "d"]"#, r#"["s", "h", "m", "d"]"#),
@@ -87,11 +87,9 @@ const SWAPS: [(&str, &str, &str); 72] = [
         "self.entities.count,\n            self.entities.first,",
     ),
     // Order of strings, members, entities, arguments and bodies.
-    (
-        "builder.rs",
-        "self.strings[a].as_bytes().cmp(self.strings[b].as_bytes())",
-        "self.strings[b].as_bytes().cmp(self.strings[a].as_bytes())",
-    ),
+    ("unsorted.rs", "tables.string(a).cmp(tables.string(b))", "tables.string(b).cmp(tables.string(a))"),
+    ("builder.rs", "ListWord::String(number) => (number, 1)", "ListWord::String(number) => (number, 0)"),
+    ("builder.rs", "ListWord::Number(number) => (number, 0)", "ListWord::Number(number) => (number, 1)"),
     ("builder.rs", "self.members.push([name, *value]);", "self.members.push([*value, name]);"),
     ("builder.rs", "        entities.sort();\n", ""),
     ("builder.rs", "[path.first, path.count, term]", "[term, path.first, path.count]"),

@@ -70,7 +70,7 @@ fn as_value(value: &str) -> Tables {
         _ => {
             let mut builder = casefile::Builder::new(0);
             builder.text(value);
-            builder.finish()
+            builder.unsorted().tables
         }
     }
 }

@@ -4,9 +4,9 @@ use std::ffi::OsStr;
 
 use casefile::binding::Binding;
 use casefile::near::did_you_mean;
-use casefile::text::{pack_or_faults, told, Packed};
+use casefile::text::{pack_with, told, Packed};
 use casefile::time;
-use casefile::{Point, Tables, Variables};
+use casefile::{Point, Tables, Unsorted, Variables};
 use galivodern::{Case, Refusal, Refused, RuleNo};
 
 use crate::failure::Failure;
@@ -42,9 +42,13 @@ impl Asked {
     }
 }
 
-/// The packed text of a file.
+/// The packed text of a file, its case by the proved writer.
 pub fn packed(file: &OsStr, text: &str) -> Result<Packed, Failure> {
-    pack_or_faults(text).map_err(|faults| Failure::Faults { file: shown(file), text: text.to_string(), faults })
+    let written = |unsorted: Unsorted| match Case::from_unsorted(&unsorted.tables.encode(), &unsorted.marks) {
+        Ok(case) => Ok(case.into_bytes()),
+        Err(refusal) => Err(format!("what was packed from this text is refused: {refusal}")),
+    };
+    pack_with(text, written).map_err(|faults| Failure::Faults { file: shown(file), text: text.to_string(), faults })
 }
 
 impl Opened {

@@ -8,7 +8,7 @@ use judge::run::Report;
 use model::Model;
 
 use crate::archive::{by_crate, checked, unchecked};
-use crate::carried;
+use crate::{carried, written};
 
 /// More differences than this end the run.
 const MOST_DIFFERENCES: usize = 10;
@@ -29,7 +29,22 @@ pub fn run(questions: u64, copies: u64, seed: u64) -> Result<bool, String> {
     println!("seed {seed}: {} questions put to all in {asked:.0} s,", report.to_both);
     println!("{} damaged copies, the last of them after {:.0} s", damaged(&report), begun.elapsed().as_secs_f64());
     let same = told(&report.counts, &report.differences);
-    Ok(carried(questions / 10, copies / 10, seed)? && same)
+    let same = carried(questions / 10, copies / 10, seed)? && same;
+    Ok(written(questions / 10, copies / 10, seed)? && same)
+}
+
+/// Request #101: the archive beside the model, and both beside what the making of each input foretells.
+pub fn written(inputs: u64, copies: u64, seed: u64) -> Result<bool, String> {
+    let begun = Instant::now();
+    let mut report = judge::written::Report::new(Model::document());
+    report.beside = vec![written::archive];
+    let mut random = Random::new(seed);
+    report.huge();
+    report.rule_files(&mut random);
+    report.run(&mut random, inputs, copies, MOST_DIFFERENCES);
+    let taken = begun.elapsed().as_secs_f64();
+    println!("#101, seed {seed}: {} inputs, of them {} damaged, in {taken:.0} s", report.inputs, report.damaged);
+    Ok(told(&report.counts, &report.differences))
 }
 
 /// Request #106: the model beside single verdicts of the Rust, and the archive and the crate beside the model.

@@ -8,6 +8,8 @@ mod lookups;
 mod shapes;
 mod speed;
 mod timing;
+mod writing;
+mod written;
 
 use std::process::ExitCode;
 
@@ -15,6 +17,9 @@ const USAGE: &str = "usage: figures speed                        time a question
        figures check                        the check's throughput beside a plain pass
        figures compare N DAMAGED SEED       N questions and DAMAGED damaged files, put to all
        figures carried N DAMAGED SEED       the same of request #106; `compare` asks a tenth as many, too
+       figures write N DAMAGED SEED         the writer of request #101 beside the model; likewise
+       figures writing                      time the writer beside Rust's sort and dedup
+       figures write-once SHAPE TIMES       one shape of it (0 to 7) so often, to be profiled
        figures once SHAPE TIMES ours|rust   ask one shape so often, to be profiled
        figures lookups                      time a name's lookup in records of 4 to 16,384 members
        figures lookup MEMBERS first|last|miss TIMES ours|rust   one of them so often, to be profiled";
@@ -32,6 +37,11 @@ fn main() -> ExitCode {
         ["carried", questions, copies, seed] => {
             number(questions).and_then(|n| compare::carried(n, number(copies)?, number(seed)?))
         }
+        ["write", inputs, copies, seed] => {
+            number(inputs).and_then(|n| compare::written(n, number(copies)?, number(seed)?))
+        }
+        ["writing"] => writing::print_table(),
+        ["write-once", shape, times] => number(shape).and_then(|k| writing::once(k as usize, number(times)?)),
         ["once", shape, times, who] => number(times).and_then(|n| speed::once(shape, n, who == "rust")),
         ["lookups"] => lookups::print_table(),
         ["lookup", members, name, times, who] => {

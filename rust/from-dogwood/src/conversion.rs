@@ -103,11 +103,11 @@ impl Conversion {
         self.variables.iter().position(|known| known == name).map(|number| VariableNo(number as u16))
     }
 
-    /// Checks the case.
+    /// Writes the case, which checks it.
     pub fn finish(self) -> Result<Case, Error> {
-        let mut tables = self.builder.finish();
-        tables.variables = self.variables.len() as u32;
-        Case::new(tables.encode()).map_err(Error::Case)
+        let mut unsorted = self.builder.unsorted();
+        unsorted.tables.variables = self.variables.len() as u32;
+        Case::from_unsorted(&unsorted.tables.encode(), &unsorted.marks).map_err(Error::Case)
     }
 
     pub(crate) fn node(&mut self, node: Node) -> u32 {

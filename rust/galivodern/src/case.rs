@@ -11,7 +11,7 @@ use crate::points::{Point, Points};
 use crate::records::{Records, Sort, Value};
 use crate::refusal::{Refusal, Refused};
 use crate::rows::Rows;
-use crate::sys::{Checked, Question, Told};
+use crate::sys::{self, Checked, Question, Told};
 
 /// The most variables that a case has.
 const MOST_VARIABLES: usize = 16;
@@ -78,9 +78,48 @@ impl Case {
     /// # Ok::<(), galivodern::Fault>(())
     /// ```
     pub fn from_text(text: &str) -> Result<Case, Fault> {
-        let packed = casefile::text::pack(text)?;
-        let case = Case::new(packed.tables.encode()).map_err(Fault::refused)?;
-        Ok(Case { names: Names::of(&packed), ..case })
+        let mut made = None;
+        let packed = casefile::text::pack_with(text, |unsorted| {
+            let case = Case::from_unsorted(&unsorted.tables.encode(), &unsorted.marks).map_err(Fault::refused)?;
+            let bytes = case.bytes().to_vec();
+            made = Some(case);
+            Ok(bytes)
+        });
+        let packed = packed.map_err(|mut faults| Fault::from(faults.swap_remove(0)))?;
+        let case = made.expect("a text that packs was written");
+        Ok(case.with_names(Names::of(&packed)))
+    }
+
+    /// Writes a case from an unsorted one: the bytes of a case file whose strings may stand in any order, be equal,
+    /// overlap and leave gaps. Strings are sorted and joined, and every number of one becomes the new one.
+    ///
+    /// `marks` has a byte for each word of the lists, not 0 where the word is a string's number: a namespace, a
+    /// path, an entity's type and id. [`CaseBuilder`] makes all this by method calls; docs/FORMAT.md in the
+    /// repository describes the bytes.
+    ///
+    /// What is wrong is one of the first six refusals, and of the case as it would be: the first for marks that are not
+    /// one for each list word, too, and 5 or 6 for a word that a point or a node uses against its mark.
+    ///
+    /// ```
+    /// use galivodern::{Case, Refusal};
+    ///
+    /// let case = Case::from_text("point 5 Flash\nrule flashed = Flash()")?;
+    /// // No word of the lists is used here: there are none. A checked case comes out as it is.
+    /// assert_eq!(Case::from_unsorted(case.bytes(), &[])?.bytes(), case.bytes());
+    /// assert_eq!(Case::from_unsorted(case.bytes(), &[1]).unwrap_err(), Refusal::BadContents);
+    /// # Ok::<(), Box<dyn std::error::Error>>(())
+    /// ```
+    ///
+    /// [`CaseBuilder`]: crate::CaseBuilder
+    pub fn from_unsorted(unsorted: &[u8], marks: &[u8]) -> Result<Case, Refusal> {
+        match sys::write(unsorted, marks) {
+            Ok(bytes) => Case::new(bytes),
+            Err(returned) => Err(Refusal::of_return(returned).expect("0 is no refusal")),
+        }
+    }
+
+    pub(crate) fn with_names(self, names: Names) -> Case {
+        Case { names, ..self }
     }
 
     /// Asks a rule at a point: a condition says yes or no, a count or a sum gives its number.

@@ -24,15 +24,15 @@
 //! # Ok::<(), Box<dyn std::error::Error>>(())
 //! ```
 //!
-//! Here the case is written as text; [`Case::new`] takes a case file, which the command
-//! `galivodern pack` writes from such a text. In the repository docs/CASE-TEXT.md describes the
+//! Here the case is written as text; [`CaseBuilder`] makes one by method calls, and [`Case::new`] takes a
+//! case file, which the command `galivodern pack` writes from such a text. In the repository docs/CASE-TEXT.md describes the
 //! text, docs/MEANING.md what each construct means and docs/FORMAT.md the file.
 //!
 //! # What is proved, and what is assumed
 //!
 //! The calls that this crate wraps are proved; their contracts are in the repository's
-//! `crates/capi`. This crate itself is plain Rust, which is tested, and so is the packer behind
-//! [`Case::from_text`]. The `unsafe` code stands in one module, `sys`, and says at each place why it
+//! `crates/capi`. Among them is the writer that makes a case of what a text or a [`CaseBuilder`] says.
+//! This crate itself is plain Rust, which is tested, and so is the packer behind [`Case::from_text`]. The `unsafe` code stands in one module, `sys`, and says at each place why it
 //! is sound.
 
 #![deny(missing_docs)]
@@ -40,6 +40,7 @@
 
 mod answer;
 mod bindings;
+mod builder;
 mod carried;
 mod case;
 mod limits;
@@ -54,6 +55,10 @@ mod window;
 
 pub use answer::{Answer, Answered};
 pub use bindings::{Bindings, Bound};
+pub use builder::{
+    AggregateId, ArithmeticOp, BuildError, CaseBuilder, CompareOp, ConditionId, NewPoint, ObjectId, OperandId,
+    Predicate, TermId, ValueId, VariableId, Within,
+};
 pub use carried::Carried;
 pub use case::{Case, Contents};
 pub use limits::Limits;

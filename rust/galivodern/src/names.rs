@@ -18,9 +18,9 @@ pub struct Fault {
 }
 
 impl Fault {
-    /// The packer is tested, not proved: should it ever write what the check refuses, it is said.
-    pub(crate) fn refused(refusal: Refusal) -> Fault {
-        Fault { line: 1, column: 1, message: format!("what was packed from this text is refused: {refusal}") }
+    /// The packer is tested, not proved: should it ever make what the writer refuses, it is said.
+    pub(crate) fn refused(refusal: Refusal) -> String {
+        format!("what was packed from this text is refused: {refusal}")
     }
 }
 
@@ -46,14 +46,18 @@ pub(crate) struct Names {
 }
 
 #[derive(Clone, Debug)]
-struct Named {
-    name: String,
-    rule: RuleNo,
+pub(crate) struct Named {
+    pub name: String,
+    pub rule: RuleNo,
     /// The variables that must be bound when it is asked.
-    parameters: Vec<VariableNo>,
+    pub parameters: Vec<VariableNo>,
 }
 
 impl Names {
+    pub fn new(rules: Vec<Named>, variables: Vec<String>) -> Names {
+        Names { rules, variables }
+    }
+
     pub fn of(packed: &Packed) -> Names {
         let named = |((name, node), rule): (&(String, u32), &text::Rule)| Named {
             name: name.clone(),

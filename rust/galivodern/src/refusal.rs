@@ -33,6 +33,8 @@ pub enum Refusal {
     RoomExhausted = 12,
     /// A binder is no variable of the case.
     BadOutput = 13,
+    /// The output lent for a case is too short; the crate lends one that is not.
+    OutputTooShort = 14,
     /// The list lent for points is too short; the crate lends one that is not.
     ListTooShort = 15,
 }
@@ -53,10 +55,11 @@ impl Refusal {
         Refusal::StepsExhausted,
         Refusal::RoomExhausted,
         Refusal::BadOutput,
+        Refusal::OutputTooShort,
         Refusal::ListTooShort,
     ];
 
-    /// Its number, from 1 to 15; none has 14.
+    /// Its number, from 1 to 15.
     #[must_use]
     pub fn number(self) -> u8 {
         self as u8
@@ -98,6 +101,7 @@ impl fmt::Display for Refusal {
             Refusal::StepsExhausted => "the answer takes more steps than allowed",
             Refusal::RoomExhausted => "the answer takes more rows than allowed",
             Refusal::BadOutput => "rows are asked for a variable that the case does not have",
+            Refusal::OutputTooShort => "the finished case is longer than the output",
             Refusal::ListTooShort => "the list is too short for the points that made the answer",
         })
     }
@@ -128,7 +132,7 @@ impl fmt::Display for Refused {
     fn fmt(&self, f: &mut fmt::Formatter) -> fmt::Result {
         let Refused { refusal, steps, held } = self;
         write!(f, "{refusal}")?;
-        if *refusal > Refusal::BadLimits && *refusal != Refusal::ListTooShort {
+        if *refusal > Refusal::BadLimits && *refusal < Refusal::OutputTooShort {
             write!(f, " ({steps} spent, at most {held} rows held)", steps = counted(*steps, "step"))?;
         }
         Ok(())

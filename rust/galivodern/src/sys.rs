@@ -6,6 +6,8 @@ use crate::limits::Limits;
 const CONTENTS_CELLS: usize = 5;
 /// Cells that a question is told in: answer, steps, rows held, and the call's own fourth.
 const TOLD_CELLS: usize = 4;
+/// The most bytes that a case has.
+const MOST_BYTES: usize = 4_194_304;
 
 extern "C" {
     fn galivodern_check(file: *const u8, file_len: usize, contents: *mut u64, contents_len: usize) -> u64;
@@ -59,6 +61,19 @@ extern "C" {
         list_len: usize,
         told: *mut u64,
         told_len: usize,
+    ) -> u64;
+
+    fn galivodern_write(
+        unsorted: *const u8,
+        unsorted_len: usize,
+        marks: *const u8,
+        marks_len: usize,
+        room: *mut u8,
+        room_len: usize,
+        output: *mut u8,
+        output_len: usize,
+        written: *mut u64,
+        written_len: usize,
     ) -> u64;
 
     fn galivodern_window(span: i64, from: i64, to: i64) -> u64;
@@ -203,6 +218,34 @@ impl Checked {
         };
         Told::new(returned, told)
     }
+}
+
+/// The case of an unsorted one, or the refusal's number.
+pub(crate) fn write(unsorted: &[u8], marks: &[u8]) -> Result<Vec<u8>, u64> {
+    // Zeros that are never touched take no memory: only what the case has is used of these.
+    let (mut room, mut output) = (vec![0; MOST_BYTES], vec![0; MOST_BYTES]);
+    let mut written = [0];
+    // SAFETY: all slices are live and apart from each other, and the call takes any bytes.
+    let returned = unsafe {
+        galivodern_write(
+            unsorted.as_ptr(),
+            unsorted.len(),
+            marks.as_ptr(),
+            marks.len(),
+            room.as_mut_ptr(),
+            room.len(),
+            output.as_mut_ptr(),
+            output.len(),
+            written.as_mut_ptr(),
+            written.len(),
+        )
+    };
+    if returned != 0 {
+        return Err(returned);
+    }
+    output.truncate(written[0] as usize);
+    output.shrink_to_fit();
+    Ok(output)
 }
 
 pub(crate) fn window(span: i64, from: i64, to: i64) -> u64 {

@@ -166,8 +166,7 @@ fn an_answer_takes_what_it_says() {
 fn refusals_have_numbers_and_words() {
     let words: Vec<String> = Refusal::ALL.iter().map(Refusal::to_string).collect();
     for (k, refusal) in Refusal::ALL.iter().enumerate() {
-        // 14 is given out to a call that is not here.
-        assert_eq!(usize::from(refusal.number()), if k < 13 { k + 1 } else { k + 2 });
+        assert_eq!(usize::from(refusal.number()), k + 1);
         assert_eq!(words.iter().filter(|other| **other == words[k]).count(), 1);
     }
     let limits = Limits { steps: 1, room: 9 };

@@ -15,7 +15,7 @@ use Rattle.meaning.specs.Laws.Tests.{both, all-at}
 use Rattle.meaning.specs.Laws.Words.{words-part, words-beyond}
 
 -- a part of a part
-cut : (l : List ℕ) (n k m : ℕ) → k + n ≤ m → take n (drop k (take m l)) ≡ take n (drop k l)
+pub cut : (l : List ℕ) (n k m : ℕ) → k + n ≤ m → take n (drop k (take m l)) ≡ take n (drop k l)
 cut l n zero m h = take-take n m l (omega arith)
 cut [] n (suc k) zero h = refl
 cut [] n (suc k) (suc m) h = refl

@@ -13,7 +13,7 @@ use borrow.Author.Tests.{lt-ltb, le-leb, ltb-true, leb-true}
 use Rattle.meaning.specs.declared.Limits.{Limits}
 use Rattle.meaning.specs.declared.Node.{Node}
 use Rattle.meaning.specs.declared.Refusal.{Refusal}
-use Rattle.meaning.specs.declared.Refusal.the-variants.{BadContents, TooLarge, BadStrings, BadValues, BadPoints, BadNodes, NoSuchPoint, NoSuchNode, BadStart, BadLimits, StepsExhausted, RoomExhausted, BadOutput, ListTooShort}
+use Rattle.meaning.specs.declared.Refusal.the-variants.{BadContents, TooLarge, BadStrings, BadValues, BadPoints, BadNodes, NoSuchPoint, NoSuchNode, BadStart, BadLimits, StepsExhausted, RoomExhausted, BadOutput, OutputTooShort, ListTooShort}
 use Rattle.meaning.specs.Tests.{_and_, _or_, choose, pick}
 use Rattle.meaning.specs.Walk.{W, started, spent, most, Outcome, answered, refused, outcome}
 use Rattle.meaning.specs.Case.{Sort, conditions, terms, aggregates, broken, isSort, sortOf, vars, nodeAt}
@@ -181,7 +181,7 @@ rows-when c binders output ok fits hs hr =
 
 refusalOf : ℕ → Refusal
 refusalOf k =
-    pick (BadContents ∷ BadContents ∷ TooLarge ∷ BadStrings ∷ BadValues ∷ BadPoints ∷ BadNodes ∷ NoSuchPoint ∷ NoSuchNode ∷ BadStart ∷ BadLimits ∷ StepsExhausted ∷ RoomExhausted ∷ BadOutput ∷ BadOutput ∷ ListTooShort ∷ []) k BadContents
+    pick (BadContents ∷ BadContents ∷ TooLarge ∷ BadStrings ∷ BadValues ∷ BadPoints ∷ BadNodes ∷ NoSuchPoint ∷ NoSuchNode ∷ BadStart ∷ BadLimits ∷ StepsExhausted ∷ RoomExhausted ∷ BadOutput ∷ OutputTooShort ∷ ListTooShort ∷ []) k BadContents
 
 numbered : (n : Refusal) → refusalOf (numberOf n) ≡ n
 unfolding refusalOf numberOf pick
@@ -198,6 +198,7 @@ numbered BadLimits = refl
 numbered StepsExhausted = refl
 numbered RoomExhausted = refl
 numbered BadOutput = refl
+numbered OutputTooShort = refl
 numbered ListTooShort = refl
 
 pub one-refusal : (n n′ : Refusal) → numberOf n ≡ numberOf n′ → n ≡ n′

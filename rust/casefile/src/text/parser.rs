@@ -7,6 +7,7 @@ use super::lexer::{tokens, Place, Token};
 use super::plain::{build, PlainNode, PlainPoint, PlainValues};
 use super::{Fault, Packed, Places, Rule, STATEMENTS};
 use crate::near::{did_you_mean, nearest};
+use crate::{Tables, Unsorted};
 
 const MOST_RECORDS: usize = 16_384;
 const MOST_NODES: usize = 1_024;
@@ -21,6 +22,11 @@ pub fn pack(text: &str) -> Result<Packed, Fault> {
 /// The same with everything that is wrong, in the order of the text: one fault for each statement at most, and then
 /// what is wrong with the binding of variables.
 pub fn pack_or_faults(text: &str) -> Result<Packed, Vec<Fault>> {
+    pack_with(text, |unsorted| Ok(unsorted.sorted().encode()))
+}
+
+/// The same, the case made of its unsorted form by another writer; what that says against it is a fault.
+pub fn pack_with(text: &str, write: impl FnOnce(Unsorted) -> Result<Vec<u8>, String>) -> Result<Packed, Vec<Fault>> {
     let (mut parser, faults) = Parser::of(text);
     parser.faults = faults;
     while parser.token() != &Token::End {
@@ -29,7 +35,7 @@ pub fn pack_or_faults(text: &str) -> Result<Packed, Vec<Fault>> {
             parser.skip_statement();
         }
     }
-    parser.finish()
+    parser.finish(write)
 }
 
 /// What a name stands for.
@@ -146,22 +152,25 @@ impl Parser {
         }
     }
 
-    fn finish(mut self) -> Result<Packed, Vec<Fault>> {
-        let tables = build(self.variables.len() as u32, &self.values, &self.points, &self.nodes);
-        if tables.strings.len() > MOST_RECORDS {
+    fn finish(mut self, write: impl FnOnce(Unsorted) -> Result<Vec<u8>, String>) -> Result<Packed, Vec<Fault>> {
+        let unsorted = build(self.variables.len() as u32, &self.values, &self.points, &self.nodes);
+        // The strings are different and lie end to end: the case will be as long.
+        if unsorted.tables.strings.len() > MOST_RECORDS {
             self.faults.push(self.place().told(format!("the case has more than {MOST_RECORDS} strings")));
         }
-        if tables.encode().len() > MOST_FILE_BYTES {
+        if unsorted.tables.encode().len() > MOST_FILE_BYTES {
             self.faults.push(self.place().told(format!("the case takes more than {MOST_FILE_BYTES} bytes")));
         }
-        let packed =
-            Packed { tables, variables: self.variables, names: self.names, rules: self.rules, places: self.places };
+        let end = self.place();
+        let (variables, names, rules, places) = (self.variables, self.names, self.rules, self.places);
+        let mut packed = Packed { tables: unsorted.tables.clone(), variables, names, rules, places };
         self.faults.extend(binding_faults(&packed));
         self.faults.sort_by_key(|fault| (fault.line, fault.column));
-        if self.faults.is_empty() {
-            Ok(packed)
-        } else {
-            Err(self.faults)
+        if !self.faults.is_empty() {
+            return Err(self.faults);
         }
+        let written = write(unsorted).and_then(|bytes| Tables::decode(&bytes));
+        packed.tables = written.map_err(|said| vec![end.told(said)])?;
+        Ok(packed)
     }
 }

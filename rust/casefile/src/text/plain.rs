@@ -4,7 +4,7 @@ use std::collections::HashMap;
 
 use crate::builder::Builder;
 use crate::records::{Node, Point, Run, Value, Within};
-use crate::tables::Tables;
+use crate::unsorted::Unsorted;
 
 /// A value; arrays and objects hold provisional numbers.
 #[derive(Clone, Debug, PartialEq, Eq, Hash, PartialOrd, Ord)]
@@ -167,8 +167,8 @@ impl PlainNode {
     }
 }
 
-/// The tables of a whole case.
-pub fn build(variables: u32, values: &PlainValues, points: &[PlainPoint], nodes: &[PlainNode]) -> Tables {
+/// A whole case, its strings in the order in which they came.
+pub fn build(variables: u32, values: &PlainValues, points: &[PlainPoint], nodes: &[PlainNode]) -> Unsorted {
     let mut builder = Builder::new(variables);
     let number = values.build(&mut builder);
     for point in points {
@@ -177,7 +177,7 @@ pub fn build(variables: u32, values: &PlainValues, points: &[PlainPoint], nodes:
     for node in nodes {
         build_node(&mut builder, node, &number);
     }
-    builder.finish()
+    builder.unsorted()
 }
 
 fn names(builder: &mut Builder, names: &[String]) -> Run {

@@ -1,0 +1,9 @@
+pub mod Words
+pub mod Encode
+pub mod Join
+pub mod Unsorted
+pub mod Write
+pub mod Read
+pub mod Records
+pub mod Laws
+pub mod Theorems

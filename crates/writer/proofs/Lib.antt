@@ -1,0 +1,4 @@
+pub mod Rules
+pub mod Bodies
+pub mod Again
+pub mod Held

@@ -9,6 +9,7 @@ pub mod Values
 pub mod Nodes
 pub mod Sorts
 pub mod Checked
+pub mod Text
 pub mod Search
 pub mod Walk
 pub mod Meaning

@@ -11,6 +11,7 @@ pub mod Sorts
 pub mod Checked
 pub mod Text
 pub mod Search
+pub mod Searched
 pub mod Walk
 pub mod Meaning
 pub mod Carried

@@ -342,7 +342,7 @@ module _ (c : Case) where
     found-is : (b v : ℕ) (path : List ℕ) → Plain c path → found b v path ≡ upto (λ path. none) (searchBy c) b v path
     unfolding upto searchBy lastUnder dotted sameList onlyIf orElse
     found-is zero v path h = refl
-    found-is (suc b) v [] h = last-append [] (writes c (W b) [] (members (c .value v))) (([], v) ∷ []) 
+    found-is (suc b) v [] h = last-append [] (writes c (W b) [] (members (c .value v))) (([], v) ∷ [])
     found-is (suc b) v (n ∷ ns) h =
         last-append (dotted c (n ∷ ns)) (writes c (W b) [] (members (c .value v))) (([], v) ∷ [])
         ∙ members-give b n ns h (members (c .value v)) (up v)

@@ -87,3 +87,10 @@ module _ (before : ℕ → ℕ → Bool) (onward : (i j k : ℕ) → before i j 
 
   pub rising : (i j : ℕ) → i < j → j < n → before i j ≡ true
   rising i j h l = let z : suc (i + (j - suc i)) ≡ j = omega arith in rw z at (later i (j - suc i) (omega arith))
+
+pub numbers-rise : (f : ℕ → ℕ) (n : ℕ) → ((i : ℕ) → i < n → rises (λ i j. ltb (f i) (f j)) i ≡ true) → (i j : ℕ) → i < j → j < n → f i < f j
+numbers-rise f n up i j h l =
+    ltb-true (f i) (f j) (rising (λ i j. ltb (f i) (f j)) onward n up i j h l)
+  where
+    onward : (i j k : ℕ) → ltb (f i) (f j) ≡ true → ltb (f j) (f k) ≡ true → ltb (f i) (f k) ≡ true
+    onward i j k p q = lt-ltb (f i) (f k) (omega (arith, ltb-true (f i) (f j) p, ltb-true (f j) (f k) q))

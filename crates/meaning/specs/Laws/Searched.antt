@@ -33,9 +33,9 @@ every-of P f [] e = tt
 every-of P f (x ∷ xs) e = (e .0, every-of P f xs (e .1))
 
 module _ {s : List ℕ} (c : Checked s) where
-  -- ---- strings rise
+  -- ---- strings rise by their bytes
 
-  strings-rise : (i j : ℕ) → i < j → j < strings s → before (text s i) (text s j) ≡ true
+  pub strings-rise : (i j : ℕ) → i < j → j < strings s → before (text s i) (text s j) ≡ true
   strings-rise =
       rising (λ i j. before (text s i) (text s j)) (λ i j k. before-onward (text s i) (text s j) (text s k)) (strings s)
       (λ i h. unfold orderRule in all-at (orderRule s) (strings s) i order h)

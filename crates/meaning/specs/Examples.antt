@@ -1,4 +1,4 @@
--- E1 to E12, the sample table and the slips: one list with one claim, asked of the calls on the bytes of one case; then each refusal, later points, and parts that the case does not reach
+-- E1 to E12, the sample table and the slips: one list with one claim, asked of the calls on the bytes of one case; then E13 on a case of its own, each refusal, later points, and parts that the case does not reach
 use mathlib.Core.Path.{_≡_, refl, _∙_}
 use mathlib.Core.Bool.{Bool, true, false}
 use mathlib.Core.List.{List, [], _∷_, _++_, map}
@@ -554,6 +554,41 @@ rows-calls :
     [])
 unfolding rowsSaid
 rows-calls = refl
+
+-- ---- E13: in {a: {b: 1}, "a.b": 2} the path a.b gives 2, and the path a gives {b: 1}
+
+-- strings a, a.b, b; values 1, 2, {b: 1}, {a: {b: 1}, "a.b": 2}; one point that has the last as its context
+bytes13 : List ℕ
+unfolding table bytesOf packed placed flat file
+bytes13 =
+    file 1 (
+    table 2 ((0 ∷ 1 ∷ []) ∷ (1 ∷ 3 ∷ []) ∷ (4 ∷ 1 ∷ []) ∷ [])
+    ∷ table 4 ((2 ∷ 1 ∷ []) ∷ (2 ∷ 2 ∷ []) ∷ (7 ∷ 0 ∷ 1 ∷ []) ∷ (7 ∷ 1 ∷ 2 ∷ []) ∷ [])
+    ∷ table 2 ((2 ∷ 0 ∷ []) ∷ (0 ∷ 2 ∷ []) ∷ (1 ∷ 1 ∷ []) ∷ [])
+    ∷ table 12 ((0 ∷ 0 ∷ 0 ∷ 0 ∷ 0 ∷ 0 ∷ 3 ∷ 3 ∷ 4294967295 ∷ 4294967295 ∷ []) ∷ [])
+    ∷ table 8 (
+    (21 ∷ 0 ∷ 2 ∷ []) ∷  -- 0: context.a.b
+    (20 ∷ 1 ∷ []) ∷  -- 1: 2
+    (8 ∷ 4 ∷ 0 ∷ 1 ∷ []) ∷  -- 2: context.a.b == 2
+    (21 ∷ 0 ∷ 1 ∷ []) ∷  -- 3: context.a
+    (23 ∷ []) ∷  -- 4: x
+    (8 ∷ 4 ∷ 4 ∷ 3 ∷ []) ∷  -- 5: x == context.a
+    [])
+    ∷ (0 ∷ 2 ∷ [])
+    ∷ []
+    ) (97 ∷ 97 ∷ 46 ∷ 98 ∷ 98 ∷ [])
+
+-- both asked at the point, with room for one row
+call13 : ℕ → Call
+unfolding call
+call13 n = call bytes13 n 0 (0 ∷ 0 ∷ []) (record { steps = 10; room = 1 }) (0 ∷ 0 ∷ [])
+
+e13 :
+    (askCall (call13 2) .said ≡ gives (verdict true) 1 0)
+    × (rowsCall (0 ∷ []) (9 ∷ 9 ∷ []) (call13 5) .said ≡ gives 1 1 1)
+    × (rowsCall (0 ∷ []) (9 ∷ 9 ∷ []) (call13 5) .output ≡ (2 ∷ 2 ∷ []))
+unfolding passes bytes13 call13
+e13 = (refl, refl, refl)
 
 -- ---- refusals 1 to 6, each for one byte of the case changed: edition, V, a string, a member's value, a point's context, a node's child
 

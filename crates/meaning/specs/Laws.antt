@@ -15,6 +15,7 @@ pub mod Searched
 pub mod Walk
 pub mod Meaning
 pub mod Carried
+pub mod Asked
 pub mod Stack
 pub mod Calls
 pub mod Later

@@ -1,11 +1,7 @@
 -- The asking calls as document 01 has them: context and attributes by plain descent, for the theorem that cases without dots keep their answers
-use mathlib.Core.List.{List, [], _∷_, _++_}
+use mathlib.Core.List.{List, [], _∷_}
 use mathlib.Core.Option.{Option, none, some}
-use Prim.Native.Nat.{ℕ, suc}
-use mir.Val.{ofZ}
-use mir.Syntax.{w64}
-use Rattle.meaning.specs.declared.Limits.{Limits}
-use Rattle.meaning.specs.declared.Interval.{Interval}
+use Prim.Native.Nat.{ℕ}
 use Rattle.meaning.specs.declared.Node.{Node}
 use Rattle.meaning.specs.declared.Node.the-variants.{And, Or, Not, Formerly, Previous, Since, Predicate, Comparison, Exists, Tp, Literal, Context, Scope, Variable, Wildcard, Aggregate, Arithmetic, Sum, Count, Broken}
 use Rattle.meaning.specs.declared.NodeNo.{NodeNo}
@@ -13,10 +9,14 @@ use Rattle.meaning.specs.declared.Root.{Root}
 use Rattle.meaning.specs.Below.{made}
 use Rattle.meaning.specs.Tests.{orElse}
 use Rattle.meaning.specs.Walk.{give}
-use Rattle.meaning.specs.Case.{Case, Point}
+use Rattle.meaning.specs.Case.{Case, Point, caseOf}
+use Rattle.meaning.specs.Undotted.{check01}
 use Rattle.meaning.specs.Equal.{Bound}
 use Rattle.meaning.specs.Look.{descend, boundAt, attributesOf, ownPart, entityOf, rootOf}
 use Rattle.meaning.specs.Meaning.{Meaning, term, resolved, names, meaningOf, noMeaning}
+use Rattle.meaning.specs.Calls.{Call, Result, Answer}
+use Rattle.meaning.specs.Carried.{Carried}
+use Rattle.meaning.specs.Readings.{Reading, askBy, rowsBy, carriedBy}
 
 -- ---- what a path reaches, name by name
 
@@ -68,3 +68,17 @@ meaningOf01 c of Broken = meaningOf c of Broken
 
 unfoldable pub meaning01 : Case → ℕ → Meaning
 meaning01 c = made noMeaning (λ of k. meaningOf01 c (λ n. of (n .0)) (c .node k))
+
+-- ---- the calls, with document 01's check
+
+unfoldable pub first : Reading
+first = record { check = check01; means = λ s. meaning01 (caseOf s) }
+
+unfoldable pub askCall01 : Call → Result Answer
+askCall01 c = askBy first c
+
+unfoldable pub rowsCall01 : List ℕ → List ℕ → Call → Result ℕ
+rowsCall01 binders output c = rowsBy first binders output c
+
+unfoldable pub carriedCall01 : List ℕ → Call → Result Carried
+carriedCall01 list c = carriedBy first list c

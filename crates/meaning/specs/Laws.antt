@@ -16,6 +16,7 @@ pub mod Walk
 pub mod Meaning
 pub mod Carried
 pub mod Asked
+pub mod Readings
 pub mod Stack
 pub mod Calls
 pub mod Later

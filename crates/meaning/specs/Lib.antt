@@ -13,6 +13,7 @@ pub mod Walk
 pub mod Meaning
 pub mod Calls
 pub mod Carried
+pub mod Readings
 pub mod Calls01
 pub mod Single
 pub mod Demands

@@ -94,17 +94,21 @@ module _ {s : List ℕ} (c : Checked s) where
     pub name : p .name < strings s
     pub lower : p .value < v
 
-  pub members-are : (v : ℕ) → Every (Member v) (members (valueAt s v))
+  -- what holds of each item of an object holds of every member; other values have none
+  pub every-member : (P : Part → Type 0) (v : ℕ) → (valueWord s v 0 ≡ 7 → (i : ℕ) → i < valueWord s v 2 → P (partAt s (valueWord s v 1 + i))) → Every P (members (valueAt s v))
   unfolding valueAt
+  every-member P v f =
+      by-kind (Every P) (valueWord s v 0) (valueWord s v 1) (valueWord s v 2) tt
+      (λ e. every-of P (partAt s) (places (valueWord s v 1) 1 (valueWord s v 2)) (every-place (λ m. P (partAt s m)) (valueWord s v 1) 1 (valueWord s v 2) (λ i hi. let z : valueWord s v 1 + 1 * i ≡ valueWord s v 1 + i = omega arith in rw z (f e i hi))))
+
+  pub members-are : (v : ℕ) → Every (Member v) (members (valueAt s v))
   members-are v =
-      by-kind (Every (Member v)) (valueWord s v 0) (valueWord s v 1) (valueWord s v 2) tt
-      (λ e. every-of (Member v) (partAt s) (places (valueWord s v 1) 1 (valueWord s v 2)) (every-place (λ m. Member v (partAt s m)) (valueWord s v 1) 1 (valueWord s v 2) (λ i hi. at i (item v e i hi))))
+      every-member (Member v) v (λ e i hi. at i (item v e i hi))
     where
-      at : (i : ℕ) → objectItem s v (valueWord s v 1) i ≡ true → Member v (partAt s (valueWord s v 1 + 1 * i))
+      at : (i : ℕ) → objectItem s v (valueWord s v 1) i ≡ true → Member v (partAt s (valueWord s v 1 + i))
       at i h =
-          let z : valueWord s v 1 + 1 * i ≡ valueWord s v 1 + i = omega arith in
           let b : (memberWord s (valueWord s v 1 + i) 0 < strings s) × (memberWord s (valueWord s v 1 + i) 1 < v) = unfold objectItem in (ltb-true _ _ (both _ _ (both _ _ h .0) .0), ltb-true _ _ (both _ _ (both _ _ h .0) .1)) in
-          rw z (unfold partAt in record { name = b .0; lower = b .1 })
+          unfold partAt in record { name = b .0; lower = b .1 }
 
   -- a run whose names are strings that rise by number
   run-rises : (first count : ℕ) → ((i : ℕ) → i < count → memberWord s (first + i) 0 < strings s) → ((i j : ℕ) → i < j → j < count → memberWord s (first + i) 0 < memberWord s (first + j) 0) → Rising (caseOf s) (map (partAt s) (places first 1 count))

@@ -20,3 +20,4 @@ pub mod Readings
 pub mod Stack
 pub mod Calls
 pub mod Later
+pub mod Undotted

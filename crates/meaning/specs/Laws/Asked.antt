@@ -51,7 +51,7 @@ module _ (p : Point) where
         shape = resolved;
       }
 
-  term-same : (s : Shape) (v v′ : Question → W (Option Bound)) → ((q : Question) → v (about p q) ≡ v′ (about p q)) → fixed p (term s v) ≡ fixed p (term s v′)
+  pub term-same : (s : Shape) (v v′ : Question → W (Option Bound)) → ((q : Question) → v (about p q) ≡ v′ (about p q)) → fixed p (term s v) ≡ fixed p (term s v′)
   unfolding fixed term
   term-same s v v′ ev =
       ap (λ (f : Question → W (Option Bound)). record { verdict = λ q. visit (give false); lend = λ q. visit (give none); rows = λ q. visit (give []); value = f; number = λ q. visit (give (pos 0)); shape = s }) (fun-ext ev)

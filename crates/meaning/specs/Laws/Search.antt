@@ -50,7 +50,7 @@ search c = made (λ path. none) (searchBy c)
 
 -- ---- the search finds what was written last
 
-or-none : {A : Type 0} (a : Option A) → orElse a none ≡ a
+pub or-none : {A : Type 0} (a : Option A) → orElse a none ≡ a
 unfolding orElse
 or-none none = refl
 or-none (some x) = refl

@@ -101,14 +101,14 @@ module _ {s : List ℕ} (c : Checked s) where
       by-kind (Every P) (valueWord s v 0) (valueWord s v 1) (valueWord s v 2) tt
       (λ e. every-of P (partAt s) (places (valueWord s v 1) 1 (valueWord s v 2)) (every-place (λ m. P (partAt s m)) (valueWord s v 1) 1 (valueWord s v 2) (λ i hi. let z : valueWord s v 1 + 1 * i ≡ valueWord s v 1 + i = omega arith in rw z (f e i hi))))
 
+  pub item-is : (v : ℕ) → valueWord s v 0 ≡ 7 → (i : ℕ) → i < valueWord s v 2 → Member v (partAt s (valueWord s v 1 + i))
+  unfolding objectItem partAt
+  item-is v e i hi =
+      let h = both _ _ (both _ _ (item v e i hi) .0) in
+      record { name = ltb-true _ _ (h .0); lower = ltb-true _ _ (h .1) }
+
   pub members-are : (v : ℕ) → Every (Member v) (members (valueAt s v))
-  members-are v =
-      every-member (Member v) v (λ e i hi. at i (item v e i hi))
-    where
-      at : (i : ℕ) → objectItem s v (valueWord s v 1) i ≡ true → Member v (partAt s (valueWord s v 1 + i))
-      at i h =
-          let b : (memberWord s (valueWord s v 1 + i) 0 < strings s) × (memberWord s (valueWord s v 1 + i) 1 < v) = unfold objectItem in (ltb-true _ _ (both _ _ (both _ _ h .0) .0), ltb-true _ _ (both _ _ (both _ _ h .0) .1)) in
-          unfold partAt in record { name = b .0; lower = b .1 }
+  members-are v = every-member (Member v) v (item-is v)
 
   -- a run whose names are strings that rise by number
   run-rises : (first count : ℕ) → ((i : ℕ) → i < count → memberWord s (first + i) 0 < strings s) → ((i j : ℕ) → i < j → j < count → memberWord s (first + i) 0 < memberWord s (first + j) 0) → Rising (caseOf s) (map (partAt s) (places first 1 count))

@@ -1,7 +1,8 @@
 -- Cases without dots: document 01's own check, which refuses a name with a dot in context and attributes
+use mathlib.Core.Path.{_≡_}
 use mathlib.Core.Bool.{Bool}
 use mathlib.Core.List.{List, [], _∷_}
-use mathlib.Core.Option.{Option}
+use mathlib.Core.Option.{Option, none}
 use Prim.Native.Nat.{ℕ, _+_, _*_}
 use lib.Dec.{eqb}
 use Rattle.meaning.specs.declared.Refusal.{Refusal}
@@ -62,3 +63,7 @@ module _ (s : List ℕ) where
       ∷ (nodeRules s, BadNodes)
       ∷ []
       )
+
+-- a case that passes it
+pub record Undotted (s : List ℕ) : Type 0 where
+  pub passes : check01 s ≡ none

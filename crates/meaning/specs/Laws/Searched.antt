@@ -28,7 +28,7 @@ use Rattle.meaning.specs.Laws.Nodes.{node-beyond}
 use Rattle.meaning.specs.Laws.Checked.{rules, checked-bodies, checked-values, checked-nodes}
 use Rattle.meaning.specs.Laws.Search.{Rising, Plain, joined, called, onward, longest, searchBy, search, written-is-searched}
 
-every-of : {A B : Type 0} (P : B → Type 0) (f : A → B) (xs : List A) → Every (λ x. P (f x)) xs → Every P (map f xs)
+pub every-of : {A B : Type 0} (P : B → Type 0) (f : A → B) (xs : List A) → Every (λ x. P (f x)) xs → Every P (map f xs)
 every-of P f [] e = tt
 every-of P f (x ∷ xs) e = (e .0, every-of P f xs (e .1))
 

@@ -1,4 +1,4 @@
--- The asking calls as document 01 has them: context and attributes by plain descent, for the theorem that cases without dots keep their answers
+-- The calls as document 01 has them: context and attributes by plain descent, for the theorem that cases without dots keep their answers
 use mathlib.Core.List.{List, [], _∷_}
 use mathlib.Core.Option.{Option, none, some}
 use Prim.Native.Nat.{ℕ}
@@ -14,9 +14,9 @@ use Rattle.meaning.specs.Undotted.{check01}
 use Rattle.meaning.specs.Equal.{Bound}
 use Rattle.meaning.specs.Look.{descend, boundAt, attributesOf, ownPart, entityOf, rootOf}
 use Rattle.meaning.specs.Meaning.{Meaning, term, resolved, names, meaningOf, noMeaning}
-use Rattle.meaning.specs.Calls.{Call, Result, Answer}
+use Rattle.meaning.specs.Calls.{Call, Said, Result, Answer}
 use Rattle.meaning.specs.Carried.{Carried}
-use Rattle.meaning.specs.Readings.{Reading, askBy, rowsBy, carriedBy}
+use Rattle.meaning.specs.Readings.{Reading, checkBy, askBy, rowsBy, carriedBy}
 
 -- ---- what a path reaches, name by name
 
@@ -73,6 +73,9 @@ meaning01 c = made noMeaning (λ of k. meaningOf01 c (λ n. of (n .0)) (c .node 
 
 unfoldable pub first : Reading
 first = record { check = check01; means = λ s. meaning01 (caseOf s) }
+
+unfoldable pub checkCall01 : List ℕ → Said (List ℕ)
+checkCall01 s = checkBy first s
 
 unfoldable pub askCall01 : Call → Result Answer
 askCall01 c = askBy first c

@@ -1,6 +1,6 @@
--- The asking calls by any way to read a file: its check, and what each of its nodes means. Laws say that the calls are those of the reading that stands
+-- The calls by any way to read a file: its check, and what each of its nodes means. Laws say that the calls are those of the reading that stands
 use mathlib.Core.Bool.{Bool, false}
-use mathlib.Core.List.{List, []}
+use mathlib.Core.List.{List, [], _∷_}
 use mathlib.Core.Option.{Option, none, some}
 use Prim.Native.Nat.{ℕ, suc, _-_}
 use mir.Val.{ofZ}
@@ -10,7 +10,7 @@ use Rattle.meaning.specs.declared.Node.{Node}
 use Rattle.meaning.specs.declared.Refusal.{Refusal}
 use Rattle.meaning.specs.Tests.{choose}
 use Rattle.meaning.specs.Walk.{W, started, Outcome, outcome}
-use Rattle.meaning.specs.Case.{Point, vars, pointAt, nodeAt, caseOf}
+use Rattle.meaning.specs.Case.{Point, vars, strings, values, points, nodes, pointAt, nodeAt, caseOf}
 use Rattle.meaning.specs.Check.{check}
 use Rattle.meaning.specs.Number.{seconds, inWindow}
 use Rattle.meaning.specs.Rows.{Row}
@@ -48,6 +48,9 @@ module _ (means : ℕ → Meaning) (log : ℕ → Point) (i : ℕ) (row : Row) (
 -- ---- the calls
 
 module _ (r : Reading) where
+  unfoldable pub checkBy : List ℕ → Said (List ℕ)
+  checkBy s = unlessRefused (r .check s) (gives (vars s ∷ strings s ∷ values s ∷ points s ∷ nodes s ∷ []) 0 0)
+
   unfoldable pub unlessAgainstBy : {A : Type 0} → (Node → Bool) → Call → Said A → Said A
   unlessAgainstBy wanted c said = unlessRefused (r .check (c .file)) (unlessRefused (against wanted c) said)
 

@@ -1,10 +1,10 @@
 -- Names with dots (#103): what a path gives in context and attributes; logged fields
 use mathlib.Core.Path.{_≡_, refl}
-use mathlib.Core.Bool.{Bool, true, false}
+use mathlib.Core.Bool.{true, false}
 use mathlib.Core.List.{List, [], _∷_}
 use Prim.Native.Nat.{ℕ, _+_, _-_}
 use lib.ListN.{length}
-use Rattle.meaning.specs.Calls.{Said, gives, refuses, Answer, verdict}
+use Rattle.meaning.specs.Calls.{Said, gives, Answer, verdict}
 use Rattle.meaning.specs.Written.{table, file}
 use Rattle.rule_examples.specs.Asked.{all, wanted, got, answer, rows}
 
@@ -181,13 +181,14 @@ lists =
     4 ∷ 7 ∷ 11 ∷  -- 26: path a . b . e
     17 ∷ 4 ∷  -- 29: path type . a
     7 ∷ 9 ∷  -- 31: path b . c
-    9 ∷ 4 ∷  -- 33: path c . a
-    0 ∷ 15 ∷  -- 35: path "" . q
-    11 ∷ 0 ∷  -- 37: path e . ""
-    0 ∷  -- 39: path ""
-    15 ∷  -- 40: path q
-    0 ∷ 0 ∷  -- 41: path "" . ""
-    12 ∷ 2 ∷ 0 ∷  -- 43: argument a.b: node 0
+    7 ∷ 0 ∷  -- 33: path b . ""
+    9 ∷ 4 ∷  -- 35: path c . a
+    0 ∷ 15 ∷  -- 37: path "" . q
+    11 ∷ 0 ∷  -- 39: path e . ""
+    0 ∷  -- 41: path ""
+    15 ∷  -- 42: path q
+    0 ∷ 0 ∷  -- 43: path "" . ""
+    12 ∷ 2 ∷ 0 ∷  -- 45: argument a.b: node 0
     []
 
 -- the case with these nodes; what is asked is the last of them
@@ -222,19 +223,20 @@ given =
     ((gives 1 1 1, (1 ∷ 1 ∷ [])), ((21 ∷ 14 ∷ 1 ∷ []), 2)) ∷  -- 2: context a
     ((gives 1 1 1, (1 ∷ 2 ∷ [])), ((21 ∷ 12 ∷ 2 ∷ []), 2)) ∷  -- 2: context a.b
     ((gives 0 2 0, (9 ∷ 9 ∷ [])), ((21 ∷ 31 ∷ 2 ∷ []), 2)) ∷  -- 2: context b.c
+    ((gives 0 2 0, (9 ∷ 9 ∷ [])), ((21 ∷ 33 ∷ 2 ∷ []), 2)) ∷  -- 2: context b . ""
     ((gives 1 1 1, (2 ∷ 25 ∷ [])), ((21 ∷ 15 ∷ 1 ∷ []), 2)) ∷  -- 2: context b
-    ((gives 1 1 1, (1 ∷ 4 ∷ [])), ((21 ∷ 33 ∷ 2 ∷ []), 2)) ∷  -- 2: context c.a
+    ((gives 1 1 1, (1 ∷ 4 ∷ [])), ((21 ∷ 35 ∷ 2 ∷ []), 2)) ∷  -- 2: context c.a
     ((gives 0 2 0, (9 ∷ 9 ∷ [])), ((21 ∷ 23 ∷ 3 ∷ []), 2)) ∷  -- 2: context a.b.c
     ((gives 1 1 1, (3 ∷ 18 ∷ [])), ((22 ∷ 0 ∷ 16 ∷ 1 ∷ []), 2)) ∷  -- 2: principal id
-    ((gives 1 1 1, (1 ∷ 6 ∷ [])), ((21 ∷ 35 ∷ 2 ∷ []), 3)) ∷  -- 3: context "" . q
-    ((gives 1 1 1, (1 ∷ 8 ∷ [])), ((21 ∷ 37 ∷ 2 ∷ []), 3)) ∷  -- 3: context e . ""
-    ((gives 1 1 1, (2 ∷ 29 ∷ [])), ((21 ∷ 39 ∷ 1 ∷ []), 3)) ∷  -- 3: context ""
-    ((gives 0 2 0, (9 ∷ 9 ∷ [])), ((21 ∷ 40 ∷ 1 ∷ []), 3)) ∷  -- 3: context q
-    ((gives 0 2 0, (9 ∷ 9 ∷ [])), ((21 ∷ 41 ∷ 2 ∷ []), 3)) ∷  -- 3: context "" . ""
-    ((gives 1 1 1, (1 ∷ 5 ∷ [])), ((21 ∷ 35 ∷ 2 ∷ []), 4)) ∷  -- 4: context "" . q
-    ((gives 1 1 1, (1 ∷ 7 ∷ [])), ((21 ∷ 37 ∷ 2 ∷ []), 4)) ∷  -- 4: context e . ""
-    ((gives 1 1 1, (2 ∷ 29 ∷ [])), ((21 ∷ 39 ∷ 1 ∷ []), 4)) ∷  -- 4: context ""
-    ((gives 1 1 1, (1 ∷ 1 ∷ [])), ((21 ∷ 40 ∷ 1 ∷ []), 4)) ∷  -- 4: context q
+    ((gives 1 1 1, (1 ∷ 6 ∷ [])), ((21 ∷ 37 ∷ 2 ∷ []), 3)) ∷  -- 3: context "" . q
+    ((gives 1 1 1, (1 ∷ 8 ∷ [])), ((21 ∷ 39 ∷ 2 ∷ []), 3)) ∷  -- 3: context e . ""
+    ((gives 1 1 1, (2 ∷ 29 ∷ [])), ((21 ∷ 41 ∷ 1 ∷ []), 3)) ∷  -- 3: context ""
+    ((gives 0 2 0, (9 ∷ 9 ∷ [])), ((21 ∷ 42 ∷ 1 ∷ []), 3)) ∷  -- 3: context q
+    ((gives 0 2 0, (9 ∷ 9 ∷ [])), ((21 ∷ 43 ∷ 2 ∷ []), 3)) ∷  -- 3: context "" . ""
+    ((gives 1 1 1, (1 ∷ 5 ∷ [])), ((21 ∷ 37 ∷ 2 ∷ []), 4)) ∷  -- 4: context "" . q
+    ((gives 1 1 1, (1 ∷ 7 ∷ [])), ((21 ∷ 39 ∷ 2 ∷ []), 4)) ∷  -- 4: context e . ""
+    ((gives 1 1 1, (2 ∷ 29 ∷ [])), ((21 ∷ 41 ∷ 1 ∷ []), 4)) ∷  -- 4: context ""
+    ((gives 1 1 1, (1 ∷ 1 ∷ [])), ((21 ∷ 42 ∷ 1 ∷ []), 4)) ∷  -- 4: context q
     ((gives 1 1 1, (1 ∷ 3 ∷ [])), ((21 ∷ 23 ∷ 3 ∷ []), 5)) ∷  -- 5: context a.b.c
     ((gives 1 1 1, (2 ∷ 24 ∷ [])), ((21 ∷ 12 ∷ 2 ∷ []), 5)) ∷  -- 5: context a.b
     ((gives 1 1 1, (1 ∷ 2 ∷ [])), ((21 ∷ 23 ∷ 3 ∷ []), 6)) ∷  -- 6: context a.b.c
@@ -250,8 +252,8 @@ given-are = refl
 answers : List (Said Answer × (List (List ℕ) × ℕ))
 answers =
     (gives (verdict true) 1 0, (((21 ∷ 12 ∷ 2 ∷ []) ∷ (20 ∷ 0 ∷ []) ∷ (8 ∷ 4 ∷ 0 ∷ 1 ∷ []) ∷ []), 0)) ∷
-    (gives (verdict false) 1 0, (((24 ∷ []) ∷ (7 ∷ 0 ∷ 0 ∷ 2 ∷ 16 ∷ 43 ∷ 1 ∷ []) ∷ []), 0)) ∷
-    (gives (verdict true) 1 0, (((24 ∷ []) ∷ (7 ∷ 0 ∷ 0 ∷ 2 ∷ 16 ∷ 43 ∷ 1 ∷ []) ∷ []), 1)) ∷
+    (gives (verdict false) 1 0, (((24 ∷ []) ∷ (7 ∷ 0 ∷ 0 ∷ 2 ∷ 16 ∷ 45 ∷ 1 ∷ []) ∷ []), 0)) ∷
+    (gives (verdict true) 1 0, (((24 ∷ []) ∷ (7 ∷ 0 ∷ 0 ∷ 2 ∷ 16 ∷ 45 ∷ 1 ∷ []) ∷ []), 1)) ∷
     []
 
 answers-are : got (λ e. answer (withNodes (e .0)) (0 + length (e .0) - 1) (e .1) free) answers ≡ wanted answers

@@ -15,12 +15,16 @@ use Rattle.meaning.specs.Case.{Case, Point, vars, points, pointAt, nodeA
 use Rattle.meaning.specs.Number.{seconds, inWindow}
 use Rattle.meaning.specs.Rows.{Row}
 use Rattle.meaning.specs.Meaning.{Meaning, earlier, meaning, question, firsts}
-use Rattle.meaning.specs.Calls.{Call, Said, startRow, startOr, isCondition, answerable, against, walkOf, told, unlessRefused, unlessAgainst, asking, askCall, rowsGiven, rowsCall}
+use Rattle.meaning.specs.Calls.{Call, Said, startRow, startOr, isCondition, answerable, against, walkOf, told, unlessRefused, unlessAgainst, asking, checkCall, askCall, rowsGiven, rowsCall}
 use Rattle.meaning.specs.Carried.{Look, formerly, previous, since, lookOf, looksBack, down, before, bodyTurn, leftFrom, anchorTurn, askedAt, seenFrom, turnAt, scanOf, shown, shownAt, carriedCall}
-use Rattle.meaning.specs.Readings.{Reading, standing, askedBy, turnBy, scanBy, shownBy, unlessAgainstBy, askingBy, askBy, rowsBy, carriedBy}
+use Rattle.meaning.specs.Readings.{Reading, standing, checkBy, askedBy, turnBy, scanBy, shownBy, unlessAgainstBy, askingBy, askBy, rowsBy, carriedBy}
 use Rattle.meaning.specs.Laws.Asked.{about, fixed}
 
 -- ---- the calls by the reading that stands
+
+pub check-stands : (s : List ℕ) → checkBy standing s ≡ checkCall s
+unfolding checkBy checkCall standing
+check-stands s = refl
 
 pub ask-stands : (c : Call) → askBy standing c ≡ askCall c
 unfolding askBy askCall askingBy asking unlessAgainstBy unlessAgainst walkOf standing
@@ -80,6 +84,10 @@ module _ (r r′ : Reading) (c : Call) (same : Agree r r′ c) where
       against-same wanted _ _ (λ h. ap (λ (m : Meaning). told (outcome (c .limits) started (m .rows (question (pointAt (c .file)) (c .point) (startOr (startRow (c .file) (vars (c .file)) (c .start))))))) (same .means h (c .node)))
 
   -- so do the calls
+
+  pub check-agrees : checkBy r (c .file) ≡ checkBy r′ (c .file)
+  unfolding checkBy
+  check-agrees = cc (same .check)
 
   pub ask-agrees : askBy r c ≡ askBy r′ c
   unfolding askBy

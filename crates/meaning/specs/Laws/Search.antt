@@ -5,19 +5,19 @@ use mathlib.Core.List.{List, [], _∷_, _++_, append-assoc, append-nil}
 use mathlib.Core.Option.{Option, none, some}
 use Prim.Native.Nat.{ℕ, zero, suc, _-_, _+_, _<_, _≤_}
 use native.Mathlib.Omega.{arith}
-use lib.Dec.{eqb, ltb}
+use lib.Dec.{eqb}
 use lib.ListN.{length, length-append, getD, take, drop, take-append-drop, length-drop}
 use lib.Seq.{take-take, take-length, length-take-le}
-use borrow.Author.Tests.{eqb-true, eqb-false, ltb-true, ltb-false, not-true}
+use borrow.Author.Tests.{eqb-true, eqb-false, not-true}
 use Rattle.meaning.specs.Below.{upto, made}
-use Rattle.meaning.specs.Tests.{_and_, onlyIf, orElse}
+use Rattle.meaning.specs.Tests.{onlyIf, orElse}
 use Rattle.meaning.specs.Text.{before, free}
 use Rattle.meaning.specs.Case.{Case, Part}
 use Rattle.meaning.specs.Equal.{sameList}
 use Rattle.meaning.specs.Look.{members, Entries, dotted, writes, written, lastUnder, lookup}
 use Rattle.meaning.specs.Laws.Tests.{both}
 use Rattle.meaning.specs.Laws.Lists.{Every, every-map}
-use Rattle.meaning.specs.Laws.Text.{same-list, self-same, not-same, not-equal, same-behind, not-before}
+use Rattle.meaning.specs.Laws.Text.{same-list, not-same, not-equal, same-behind, not-before}
 
 -- names joined by dots
 unfoldable pub joined : Case → List ℕ → List ℕ

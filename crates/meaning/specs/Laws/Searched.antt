@@ -1,27 +1,27 @@
 -- In a checked case: names of members rise by their bytes, so what was written last is searched for; the search from value to lower value, and names by their numbers
-use mathlib.Core.Path.{_≡_, refl, sym, _∙_, ap, ap₂, fun-ext, subst}
+use mathlib.Core.Path.{_≡_, refl, sym, _∙_, ap, ap₂, fun-ext}
 use mathlib.Core.Bool.{Bool, true, false}
 use mathlib.Core.List.{List, [], _∷_, _++_, map, append-nil}
 use mathlib.Core.Option.{Option, none, some}
-use Prim.Native.Nat.{ℕ, zero, suc, _+_, _*_, _<_, _≤_}
+use Prim.Native.Nat.{ℕ, zero, suc, _+_, _*_, _<_}
 use native.Mathlib.Omega.{arith}
 use lib.Dec.{eqb, ltb, lit<}
 use lib.ListN.{length, take, drop}
-use borrow.Author.Tests.{eqb-true, eqb-false, eq-eqb, ltb-true, ltb-false, lt-ltb, leb-true}
+use borrow.Author.Tests.{eqb-true, eqb-false, ltb-true, ltb-false}
 use Rattle.meaning.specs.declared.Node.{Node}
 use Rattle.meaning.specs.declared.Node.the-variants.{Context, Scope, Broken}
 use Rattle.meaning.specs.declared.Root.{Root}
 use Rattle.meaning.specs.declared.Run.{Run}
-use Rattle.meaning.specs.Tests.{_and_, orElse, allBelow, pick, rises}
+use Rattle.meaning.specs.Tests.{_and_, orElse, allBelow, pick}
 use Rattle.meaning.specs.Text.{before, free}
-use Rattle.meaning.specs.Case.{Case, Part, places, runOf, strings, values, nodes, valueWord, memberWord, list, text, valueFrom, partAt, valueAt, nodeAt, caseOf}
+use Rattle.meaning.specs.Case.{Part, places, runOf, strings, values, nodes, valueWord, memberWord, list, text, valueFrom, partAt, valueAt, nodeAt, caseOf}
 use Rattle.meaning.specs.Check.{Checked, stringRules, orderRule, objectItem, objectRule, valueRule, pathRun, ruleOf, nodeRule}
 use Rattle.meaning.specs.Equal.{sameList}
-use Rattle.meaning.specs.Look.{named, members, dotted, lookup}
+use Rattle.meaning.specs.Look.{named, members, lookup}
 use Rattle.meaning.specs.Meaning.{names}
 use Rattle.meaning.specs.Laws.Tests.{both, all-at}
 use Rattle.meaning.specs.Laws.Lists.{Every, every-map, every-place}
-use Rattle.meaning.specs.Laws.Text.{same-list, self-same, not-same, before-onward, not-before, rising, numbers-rise}
+use Rattle.meaning.specs.Laws.Text.{self-same, not-same, before-onward, not-before, rising, numbers-rise}
 use Rattle.meaning.specs.Laws.Below.{made-is}
 use Rattle.meaning.specs.Laws.Bodies.{wholes, body-beyond}
 use Rattle.meaning.specs.Laws.Nodes.{node-beyond}

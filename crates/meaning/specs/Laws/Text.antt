@@ -9,7 +9,7 @@ use borrow.Author.Tests.{ltb-true, eqb-true, lt-ltb, le-ltb, eq-eqb}
 use Rattle.meaning.specs.Tests.{_and_, _or_, rises}
 use Rattle.meaning.specs.Text.{before}
 use Rattle.meaning.specs.Equal.{sameList}
-use Rattle.meaning.specs.Laws.Tests.{both, pass, stop, skip, after}
+use Rattle.meaning.specs.Laws.Tests.{both, pass, after}
 
 -- ---- equal lists
 

@@ -1,40 +1,38 @@
 -- Cases without dots keep their answers: of a file that document 01's own check passes, each call gives what it gave with plain descent
-use mathlib.Core.Path.{_≡_, refl, sym, _∙_, ap, ap₂}
+use mathlib.Core.Path.{_≡_, refl, sym, _∙_, ap}
 use mathlib.Core.Bool.{Bool, true, false, not}
-use mathlib.Core.List.{List, [], _∷_, _++_, map, append-nil}
+use mathlib.Core.List.{List, [], _∷_, _++_, append-nil}
 use mathlib.Core.Option.{Option, none, some}
 use Prim.Native.Nat.{ℕ, zero, suc, _+_, _*_, _<_, _≤_}
 use native.Mathlib.Omega.{arith}
-use lib.Dec.{eqb, ltb}
+use lib.Dec.{eqb}
 use lib.ListN.{length, take, drop}
-use borrow.Author.Tests.{eqb-true, ne-eqb, ltb-true, leb-true}
+use borrow.Author.Tests.{ne-eqb, ltb-true, leb-true}
 use Rattle.meaning.specs.declared.Node.{Node}
 use Rattle.meaning.specs.declared.Node.the-variants.{And, Or, Not, Formerly, Previous, Since, Predicate, Comparison, Exists, Tp, Literal, Context, Scope, Variable, Wildcard, Aggregate, Arithmetic, Sum, Count, Broken}
 use Rattle.meaning.specs.declared.NodeNo.{NodeNo}
-use Rattle.meaning.specs.declared.Root.{Root}
-use Rattle.meaning.specs.declared.Run.{Run}
 use Rattle.meaning.specs.Tests.{_and_, _or_, choose, orElse, allBelow}
 use Rattle.meaning.specs.Text.{free}
 use Rattle.meaning.specs.Walk.{give}
-use Rattle.meaning.specs.Case.{Case, Part, Attributes, Point, nothing, places, strings, values, points, valueWord, memberWord, pointWord, list, text, partAt, valueAt, entityAt, pointAt, nodeAt, caseOf}
-use Rattle.meaning.specs.Check.{check, Checked, bodies, mosts, stringRules, valueRules, isString, isObject, maybeValue, stringRun, inTable, entityRule, entityItem, entityRun, pointRule, pointRules, nodeRules, partCount, partValue, name}
+use Rattle.meaning.specs.Case.{Case, Part, Attributes, nothing, places, strings, values, points, valueWord, memberWord, pointWord, list, text, partAt, valueAt, entityAt, pointAt, nodeAt, caseOf}
+use Rattle.meaning.specs.Check.{check, Checked, bodies, mosts, stringRules, valueRules, entityRule, entityItem, entityRun, pointRule, pointRules, nodeRules, partCount, partValue}
 use Rattle.meaning.specs.Undotted.{plainNames, plain, plainObject, plainEntity, plainItem, plainRun, plainPoint, plainPoints, check01, Undotted}
-use Rattle.meaning.specs.Equal.{Bound, sameList}
+use Rattle.meaning.specs.Equal.{Bound}
 use Rattle.meaning.specs.Look.{named, members, descend, dotted, lookup, boundAt, attributesOf, ownPart, supplied, entityOf, attribute, fromRoot, rootOf, scopeAt, contextAt}
-use Rattle.meaning.specs.Meaning.{Meaning, Question, term, resolved, names, meaningOf, noMeaning, meaning}
-use Rattle.meaning.specs.Calls.{Call, askCall, rowsCall}
+use Rattle.meaning.specs.Meaning.{Meaning, resolved, names, meaningOf, meaning}
+use Rattle.meaning.specs.Calls.{Call, checkCall, askCall, rowsCall}
 use Rattle.meaning.specs.Carried.{carriedCall}
 use Rattle.meaning.specs.Readings.{standing}
-use Rattle.meaning.specs.Calls01.{contextAt01, supplied01, attribute01, fromRoot01, scopeAt01, meaningOf01, meaning01, first, askCall01, rowsCall01, carriedCall01}
-use Rattle.meaning.specs.Laws.Tests.{both, pass, skip, unbroken, all-at}
+use Rattle.meaning.specs.Calls01.{contextAt01, supplied01, attribute01, fromRoot01, scopeAt01, meaningOf01, meaning01, first, checkCall01, askCall01, rowsCall01, carriedCall01}
+use Rattle.meaning.specs.Laws.Tests.{both, pass, skip, unbroken, all-at, throughout-is}
 use Rattle.meaning.specs.Laws.Lists.{Every, every-map, every-place}
 use Rattle.meaning.specs.Laws.Text.{not-same}
-use Rattle.meaning.specs.Laws.Values.{holder, plain-is}
+use Rattle.meaning.specs.Laws.Values.{runs, holder}
 use Rattle.meaning.specs.Laws.Checked.{rules, checked-values}
-use Rattle.meaning.specs.Laws.Search.{Plain, or-none, joined, called, onward, longest, searchBy, search}
-use Rattle.meaning.specs.Laws.Searched.{Member, every-of, every-member, item-is, lookup-is, search-is, called-number, names-of, context-path, scope-path}
+use Rattle.meaning.specs.Laws.Search.{or-none, joined, called, onward, longest, searchBy, search}
+use Rattle.meaning.specs.Laws.Searched.{every-of, every-member, item-is, lookup-is, search-is, called-number, names-of, context-path, scope-path}
 use Rattle.meaning.specs.Laws.Asked.{about, fixed, term-same, meaning-same, made-agree}
-use Rattle.meaning.specs.Laws.Readings.{Agree, ask-stands, rows-stands, carried-stands, ask-agrees, rows-agree, carried-agrees}
+use Rattle.meaning.specs.Laws.Readings.{Agree, check-stands, ask-stands, rows-stands, carried-stands, check-agrees, ask-agrees, rows-agree, carried-agrees}
 
 -- ---- names without a dot: the search takes one name at a time
 
@@ -69,6 +67,10 @@ module _ {s : List ℕ} (c : Checked s) where
 
   -- ---- a value whose names hold no dot, at any depth
 
+  plain-is : (k : ℕ) → k < values s → plain s k ≡ (plainNames s k and allBelow (partCount s k) (λ i. plain s (partValue s k i)))
+  unfolding plain
+  plain-is k hk = throughout-is (partCount s) (partValue s) (values s) (λ m hm i hi. runs s m hm (all-at _ _ m (checked-values c) hm) .lower i hi) (plainNames s) k hk
+
   record PlainMember (p : Part) : Type 0 where
     free : free 46 (text s (p .name)) ≡ true
     there : p .value < values s
@@ -79,7 +81,7 @@ module _ {s : List ℕ} (c : Checked s) where
   plain-members v hv h = every-member c PlainMember v at
     where
       parts : (plainNames s v ≡ true) × (allBelow (partCount s v) (λ i. plain s (partValue s v i)) ≡ true)
-      parts = both _ _ (sym (plain-is s (checked-values c) v hv) ∙ h)
+      parts = both _ _ (sym (plain-is v hv) ∙ h)
 
       no-none : (k : ℕ) (b : Bool) → k < strings s → (eqb k nothing or b) ≡ true → b ≡ true
       no-none k b l e =
@@ -153,8 +155,7 @@ module _ (s : List ℕ) where
       let h6 = both _ _ (h5 .1) in
       let h7 = both _ _ (h6 .1) in
       let h8 = both _ _ (h7 .1) in
-      let h9 = both _ _ (h8 .1) in
-      (
+      let h9 = both _ _ (h8 .1) in (
         pass (h2 .0) (pass (h4 .0) (pass (h5 .0) (pass (h6 .0) (pass (both _ _ (h7 .0) .0) (pass (h8 .0) (pass (h9 .0) (run-weaken _ _ (h9 .1)))))))),
         h7 .0,
         h9 .1,
@@ -280,6 +281,10 @@ module _ (c : Call) (u : Undotted (c .file)) where
     check = still-passes u .passes ∙ sym (u .passes);
     means = means-same u (c .point);
   }
+
+  pub check-kept : checkCall (c .file) ≡ checkCall01 (c .file)
+  unfolding checkCall01
+  check-kept = sym (check-stands (c .file)) ∙ check-agrees standing first c readings-agree
 
   pub ask-kept : askCall c ≡ askCall01 c
   unfolding askCall01

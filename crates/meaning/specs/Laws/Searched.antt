@@ -20,17 +20,13 @@ use Rattle.meaning.specs.Equal.{sameList}
 use Rattle.meaning.specs.Look.{named, members, lookup}
 use Rattle.meaning.specs.Meaning.{names}
 use Rattle.meaning.specs.Laws.Tests.{both, all-at}
-use Rattle.meaning.specs.Laws.Lists.{Every, every-map, every-place}
+use Rattle.meaning.specs.Laws.Lists.{Every, every-map, every-of, every-place}
 use Rattle.meaning.specs.Laws.Text.{self-same, not-same, before-onward, not-before, rising, numbers-rise}
 use Rattle.meaning.specs.Laws.Below.{made-is}
 use Rattle.meaning.specs.Laws.Bodies.{wholes, body-beyond}
 use Rattle.meaning.specs.Laws.Nodes.{node-beyond}
 use Rattle.meaning.specs.Laws.Checked.{rules, checked-bodies, checked-values, checked-nodes}
 use Rattle.meaning.specs.Laws.Search.{Rising, Plain, joined, called, onward, longest, searchBy, search, written-is-searched}
-
-pub every-of : {A B : Type 0} (P : B → Type 0) (f : A → B) (xs : List A) → Every (λ x. P (f x)) xs → Every P (map f xs)
-every-of P f [] e = tt
-every-of P f (x ∷ xs) e = (e .0, every-of P f xs (e .1))
 
 module _ {s : List ℕ} (c : Checked s) where
   -- ---- strings rise by their bytes

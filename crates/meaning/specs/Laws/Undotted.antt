@@ -25,12 +25,12 @@ use Rattle.meaning.specs.Carried.{carriedCall}
 use Rattle.meaning.specs.Readings.{standing}
 use Rattle.meaning.specs.Calls01.{contextAt01, supplied01, attribute01, fromRoot01, scopeAt01, meaningOf01, meaning01, first, checkCall01, askCall01, rowsCall01, carriedCall01}
 use Rattle.meaning.specs.Laws.Tests.{both, pass, skip, unbroken, all-at, throughout-is}
-use Rattle.meaning.specs.Laws.Lists.{Every, every-map, every-place}
+use Rattle.meaning.specs.Laws.Lists.{Every, every-map, every-of, every-place}
 use Rattle.meaning.specs.Laws.Text.{not-same}
 use Rattle.meaning.specs.Laws.Values.{runs, holder}
 use Rattle.meaning.specs.Laws.Checked.{rules, checked-values}
 use Rattle.meaning.specs.Laws.Search.{or-none, joined, called, onward, longest, searchBy, search}
-use Rattle.meaning.specs.Laws.Searched.{every-of, every-member, item-is, lookup-is, search-is, called-number, names-of, context-path, scope-path}
+use Rattle.meaning.specs.Laws.Searched.{every-member, item-is, lookup-is, search-is, called-number, names-of, context-path, scope-path}
 use Rattle.meaning.specs.Laws.Asked.{about, fixed, term-same, meaning-same, made-agree}
 use Rattle.meaning.specs.Laws.Readings.{Agree, check-stands, ask-stands, rows-stands, carried-stands, check-agrees, ask-agrees, rows-agree, carried-agrees}
 

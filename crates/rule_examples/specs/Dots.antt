@@ -6,7 +6,7 @@ use Prim.Native.Nat.{ℕ, _+_, _-_}
 use lib.ListN.{length}
 use Rattle.meaning.specs.Calls.{Said, gives, Answer, verdict}
 use Rattle.meaning.specs.Written.{table, file}
-use Rattle.rule_examples.specs.Asked.{all, wanted, got, answer, rows}
+use Rattle.rule_examples.specs.Asked.{all, wanted, got, checked, answer, rows}
 
 -- every variable unbound
 free : List ℕ
@@ -189,6 +189,7 @@ lists =
     15 ∷  -- 42: path q
     0 ∷ 0 ∷  -- 43: path "" . ""
     12 ∷ 2 ∷ 0 ∷  -- 45: argument a.b: node 0
+    5 ∷  -- 48: path of the one name a.b
     []
 
 -- the case with these nodes; what is asked is the last of them
@@ -259,3 +260,8 @@ answers =
 answers-are : got (λ e. answer (withNodes (e .0)) (0 + length (e .0) - 1) (e .1) free) answers ≡ wanted answers
 unfolding all withNodes answers free
 answers-are = refl
+
+-- a path's own name with a dot is refused still (6), and the dots in context and attributes before it are not
+path-name : (checked (withNodes ((21 ∷ 48 ∷ 1 ∷ []) ∷ [])) ≡ 6) × (checked (withNodes ((21 ∷ 12 ∷ 2 ∷ []) ∷ [])) ≡ 0)
+unfolding all withNodes
+path-name = (refl, refl)

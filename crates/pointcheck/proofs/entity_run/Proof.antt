@@ -8,7 +8,7 @@ use mathlib.Core.List.{List}
 use mathlib.Core.Path.{_∙_, _≡_, ap, refl, sym}
 use native.Mathlib.Omega.{arith}
 use Rattle.meaning.specs.Case.{lists}
-use Rattle.meaning.specs.Check.{entityItem, entityRun, plain}
+use Rattle.meaning.specs.Check.{entityItem, entityRun}
 use Rattle.meaning.specs.Laws.Tests.{all-end, pass, record-no, record-yes, skip, stop}
 use Rattle.meaning.specs.Tests.{allBelow}
 use Rattle.meaning.specs.Text.{before}
@@ -50,10 +50,10 @@ in-blocks : (s : List ℕ) (first items i f j : ℕ) → lists s ≤ 1048576 →
 in-blocks s first items i f j m l ef ej a w h = omega (arith, ltb-false (items - i) 512 w)
 
 abbrev Inv-loop : tie.InvT-loop
-Inv-loop s unquoted plain blocks first items i₀ i = (i ≤ items) × (allBelow i (entityItem s first) ≡ true) × (first + 3 * items ≤ lists s) × (lists s ≤ 1048576)
+Inv-loop s unquoted blocks first items i₀ i = (i ≤ items) × (allBelow i (entityItem s first) ≡ true) × (first + 3 * items ≤ lists s) × (lists s ≤ 1048576)
 
 abbrev μ-loop : tie.MeasureT-loop
-μ-loop s unquoted plain blocks first items i₀ i = items - i
+μ-loop s unquoted blocks first items i₀ i = items - i
 
 list-count-requires : tie.Need-list-count-requires Inv-loop μ-loop
 list-count-requires c κs = c .before .pre .0

@@ -9,6 +9,7 @@ pub mod Values
 pub mod Nodes
 pub mod Sorts
 pub mod Checked
+pub mod Search
 pub mod Walk
 pub mod Meaning
 pub mod Carried

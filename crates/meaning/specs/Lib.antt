@@ -3,6 +3,7 @@ pub mod Tests
 pub mod Text
 pub mod Case
 pub mod Check
+pub mod Undotted
 pub mod Number
 pub mod Edges
 pub mod Equal

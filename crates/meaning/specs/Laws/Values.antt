@@ -8,7 +8,8 @@ use lib.Dec.{ltb, leb, eqb, lit<}
 use borrow.Author.Tests.{leb-true, leb-false, ltb-true, ltb-false, le-leb, lt-leb}
 use Rattle.meaning.specs.Tests.{_and_, _or_, choose, within, allBelow, pick, greatest}
 use Rattle.meaning.specs.Case.{Part, Null, values, members, valueWord, memberWord, partAt, valueAt, valueFrom, places, caseOf}
-use Rattle.meaning.specs.Check.{bodies, valueRule, arrayItem, objectItem, partCount, partValue, depth, plain, plainNames, literal, nullRule, boolRule, intRule, textRule, entityValueRule, arrayRule, objectRule, noKind}
+use Rattle.meaning.specs.Check.{bodies, valueRule, arrayItem, objectItem, partCount, partValue, depth, literal, nullRule, boolRule, intRule, textRule, entityValueRule, arrayRule, objectRule, noKind}
+use Rattle.meaning.specs.Undotted.{plainNames, plain}
 use Rattle.meaning.specs.Equal.{see, seen, alike, sameParts, sameValue}
 use Rattle.meaning.specs.Laws.Below.{made-is}
 use Rattle.meaning.specs.Laws.Tests.{both, stop, skip, pass, yes, no, all-at, levels-is, throughout-is}

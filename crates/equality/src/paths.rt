@@ -9,6 +9,7 @@ use meaning::Run;
 use meaning::StrNo;
 use meaning::ValNo;
 use tables::list_at;
+use tables::member_word;
 use tables::offset_of;
 use tables::point_word;
 use tables::value_word;
@@ -85,6 +86,132 @@ pub fn path_descend(s: &[u8], v: ValNo, path: Run) -> Found
     Found::At(at)
 }
 
+// ---- names with dots: what a path gives in context and attributes
+
+// whether t has the name from byte `at` on
+fn stands_at(t: &[u8], at: usize, name: &[u8]) -> bool {
+    if t.len() < at + name.len() {
+        return false;
+    }
+    let mut i = 0;
+    while i < name.len() {
+        if t[at + i] != name[i] {
+            return false;
+        }
+        i += 1;
+    }
+    true
+}
+
+// how many of the path's names from `from` on string n joins by dots, 0 where it joins none
+fn joins(s: &[u8], n: StrNo, path: Run, from: usize) -> usize {
+    let t = tables::text_of(s, n);
+    let first = wide(path.first) + from;
+    let left = wide(path.count) - from;
+    let mut at = 0;
+    let mut k = 0;
+    while k < left {
+        let name = tables::text_of(s, StrNo(list_at(s, first + k)));
+        if !stands_at(t, at, name) {
+            return 0;
+        }
+        at += name.len();
+        k += 1;
+        if at == t.len() {
+            return k;
+        }
+        if t[at] != b'.' {
+            return 0;
+        }
+        at += 1;
+    }
+    0
+}
+
+// whether a string may begin with name n and a dot: it would stand behind n in the order of strings
+fn may_join(s: &[u8], n: StrNo) -> bool {
+    let count = tables::size_of(s, 0) / 8;
+    if count <= n.0 {
+        return false;
+    }
+    let behind = n.0 + 1;
+    if count == behind {
+        return false;
+    }
+    let name = tables::text_of(s, n);
+    let next = tables::text_of(s, StrNo(behind));
+    let end = name.len();
+    if next.len() <= end {
+        return false;
+    }
+    if !stands_at(next, 0, name) {
+        return false;
+    }
+    next[end] <= b'.'
+}
+
+// the place in the table of failures where value v with the names from `from` on is kept
+fn slot(v: usize, from: usize) -> usize {
+    (2531 * v + from) % 4096
+}
+
+// from value v by the names from `from` on: the last member that leads to the path's end; what led nowhere is remembered
+fn look(s: &[u8], failed: &mut [u64], v: ValNo, path: Run, from: usize) -> Found {
+    if from == wide(path.count) {
+        return Found::At(v);
+    }
+    if value_word(s, v, 0) != 7 {
+        return Found::Nothing;
+    }
+    let key = 1 + (from as u64) + 4294967296 * long(v.0);
+    let place = slot(wide(v.0), from);
+    if failed[place] == key {
+        return Found::Nothing;
+    }
+    let first = wide(value_word(s, v, 1));
+    let mut m = first + wide(value_word(s, v, 2));
+    while first < m {
+        m -= 1;
+        let k = joins(s, StrNo(member_word(s, m, 0)), path, from);
+        if k != 0 {
+            let found = look(s, failed, ValNo(member_word(s, m, 1)), path, from + k);
+            match found {
+                Found::At(u) => {
+                    return Found::At(u);
+                }
+                Found::Nothing => {}
+            }
+        }
+    }
+    failed[place] = key;
+    Found::Nothing
+}
+
+fn look_far(s: &[u8], v: ValNo, path: Run, from: usize) -> Found {
+    let mut failed: [u64; 4096] = [0; 4096];
+    look(s, &mut failed, v, path, from)
+}
+
+// the value that a path's names from `from` on give in value v: name by name, as long as no string joins a name with the next
+fn path_lookup(s: &[u8], v: ValNo, path: Run, from: usize) -> Found {
+    let left = wide(path.count) - from;
+    if left == 0 {
+        return Found::At(v);
+    }
+    let name = StrNo(list_at(s, wide(path.first) + from));
+    if left == 1 {
+        return member_named(s, v, name);
+    }
+    if may_join(s, name) {
+        return look_far(s, v, path, from);
+    }
+    let found = member_named(s, v, name);
+    match found {
+        Found::At(u) => path_lookup(s, u, path, from + 1),
+        Found::Nothing => Found::Nothing,
+    }
+}
+
 fn binding_found(s: &[u8], found: Found) -> Binding
     requires { ⌜ Checked (now s) ⌝ }
     ensures { λ r. ⌜ inCells (r .tag) (r .bits) ≡ boundAt (caseOf (now (s .entry))) (foundAt found) ⌝ }
@@ -111,7 +238,7 @@ pub fn context_at(s: &[u8], p: usize, path: Run) -> Binding
     ensures { λ r. ⌜ inCells (r .tag) (r .bits) ≡ contextAt (caseOf (now (s .entry))) (pointAt (now (s .entry)) p) (names (caseOf (now (s .entry))) path) ⌝ }
 {
     let v = point_word(s, p, 7);
-    let found = path_descend(s, ValNo(v), path);
+    let found = path_lookup(s, ValNo(v), path, 0);
     binding_found(s, found)
 }
 
@@ -196,7 +323,7 @@ fn supplied(s: &[u8], p: usize, t: StrNo, i: StrNo, path: Run) -> Binding
     let object = attributes_of(s, p, t, i);
     match object {
         Found::At(v) => {
-            let found = path_descend(s, v, path);
+            let found = path_lookup(s, v, path, 0);
             binding_found(s, found)
         }
         Found::Nothing => Binding { tag: 0, bits: 0 },

@@ -35,7 +35,7 @@ unfolding allBelow
 loop-holds c = (search needs, search needs, refl, search needs, search needs)
 
 point-rule-requires : tie.Need-point-rule-requires Inv-loop μ-loop
-point-rule-requires c κs = search needs
+point-rule-requires c κs = let p = c .before .before .before .before .before .before .before .before .before .before .pre in let i = c .before .before .before .loop .inv in (p .0, (p .1 .0, (p .1 .1 .1, (i .3, i .4))))
 
 returns : tie.Need-returns Inv-loop μ-loop
 unfolding pointRules
@@ -48,7 +48,7 @@ loop-less : tie.Need-loop-less Inv-loop μ-loop
 loop-less c = search needs
 
 loop-again : tie.Need-loop-again Inv-loop μ-loop
-loop-again c = let i = c .before .before .before .before .before .before .loop .inv in (search needs, i .1, record-yes _ _ _ (c .if1 .left) (c .before .point-rule .ensures) (i .2), i .3, i .4)
+loop-again c = let i = c .before .before .before .before .before .loop .inv in (search needs, i .1, record-yes _ _ _ (c .if1 .left) (c .before .point-rule .ensures) (i .2), i .3, i .4)
 
 returns-2 : tie.Need-returns-2 Inv-loop μ-loop
 unfolding pointRules

@@ -44,7 +44,7 @@ add-entity-items : tie.Need-add-entity-items Inv-loop μ-loop
 add-entity-items c = search needs
 
 entity-items-requires : tie.Need-entity-items-requires Inv-loop μ-loop
-entity-items-requires c κs = search needs
+entity-items-requires c κs = let p = c .before .before .before .before .before .pre in (p .0, (p .1 .0, (p .1 .1, omega (arith, c .before .before .loop .inv .1 .1))))
 
 array-write-blocks : tie.Need-array-write-blocks Inv-loop μ-loop
 array-write-blocks c = search needs

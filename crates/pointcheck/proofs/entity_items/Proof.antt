@@ -21,7 +21,7 @@ unfolding allBelow
 loop-holds c = search needs
 
 entity-item-requires : tie.Need-entity-item-requires Inv-loop μ-loop
-entity-item-requires c κs = search needs
+entity-item-requires c κs = let p = c .before .before .before .pre in (p .0, (p .1 .0, (p .1 .1 .0, omega (arith, p .1 .1 .1))))
 
 returns : tie.Need-returns Inv-loop μ-loop
 returns c = record-no _ _ _ _ (c .if1 .taken) (c .before .entity-item .ensures) (c .before .before .loop-test .taken)

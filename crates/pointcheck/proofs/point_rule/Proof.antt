@@ -66,10 +66,10 @@ point-word-requires-9 : tie.Need-point-word-requires-9
 point-word-requires-9 c κs = search needs
 
 point-word-requires-10 : tie.Need-point-word-requires-10
-point-word-requires-10 c κs = search needs
+point-word-requires-10 c κs = c .before .before .before .before .before .before .before .before .before .before .before .before .before .before .before .before .before .pre .0
 
 entity-run-requires : tie.Need-entity-run-requires
-entity-run-requires c κs = search needs
+entity-run-requires c κs = let p = c .before .before .before .before .before .before .before .before .before .before .before .before .before .before .before .before .before .before .pre in (p .0, (p .1 .0, (p .1 .1 .1 .0, p .1 .1 .1 .1)))
 
 both-requires : tie.Need-both-requires
 both-requires c κs = search needs

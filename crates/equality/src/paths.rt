@@ -144,10 +144,10 @@ fn may_join(s: &[u8], n: StrNo) -> bool {
     if next.len() <= end {
         return false;
     }
-    if !stands_at(next, 0, name) {
+    if b'.' < next[end] {
         return false;
     }
-    next[end] <= b'.'
+    stands_at(next, 0, name)
 }
 
 // the place in the table of failures where value v with the names from `from` on is kept
@@ -193,23 +193,30 @@ fn look_far(s: &[u8], v: ValNo, path: Run, from: usize) -> Found {
 }
 
 // the value that a path's names from `from` on give in value v: name by name, as long as no string joins a name with the next
-fn path_lookup(s: &[u8], v: ValNo, path: Run, from: usize) -> Found {
-    let left = wide(path.count) - from;
-    if left == 0 {
+fn look_from(s: &[u8], v: ValNo, path: Run, from: usize) -> Found {
+    if from == wide(path.count) {
         return Found::At(v);
     }
     let name = StrNo(list_at(s, wide(path.first) + from));
-    if left == 1 {
-        return member_named(s, v, name);
-    }
-    if may_join(s, name) {
-        return look_far(s, v, path, from);
+    if from + 1 < wide(path.count) {
+        if may_join(s, name) {
+            return look_far(s, v, path, from);
+        }
     }
     let found = member_named(s, v, name);
     match found {
-        Found::At(u) => path_lookup(s, u, path, from + 1),
+        Found::At(u) => look_from(s, u, path, from + 1),
         Found::Nothing => Found::Nothing,
     }
+}
+
+// the value that a path gives in value v; one name joins nothing
+fn path_lookup(s: &[u8], v: ValNo, path: Run) -> Found {
+    if path.count == 1 {
+        let name = StrNo(list_at(s, wide(path.first)));
+        return member_named(s, v, name);
+    }
+    look_from(s, v, path, 0)
 }
 
 fn binding_found(s: &[u8], found: Found) -> Binding
@@ -238,7 +245,7 @@ pub fn context_at(s: &[u8], p: usize, path: Run) -> Binding
     ensures { λ r. ⌜ inCells (r .tag) (r .bits) ≡ contextAt (caseOf (now (s .entry))) (pointAt (now (s .entry)) p) (names (caseOf (now (s .entry))) path) ⌝ }
 {
     let v = point_word(s, p, 7);
-    let found = path_lookup(s, ValNo(v), path, 0);
+    let found = path_lookup(s, ValNo(v), path);
     binding_found(s, found)
 }
 
@@ -323,7 +330,7 @@ fn supplied(s: &[u8], p: usize, t: StrNo, i: StrNo, path: Run) -> Binding
     let object = attributes_of(s, p, t, i);
     match object {
         Found::At(v) => {
-            let found = path_lookup(s, v, path, 0);
+            let found = path_lookup(s, v, path);
             binding_found(s, found)
         }
         Found::Nothing => Binding { tag: 0, bits: 0 },

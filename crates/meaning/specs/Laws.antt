@@ -9,7 +9,9 @@ pub mod Values
 pub mod Nodes
 pub mod Sorts
 pub mod Checked
+pub mod Text
 pub mod Search
+pub mod Searched
 pub mod Walk
 pub mod Meaning
 pub mod Carried

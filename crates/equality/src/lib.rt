@@ -36,6 +36,13 @@ pub enum Found {
     Nothing,
 }
 
+// what is behind a name in a text: the end, a dot and the byte after it, or something else
+enum After {
+    End,
+    Dot(usize),
+    Other,
+}
+
 // what two values show at once: the answer, or two runs of n members from p and from q on
 struct Heads {
     known: bool,

@@ -256,12 +256,7 @@ fn entity_rule(s: &[u8], unquoted: &[bool; 16384], i: usize) -> bool
 }
 
 // item i of a run of entities: its own rule, and that it comes after the one before
-fn entity_item(
-    s: &[u8],
-    unquoted: &[bool; 16384],
-    first: u32,
-    i: u32,
-) -> bool
+fn entity_item(s: &[u8], unquoted: &[bool; 16384], first: u32, i: u32) -> bool
     requires { ⌜ bodies (now s) ≡ true ⌝ }
     requires { ⌜ mosts (now s) ≡ true ⌝ }
     requires { ⌜ Unquoted (now s) (now unquoted) ⌝ }
@@ -279,12 +274,7 @@ fn entity_item(
 }
 
 // so many items of a run of entities, one by one
-fn entity_items(
-    s: &[u8],
-    unquoted: &[bool; 16384],
-    first: u32,
-    items: u32,
-) -> bool
+fn entity_items(s: &[u8], unquoted: &[bool; 16384], first: u32, items: u32) -> bool
     requires { ⌜ bodies (now s) ≡ true ⌝ }
     requires { ⌜ mosts (now s) ≡ true ⌝ }
     requires { ⌜ Unquoted (now s) (now unquoted) ⌝ }

@@ -63,6 +63,14 @@ module _ (s : List ℕ) (path : Run) where
       let y : path .count - (from + k) ≡ path .count - from - k = omega arith in
       rw (x, y) (drop-places k (path .first + from) (path .count - from))
 
+  length-places : (a n : ℕ) → length (map (list s) (places a 1 n)) ≡ n
+  unfolding places
+  length-places a zero = refl
+  length-places a (suc n) = ap suc (length-places (a + 1) n)
+
+  pub rest-length : (from : ℕ) → length (rest s path from) ≡ path .count - from
+  rest-length from = length-places (path .first + from) (path .count - from)
+
   pub rest-all : rest s path 0 ≡ names (caseOf s) path
   rest-all =
       let x : path .first + 0 ≡ path .first = omega arith in
@@ -153,6 +161,9 @@ module _ (t : List ℕ) (at : ℕ) (name : List ℕ) (h : at ≤ length t) (r : 
       open-end : drop (at + length name) t ≡ getD t (at + length name) 0 ∷ drop (at + length name + 1) t
       open-end = open-at t (at + length name) (omega (arith, behind-room e))
 
+      pub behind-byte : at + length name < length t
+      behind-byte = omega (arith, behind-room e)
+
       pub behind-other : (getD t (at + length name) 0 ≡ 46 → ⊥) → Behind t at name Other
       unfolding behindName counted
       behind-other nd = record { is = λ of. by-name of _ there open-end ∙ no _ (ne-eqb _ _ nd) refl; inside = λ next q. absurd (other q) }
@@ -169,11 +180,14 @@ module _ (t : List ℕ) (at : ℕ) (name : List ℕ) (h : at ≤ length t) (r : 
 
 -- ---- how many names a string joins
 
-pub record JoinsFrom (s t : List ℕ) (path : Run) (from left at k : ℕ) : Type 0 where
+-- the names of a run of the lists
+abbrev run : List ℕ → ℕ → ℕ → List ℕ
+run s first left = map (list s) (places first 1 left)
+
+pub record JoinsFrom (s t : List ℕ) (first left at k : ℕ) : Type 0 where
   pub inside : k ≤ left
-  pub count : from + left ≡ path .count
   pub start : at ≤ length t
-  pub sum : joins (caseOf s) t (rest s path from) ≡ ahead k (joins (caseOf s) (drop at t) (rest s path (from + k)))
+  pub sum : joins (caseOf s) t (run s first left) ≡ ahead k (joins (caseOf s) (drop at t) (run s (first + k) (left - k)))
 
 ahead-none : (j : ℕ) → ahead 0 j ≡ j
 unfolding ahead
@@ -185,37 +199,53 @@ unfolding ahead more
 ahead-more k zero = refl
 ahead-more k (suc j) = omega arith
 
-pub joins-start : (s t : List ℕ) (path : Run) (from w left : ℕ) → from ≤ path .count → w ≡ path .count → left ≡ w - from → JoinsFrom s t path from left 0 0
-joins-start s t path from w left h ew el =
-    let z : from + 0 ≡ from = omega arith in
-    record { inside = omega arith; count = omega arith; start = omega arith; sum = rw z (sym (ahead-none _)) }
+pub joins-start : (s t : List ℕ) (first left : ℕ) → JoinsFrom s t first left 0 0
+joins-start s t first left =
+    let y : first + 0 ≡ first = omega arith in
+    let z : left - 0 ≡ left = omega arith in
+    record { inside = omega arith; start = omega arith; sum = rw (y, z) (sym (ahead-none _)) }
 
-module _ {s t : List ℕ} {path : Run} {from left at k : ℕ} (g : JoinsFrom s t path from left at k) where
-  pub joins-end : left ≤ k → 0 ≡ joins (caseOf s) t (rest s path from)
+pub joins-inside : (s t x : List ℕ) (first left at k : ℕ) → JoinsFrom s t first left at k → x ≡ t → at ≤ length x
+joins-inside s t x first left at k g e = rw e (g .start)
+
+-- the run is the path's, from one of its names on
+module _ (s t : List ℕ) (path : Run) (from f w at k : ℕ) (ef : f ≡ path .first) (ew : w ≡ path .count) (g : JoinsFrom s t (f + from) (w - from) at k) where
+  is-rest : joins (caseOf s) t (run s (f + from) (w - from)) ≡ joins (caseOf s) t (rest s path from)
+  is-rest = rw (ef, ew) refl
+
+  pub joins-end : w - from ≤ k → 0 ≡ joins (caseOf s) t (rest s path from)
   unfolding joins ahead
-  joins-end h = sym (g .sum ∙ ap (λ (l : List ℕ). ahead k (joins (caseOf s) (drop at t) l)) (rest-shut s path (from + k) (omega (arith, g .count))))
+  joins-end h = sym (sym is-rest ∙ g .sum ∙ ap (λ (l : List ℕ). ahead k (joins (caseOf s) (drop at t) (map (list s) l))) (shut-place (f + from + k) 1 (w - from) k h))
 
-  module _ (name : ℕ) (f : ℕ) (h : k < left) (ef : f ≡ path .first) (en : name ≡ list s (f + from + k)) (r : After) (b : Behind t at (text s name) r) where
-    next-names : joins (caseOf s) (drop at t) (rest s path (from + k)) ≡ counted (λ l. joins (caseOf s) l (rest s path (from + (k + 1)))) t r
-    unfolding joins caseOf
-    next-names =
-        let x : from + k + 1 ≡ from + (k + 1) = omega arith in
-        let y : f + from + k ≡ path .first + (from + k) = omega arith in
-        let n : list s (path .first + (from + k)) ≡ name = ap (list s) (sym y) ∙ sym en in
-        ap (joins (caseOf s) (drop at t)) (rest-open s path (from + k) (omega (arith, g .count)))
-        ∙ rw (n, x) (b .is (λ l. joins (caseOf s) l (rest s path (from + (k + 1)))))
+module _ (s t : List ℕ) (first left at k : ℕ) (g : JoinsFrom s t first left at k) (name : ℕ) (h : k < left) (en : name ≡ list s (first + k)) (r : After) (x y : List ℕ) (ex : x ≡ t) (ey : y ≡ text s name) (by : Behind x at y r) where
+  b : Behind t at (text s name) r
+  b = rw (← ex, ← ey) by
 
-    so-far : joins (caseOf s) t (rest s path from) ≡ ahead k (counted (λ l. joins (caseOf s) l (rest s path (from + (k + 1)))) t r)
-    so-far = g .sum ∙ ap (ahead k) next-names
+  next-names : joins (caseOf s) (drop at t) (run s (first + k) (left - k)) ≡ counted (λ l. joins (caseOf s) l (run s (first + (k + 1)) (left - (k + 1)))) t r
+  unfolding joins caseOf
+  next-names =
+      let z : first + (k + 1) ≡ first + k + 1 = omega arith in
+      ap (λ (l : List ℕ). joins (caseOf s) (drop at t) (map (list s) l)) (open-place (first + k) 1 left k (first + (k + 1)) h z)
+      ∙ rw (← en) (b .is (λ l. joins (caseOf s) l (run s (first + (k + 1)) (left - (k + 1)))))
 
-    pub joins-here : r ≡ End → k + 1 ≡ joins (caseOf s) t (rest s path from)
-    unfolding counted ahead
-    joins-here e = sym (so-far ∙ rw e refl)
+  so-far : joins (caseOf s) t (run s first left) ≡ ahead k (counted (λ l. joins (caseOf s) l (run s (first + (k + 1)) (left - (k + 1)))) t r)
+  so-far = g .sum ∙ ap (ahead k) next-names
 
-    pub joins-other : r ≡ Other → 0 ≡ joins (caseOf s) t (rest s path from)
-    unfolding counted ahead
-    joins-other e = sym (so-far ∙ rw e refl)
+  joins-here : r ≡ End → joins (caseOf s) t (run s first left) ≡ k + 1
+  unfolding counted ahead
+  joins-here e = so-far ∙ rw e refl
 
-    pub joins-on : (next : ℕ) → r ≡ Dot next → JoinsFrom s t path from left next (k + 1)
-    unfolding counted
-    joins-on next e = record { inside = omega arith; count = g .count; start = b .inside next e; sum = so-far ∙ rw e (ahead-more k (joins (caseOf s) (drop next t) (rest s path (from + (k + 1))))) }
+  joins-other : r ≡ Other → joins (caseOf s) t (run s first left) ≡ 0
+  unfolding counted ahead
+  joins-other e = so-far ∙ rw e refl
+
+  pub joins-on : (next : ℕ) → r ≡ Dot next → JoinsFrom s t first left next (k + 1)
+  unfolding counted
+  joins-on next e = record { inside = omega arith; start = b .inside next e; sum = so-far ∙ rw e (ahead-more k (joins (caseOf s) (drop next t) (run s (first + (k + 1)) (left - (k + 1))))) }
+
+module _ (s t : List ℕ) (path : Run) (from f w at k : ℕ) (ef : f ≡ path .first) (ew : w ≡ path .count) (g : JoinsFrom s t (f + from) (w - from) at k) (name : ℕ) (h : k < w - from) (en : name ≡ list s (f + from + k)) (r : After) (x y : List ℕ) (ex : x ≡ t) (ey : y ≡ text s name) (by : Behind x at y r) where
+  pub joined-so-many : r ≡ End → k + 1 ≡ joins (caseOf s) t (rest s path from)
+  joined-so-many e = sym (sym (is-rest s t path from f w at k ef ew g) ∙ joins-here s t (f + from) (w - from) at k g name h en r x y ex ey by e)
+
+  pub joined-none : r ≡ Other → 0 ≡ joins (caseOf s) t (rest s path from)
+  joined-none e = sym (sym (is-rest s t path from f w at k ef ew g) ∙ joins-other s t (f + from) (w - from) at k g name h en r x y ex ey by e)

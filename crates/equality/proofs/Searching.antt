@@ -28,7 +28,7 @@ use Rattle.equality.specs.declared.Found.the-variants.{At, Nothing}
 use Rattle.equality.specs.Paths.{foundAt}
 use Rattle.equality.specs.Dotted.{rest, begins, more, behindName, fromName, joins, goesOn, mayJoin, keyOf, Failed, Sought}
 use Rattle.equality.proofs.Members.{part, no-members, members-are}
-use Rattle.equality.proofs.Dotted.{begun, rest-open, rest-shut, rest-drop, rest-all}
+use Rattle.equality.proofs.Dotted.{begun, rest-open, rest-shut, rest-drop, rest-length, rest-all}
 
 -- ---- a text joins names just if the code counts them
 
@@ -260,6 +260,16 @@ module _ {s t : List ℕ} {path : Run} {v from first end m : ℕ} (g : Seeking s
         ∙ seek-member s (rest s path from) some-names (partAt s (m - 1)) (part s m (end - m)) (rw here at rises-here)
         ∙ rw (g .nowhere, ← en, ← ek) refl
 
+    pub seeking-left : from + k ≤ path .count
+    seeking-left = go k refl
+      where
+        go : (j : ℕ) → k ≡ j → from + k ≤ path .count
+        go zero e = omega (arith, e, g .left)
+        go (suc j) e = omega (arith, e, g .left, joins-some (caseOf s) (rest s path from) (text s name) j (sym ek ∙ e) .0, rest-length s path from)
+
+    pub seeking-falls : (k ≡ 0 → ⊥) → path .count - (from + k) < path .count - from
+    seeking-falls ne = omega (arith, ne, g .left)
+
     pub seeking-skip : k ≡ 0 → Seeking s path t v from first end (m - 1)
     unfolding given
     seeking-skip e = record { checked = g .checked; kept = g .kept; left = g .left; low = omega arith; high = omega (arith, g .high); all = g .all; nowhere = gives ∙ rw e refl }
@@ -476,9 +486,9 @@ pub last-string : (s : List ℕ) (n size : ℕ) → size / 8 ≡ n + 1 → size 
 unfolding mayJoin
 last-string s n size e q = sym (stop _ (le-ltb (n + 1) (strings s) (omega (arith, q))))
 
-pub string-behind : (s : List ℕ) (n size : ℕ) (r : Bool) → (size / 8 ≡ n + 1 → ⊥) → size ≡ bodySize s 0 → n < strings s → r ≡ goesOn (text s n) (text s (n + 1)) → r ≡ mayJoin s n
+pub string-behind : (s : List ℕ) (n size : ℕ) (r : Bool) (x y : List ℕ) → (size / 8 ≡ n + 1 → ⊥) → size ≡ bodySize s 0 → n < strings s → x ≡ text s n → y ≡ text s (n + 1) → r ≡ goesOn x y → r ≡ mayJoin s n
 unfolding mayJoin
-string-behind s n size r ne q h er = er ∙ sym (after (lt-ltb (n + 1) (strings s) (omega (arith, q))))
+string-behind s n size r x y ne q h ex ey er = er ∙ rw (ex, ey) refl ∙ sym (after (lt-ltb (n + 1) (strings s) (omega (arith, q))))
 
 pub known-is : (t : List ℕ) (at key : ℕ) → at ≡ key % 1933 → eqb (getD t at 0) key ≡ eqb (getD t (key % 1933) 0) key
 known-is t at key e = ap (λ (i : ℕ). eqb (getD t i 0) key) e

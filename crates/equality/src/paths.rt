@@ -172,8 +172,9 @@ fn may_join(s: &[u8], n: StrNo) -> bool
     requires { ⌜ n .0 < strings (now s) ⌝ }
     ensures { λ r. ⌜ _≡_ {A = Bool} r (mayJoin (now (s .entry)) (n .0)) ⌝ }
 {
+    let count = tables::size_of(s, 0) / 8;
     let next = n.0 + 1;
-    if tables::size_of(s, 0) / 8 == next {
+    if count == next {
         return false;
     }
     goes_on(tables::text_of(s, n), tables::text_of(s, StrNo(next)))

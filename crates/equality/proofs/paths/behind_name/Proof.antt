@@ -1,41 +1,31 @@
+use Rattle.equality.proofs.Dotted.{behind-no, behind-room, behind-byte, behind-end, behind-other, behind-dot}
 use borrow.Author.Needs.{needs}
 use Rattle.equality.proofs.paths.behind_name.Statement.{statement}
 use Rattle.equality.proofs.paths.behind_name.Tie as tie
-use Rattle.equality.proofs.paths.behind_name.Reads as reads
-use Rattle.equality.proofs.paths.behind_name.Lts as lts
-use Rattle.equality.proofs.paths.stands_at.Reads as stands-at-reads
 
--- src/paths.rt:120:9
 stands-at-requires : tie.Need-stands-at-requires
 stands-at-requires c κs = search needs
 
--- src/paths.rt:121:9
 returns : tie.Need-returns
-returns c = ?
+returns c = search (behind-no, needs)
 
--- src/paths.rt:123:15
 add-end : tie.Need-add-end
-add-end c = search needs
+add-end c = search (behind-room, needs)
 
--- src/paths.rt:125:9
 returns-2 : tie.Need-returns-2
-returns-2 c = ?
+returns-2 c = search (behind-end, needs)
 
--- src/paths.rt:127:8
 shared-slice-read-if3 : tie.Need-shared-slice-read-if3
-shared-slice-read-if3 c = ?
+shared-slice-read-if3 c = search (behind-byte, needs)
 
--- src/paths.rt:128:9
 returns-3 : tie.Need-returns-3
-returns-3 c = ?
+returns-3 c = search (behind-other, needs)
 
--- src/paths.rt:130:16
 add-t7 : tie.Need-add-t7
-add-t7 c = search needs
+add-t7 c = search (behind-room, needs)
 
--- src/paths.rt:116:1
 returns-4 : tie.Need-returns-4
-returns-4 c = ?
+returns-4 c = search (behind-dot, needs)
 
 pub behind-name-spec : {M : Type 1} → statement M
 behind-name-spec =

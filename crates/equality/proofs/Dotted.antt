@@ -63,14 +63,6 @@ module _ (s : List ℕ) (path : Run) where
       let y : path .count - (from + k) ≡ path .count - from - k = omega arith in
       rw (x, y) (drop-places k (path .first + from) (path .count - from))
 
-  length-places : (a n : ℕ) → length (map (list s) (places a 1 n)) ≡ n
-  unfolding places
-  length-places a zero = refl
-  length-places a (suc n) = ap suc (length-places (a + 1) n)
-
-  pub rest-length : (from : ℕ) → length (rest s path from) ≡ path .count - from
-  rest-length from = length-places (path .first + from) (path .count - from)
-
   pub rest-all : rest s path 0 ≡ names (caseOf s) path
   rest-all =
       let x : path .first + 0 ≡ path .first = omega arith in

@@ -28,7 +28,7 @@ use Rattle.equality.specs.declared.Found.the-variants.{At, Nothing}
 use Rattle.equality.specs.Paths.{foundAt}
 use Rattle.equality.specs.Dotted.{rest, begins, more, behindName, fromName, joins, goesOn, mayJoin, keyOf, Failed, Sought}
 use Rattle.equality.proofs.Members.{part, no-members, members-are}
-use Rattle.equality.proofs.Dotted.{begun, rest-open, rest-shut, rest-drop, rest-length, rest-all}
+use Rattle.equality.proofs.Dotted.{begun, rest-open, rest-shut, rest-drop, rest-all}
 
 -- ---- a text joins names just if the code counts them
 
@@ -182,7 +182,32 @@ unfolding foundAt
 sought-end {s} {t} {path} {from} {w} {v} c k e f =
     record { kept = k; found = sym (ap (search (caseOf s) (v .0)) (rest-shut s path from (omega arith)) ∙ search-ends s c (v .0)) }
 
-module _ {s t : List ℕ} {path : Run} {from w : ℕ} (c : Checked s) (k : Failed s path t) (h : from ≤ path .count) (ne : from ≡ w → ⊥) (ew : w ≡ path .count) where
+-- what is known to lead nowhere
+pub sought-known : {s t : List ℕ} {path : Run} (v from key : ℕ) (r : Bool) → Failed s path t → r ≡ eqb (getD t (key % 1933) 0) key → r ≡ true → key ≡ keyOf v from → from < 4294967295 → Sought s path t v from Nothing
+unfolding foundAt
+sought-known v from key r k er e ek small =
+    record { kept = k; found = sym (k .nowhere (key % 1933) v from (omega arith) (eqb-true _ _ (sym er ∙ e) ∙ ek)) }
+
+-- what was found, and what was not
+pub sought-same : {s t : List ℕ} {path : Run} {v from : ℕ} {found : Found} (u : ValNo) → Sought s path t v from found → found ≡ At u → Sought s path t v from (At u)
+sought-same u o e = rw (← e) o
+
+pub sought-none : {s t : List ℕ} {path : Run} {v from : ℕ} {found : Found} → Sought s path t v from found → found ≡ Nothing → search (caseOf s) v (rest s path from) ≡ none
+unfolding foundAt
+sought-none o e = sym (o .found) ∙ ap foundAt e
+
+pub sought-noted : {s t u : List ℕ} {path : Run} {v from : ℕ} {found : Found} → Sought s path t v from found → found ≡ Nothing → Failed s path u → Sought s path u v from Nothing
+unfolding foundAt
+sought-noted o e k = record { kept = k; found = sym (sought-none o e) }
+
+-- how far there is to go
+pub look-in-falls : (count from z : ℕ) → 2 * (count - from) + 1 ≡ z → 2 * (count - from) < z
+look-in-falls count from z e = omega (arith, e)
+
+pub look-falls : (count from k z : ℕ) → 2 * (count - from) ≡ z → from < count → (k ≡ 0 → ⊥) → from + k ≤ count → 2 * (count - (from + k)) + 1 < z
+look-falls count from k z e h ne l = omega (arith, e, h, ne, l)
+
+module _ {s t : List ℕ} {path : Run} {from : ℕ} (c : Checked s) (k : Failed s path t) (less : from < path .count) where
   -- what is no object
   pub sought-other : {v kind : ℕ} → kind ≡ valueWord s v 0 → (kind ≡ 7 → ⊥) → Sought s path t v from Nothing
   unfolding foundAt valueAt
@@ -195,26 +220,16 @@ module _ {s t : List ℕ} {path : Run} {from w : ℕ} (c : Checked s) (k : Faile
             ∙ seek-empty s (rest s path from)
             );
       }
-    where
-      less : from < path .count
-      less = let other : from ≡ path .count → ⊥ = λ e. ne (e ∙ sym ew) in omega (arith, other)
-
-  -- what is known to lead nowhere
-  pub sought-known : {v key : ℕ} {r : Bool} → r ≡ eqb (getD t (key % 1933) 0) key → r ≡ true → key ≡ keyOf v from → from < 4294967296 → Sought s path t v from Nothing
-  unfolding foundAt
-  sought-known {v} {key} {r} er e ek small =
-      record { kept = k; found = sym (k .nowhere (key % 1933) v from small (eqb-true _ _ (sym er ∙ e) ∙ ek)) }
 
   pub seeking-start : {v kind x y first : ℕ} {z : ℕ} → kind ≡ valueWord s v 0 → kind ≡ 7 → x ≡ valueWord s v 1 → first ≡ x → y ≡ valueWord s v 2 → z ≡ y → Seeking s path t v from first (first + z) (first + z)
   unfolding places
   seeking-start {v} {kind} {x} {y} {first} {z} ek e7 ex ef ey ez =
       let n : first + z - (first + z) ≡ 0 = omega arith in
       let m : first + z - first ≡ z = omega arith in
-      let other : from ≡ path .count → ⊥ = λ e. ne (e ∙ sym ew) in
       record {
         checked = c;
         kept = k;
-        left = omega (arith, other);
+        left = less;
         low = omega arith;
         high = omega arith;
         all = rw m (members-are s v kind x y first z ef ex ez ey ek e7);
@@ -229,14 +244,14 @@ module _ {s t : List ℕ} {path : Run} {v from first end m : ℕ} (g : Seeking s
   unfolding caseOf
   rises = rw (g .all) at (members-rise (g .checked) v)
 
-  pub seeking-end : m ≤ first → search (caseOf s) v (rest s path from) ≡ none
+  seeking-end : m ≤ first → search (caseOf s) v (rest s path from) ≡ none
   seeking-end h =
       let z : m ≡ first = omega (arith, g .low) in
       search-seeks s (g .checked) v (rest s path from) some-names ∙ ap (seek s (rest s path from)) (g .all) ∙ rw z at (g .nowhere)
 
-  pub seeking-over : {u : List ℕ} → m ≤ first → Failed s path u → Sought s path u v from Nothing
+  pub seeking-over : m ≤ first → Sought s path t v from Nothing
   unfolding foundAt
-  seeking-over h k = record { kept = k; found = sym (seeking-end h) }
+  seeking-over h = record { kept = g .kept; found = sym (seeking-end h) }
 
   -- member m - 1
   module _ (h : first < m) {name k : ℕ} (en : name ≡ memberWord s (m - 1) 0) (ek : k ≡ joins (caseOf s) (text s name) (rest s path from)) where
@@ -259,16 +274,6 @@ module _ {s t : List ℕ} {path : Run} {v from first end m : ℕ} (g : Seeking s
         ap (seek s (rest s path from)) here
         ∙ seek-member s (rest s path from) some-names (partAt s (m - 1)) (part s m (end - m)) (rw here at rises-here)
         ∙ rw (g .nowhere, ← en, ← ek) refl
-
-    pub seeking-left : from + k ≤ path .count
-    seeking-left = go k refl
-      where
-        go : (j : ℕ) → k ≡ j → from + k ≤ path .count
-        go zero e = omega (arith, e, g .left)
-        go (suc j) e = omega (arith, e, g .left, joins-some (caseOf s) (rest s path from) (text s name) j (sym ek ∙ e) .0, rest-length s path from)
-
-    pub seeking-falls : (k ≡ 0 → ⊥) → path .count - (from + k) < path .count - from
-    seeking-falls ne = omega (arith, ne, g .left)
 
     pub seeking-skip : k ≡ 0 → Seeking s path t v from first end (m - 1)
     unfolding given

@@ -20,7 +20,7 @@ ghost use mathlib.Core.Path.{_≡_};
 ghost use mathlib.Core.Bool.{Bool, true};
 ghost use mathlib.Core.List.{[], _∷_};
 ghost use mathlib.Core.Option.{some, none};
-ghost use Prim.Native.Nat.{_<_, _≤_, _%_};
+ghost use Prim.Native.Nat.{_+_, _<_, _≤_, _%_};
 ghost use lib.Dec.{eqb};
 ghost use lib.ListN.{length, getD, drop};
 ghost use Rattle.meaning.specs.Tests.{orElse};
@@ -135,6 +135,7 @@ fn names_joined(s: &[u8], n: StrNo, path: Run, from: usize) -> usize
     requires { ⌜ Checked (now s) ⌝ }
     requires { ⌜ from ≤ path .count ⌝ }
     ensures { λ r. ⌜ r ≡ joins (caseOf (now (s .entry))) (text (now (s .entry)) (n .0)) (rest (now (s .entry)) path from) ⌝ }
+    ensures { λ r. ⌜ from + r ≤ path .count ⌝ }
 {
     let first = wide(path.first) + from;
     let left = wide(path.count) - from;
@@ -184,6 +185,7 @@ fn may_join(s: &[u8], n: StrNo) -> bool
 fn key_of(v: ValNo, from: usize) -> u64
     requires { ⌜ from < 4294967295 ⌝ }
     ensures { λ r. ⌜ r ≡ keyOf (v .0) from ⌝ }
+    ensures { λ _. ⌜ from < 4294967295 ⌝ }
 {
     1 + (from as u64) + 4294967296 * long(v.0)
 }
@@ -215,7 +217,7 @@ fn note(s: &[u8], failed: &mut [u64], path: Run, v: ValNo, from: usize)
     failed[at] = key;
 }
 
-// from value v by the names from `from` on: the last member that leads to the path's end
+// from value v by the names from `from` on; what leads nowhere is kept
 fn look(s: &[u8], failed: &mut [u64], path: Run, v: ValNo, from: usize) -> Found
     requires { ⌜ Checked (now s) ⌝ }
     requires { ⌜ Failed (now s) path (now failed) ⌝ }
@@ -225,10 +227,27 @@ fn look(s: &[u8], failed: &mut [u64], path: Run, v: ValNo, from: usize) -> Found
     if from == wide(path.count) {
         return Found::At(v);
     }
-    if value_word(s, v, 0) != 7 {
+    if known(failed, key_of(v, from)) {
         return Found::Nothing;
     }
-    if known(failed, key_of(v, from)) {
+    let found = look_in(s, failed, path, v, from);
+    match found {
+        Found::At(u) => Found::At(u),
+        Found::Nothing => {
+            note(s, failed, path, v, from);
+            Found::Nothing
+        }
+    }
+}
+
+// the last member that leads to the path's end
+fn look_in(s: &[u8], failed: &mut [u64], path: Run, v: ValNo, from: usize) -> Found
+    requires { ⌜ Checked (now s) ⌝ }
+    requires { ⌜ Failed (now s) path (now failed) ⌝ }
+    requires { ⌜ from < path .count ⌝ }
+    ensures { λ r. ⌜ Sought (now (s .entry)) path (now (failed .exit)) (v .0) from r ⌝ }
+{
+    if value_word(s, v, 0) != 7 {
         return Found::Nothing;
     }
     let first = wide(value_word(s, v, 1));
@@ -247,7 +266,6 @@ fn look(s: &[u8], failed: &mut [u64], path: Run, v: ValNo, from: usize) -> Found
             Found::Nothing => {}
         }
     }
-    note(s, failed, path, v, from);
     Found::Nothing
 }
 

@@ -49,7 +49,7 @@ enum-told : tie.Need-enum-told Inv-loop μ-loop
 enum-told c = search needs
 
 returns : tie.Need-returns Inv-loop μ-loop
-returns c = search (joined-so-many, needs)
+returns c = (search (joined-so-many, needs), search needs)
 
 enum-known-behind : tie.Need-enum-known-behind Inv-loop μ-loop
 enum-known-behind c = search needs
@@ -64,10 +64,10 @@ enum-told-2 : tie.Need-enum-told-2 Inv-loop μ-loop
 enum-told-2 c = search needs
 
 returns-2 : tie.Need-returns-2 Inv-loop μ-loop
-returns-2 c = search (joined-none, needs)
+returns-2 c = (search (joined-none, needs), search needs)
 
 returns-3 : tie.Need-returns-3 Inv-loop μ-loop
-returns-3 c = search (joins-end, needs)
+returns-3 c = (search (joins-end, needs), search needs)
 
 pub names-joined-spec : {M : Type 1} → statement M
 names-joined-spec =

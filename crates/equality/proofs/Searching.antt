@@ -25,8 +25,9 @@ use Rattle.meaning.specs.Laws.Search.{Rising, joined, called, onward, longest, 
 use Rattle.meaning.specs.Laws.Searched.{strings-rise, members-rise, lookup-is, search-is, called-number, called-nowhere, names-of, path-plain}
 use Rattle.equality.specs.declared.Found.{Found}
 use Rattle.equality.specs.declared.Found.the-variants.{At, Nothing}
+use Rattle.equality.specs.declared.Span.{Span}
 use Rattle.equality.specs.Paths.{foundAt}
-use Rattle.equality.specs.Dotted.{rest, begins, more, behindName, fromName, joins, goesOn, mayJoin, keyOf, Failed, Sought}
+use Rattle.equality.specs.Dotted.{rest, begins, more, behindName, fromName, joins, goesOn, mayJoin, keyOf, Failed, Nowhere, Ready, Spans, Sought}
 use Rattle.equality.proofs.Members.{part, no-members, members-are}
 use Rattle.equality.proofs.Dotted.{begun, rest-open, rest-shut, rest-drop, rest-all}
 
@@ -164,13 +165,13 @@ module _ (s : List ℕ) where
 
 -- ---- the search of one object: its members from m on lead nowhere
 
-pub record Seeking (s : List ℕ) (path : Run) (t : List ℕ) (v from first end m : ℕ) : Type 0 where
+pub record Seeking (s : List ℕ) (path : Run) (t : List ℕ) (from first end m : ℕ) : Type 0 where
   pub checked : Checked s
   pub kept : Failed s path t
   pub left : from < path .count
   pub low : first ≤ m
   pub high : m ≤ end
-  pub all : members (valueAt s v) ≡ part s first (end - first)
+  pub rises : Rising (caseOf s) (part s first (end - first))
   pub nowhere : seek s (rest s path from) (part s m (end - m)) ≡ none
 
 some-left : (s : List ℕ) (path : Run) (from : ℕ) → from < path .count → 0 < length (rest s path from)
@@ -192,13 +193,17 @@ sought-known v from key r k er e ek small =
 pub sought-same : {s t : List ℕ} {path : Run} {v from : ℕ} {found : Found} (u : ValNo) → Sought s path t v from found → found ≡ At u → Sought s path t v from (At u)
 sought-same u o e = rw (← e) o
 
-pub sought-none : {s t : List ℕ} {path : Run} {v from : ℕ} {found : Found} → Sought s path t v from found → found ≡ Nothing → search (caseOf s) v (rest s path from) ≡ none
+pub sought-none : {s t : List ℕ} {path : Run} {v from : ℕ} {found : Found} → Sought s path t v from found → found ≡ Nothing → Nowhere s path v from
 unfolding foundAt
-sought-none o e = sym (o .found) ∙ ap foundAt e
+sought-none o e = record { is = sym (o .found) ∙ ap foundAt e }
 
 pub sought-noted : {s t u : List ℕ} {path : Run} {v from : ℕ} {found : Found} → Sought s path t v from found → found ≡ Nothing → Failed s path u → Sought s path u v from Nothing
 unfolding foundAt
-sought-noted o e k = record { kept = k; found = sym (sought-none o e) }
+sought-noted o e k = record { kept = k; found = sym (sought-none o e .is) }
+
+-- the table keeps its size
+pub same-size : {s t u : List ℕ} {path : Run} {v from : ℕ} {r : Found} → Failed s path t → Sought s path u v from r → length u ≡ length t
+same-size k o = o .kept .size ∙ sym (k .size)
 
 -- how far there is to go
 pub look-in-falls : (count from z : ℕ) → 2 * (count - from) + 1 ≡ z → 2 * (count - from) < z
@@ -207,51 +212,44 @@ look-in-falls count from z e = omega (arith, e)
 pub look-falls : (count from k z : ℕ) → 2 * (count - from) ≡ z → from < count → (k ≡ 0 → ⊥) → from + k ≤ count → 2 * (count - (from + k)) + 1 < z
 look-falls count from k z e h ne l = omega (arith, e, h, ne, l)
 
-module _ {s t : List ℕ} {path : Run} {from : ℕ} (c : Checked s) (k : Failed s path t) (less : from < path .count) where
-  -- what is no object
-  pub sought-other : {v kind : ℕ} → kind ≡ valueWord s v 0 → (kind ≡ 7 → ⊥) → Sought s path t v from Nothing
-  unfolding foundAt valueAt
-  sought-other {v} {kind} ek other =
-      record {
-        kept = k;
-        found = sym (
-            search-seeks s c v (rest s path from) (some-left s path from less)
-            ∙ ap (seek s (rest s path from)) (no-members (partAt s) (valueWord s v 0) (valueWord s v 1) (valueWord s v 2) (λ e. other (ek ∙ e)))
-            ∙ seek-empty s (rest s path from)
-            );
-      }
+pub ready : {s t : List ℕ} {path : Run} {from w : ℕ} → Checked s → Failed s path t → from ≤ path .count → (from ≡ w → ⊥) → w ≡ path .count → Ready s path t from
+ready {path = path} {from = from} c k l ne ew =
+    let other : from ≡ path .count → ⊥ = λ e. ne (e ∙ sym ew) in
+    record { checked = c; kept = k; left = omega (arith, other) }
 
-  pub seeking-start : {v kind x y first : ℕ} {z : ℕ} → kind ≡ valueWord s v 0 → kind ≡ 7 → x ≡ valueWord s v 1 → first ≡ x → y ≡ valueWord s v 2 → z ≡ y → Seeking s path t v from first (first + z) (first + z)
-  unfolding places
-  seeking-start {v} {kind} {x} {y} {first} {z} ek e7 ex ef ey ez =
-      let n : first + z - (first + z) ≡ 0 = omega arith in
-      let m : first + z - first ≡ z = omega arith in
-      record {
-        checked = c;
-        kept = k;
-        left = less;
-        low = omega arith;
-        high = omega arith;
-        all = rw m (members-are s v kind x y first z ef ex ez ey ek e7);
-        nowhere = rw n (seek-empty s (rest s path from));
-      }
+pub seeking-start : {s t : List ℕ} {path : Run} {from : ℕ} (v : ℕ) (r : Span) → Ready s path t from → Spans s v r → Seeking s path t from (r .first) (r .end) (r .end)
+unfolding places
+seeking-start {s} {t} {path} {from} v r o p =
+    let n : r .end - r .end ≡ 0 = omega arith in
+    record {
+      checked = o .checked;
+      kept = o .kept;
+      left = o .left;
+      low = p .low;
+      high = omega arith;
+      rises = rw (p .all) at (rises-all v);
+      nowhere = rw n (seek-empty s (rest s path from));
+    }
+  where
+    rises-all : (v : ℕ) → Rising (caseOf s) (members (valueAt s v))
+    rises-all v = members-rise (o .checked) v
 
-module _ {s t : List ℕ} {path : Run} {v from first end m : ℕ} (g : Seeking s path t v from first end m) where
+-- an object's members by its words
+pub no-span : {s : List ℕ} (v kind : ℕ) → kind ≡ valueWord s v 0 → (kind ≡ 7 → ⊥) → Spans s v (record { first = 0; end = 0 })
+unfolding places valueAt
+no-span {s} v kind ek other = record { low = omega arith; all = no-members (partAt s) (valueWord s v 0) (valueWord s v 1) (valueWord s v 2) (λ e. other (ek ∙ e)) }
+
+pub span : {s : List ℕ} (v kind x y first z : ℕ) → kind ≡ valueWord s v 0 → kind ≡ 7 → x ≡ valueWord s v 1 → first ≡ x → y ≡ valueWord s v 2 → z ≡ y → Spans s v (record { first = first; end = first + z })
+span {s} v kind x y first z ek e7 ex ef ey ez =
+    let n : first + z - first ≡ z = omega arith in
+    record { low = omega arith; all = rw n (members-are s v kind x y first z ef ex ez ey ek e7) }
+
+module _ {s t : List ℕ} {path : Run} {from first end m : ℕ} (g : Seeking s path t from first end m) where
   some-names : 0 < length (rest s path from)
   some-names = some-left s path from (g .left)
 
-  rises : Rising (caseOf s) (part s first (end - first))
-  unfolding caseOf
-  rises = rw (g .all) at (members-rise (g .checked) v)
-
-  seeking-end : m ≤ first → search (caseOf s) v (rest s path from) ≡ none
-  seeking-end h =
-      let z : m ≡ first = omega (arith, g .low) in
-      search-seeks s (g .checked) v (rest s path from) some-names ∙ ap (seek s (rest s path from)) (g .all) ∙ rw z at (g .nowhere)
-
-  pub seeking-over : m ≤ first → Sought s path t v from Nothing
-  unfolding foundAt
-  seeking-over h = record { kept = g .kept; found = sym (seeking-end h) }
+  over : m ≤ first → seek s (rest s path from) (part s first (end - first)) ≡ none
+  over h = let z : m ≡ first = omega (arith, g .low) in rw z at (g .nowhere)
 
   -- member m - 1
   module _ (h : first < m) {name k : ℕ} (en : name ≡ memberWord s (m - 1) 0) (ek : k ≡ joins (caseOf s) (text s name) (rest s path from)) where
@@ -266,7 +264,7 @@ module _ {s t : List ℕ} {path : Run} {v from first end m : ℕ} (g : Seeking s
     rises-here =
         let x : first + (m - 1 - first) ≡ m - 1 = omega arith in
         let y : m - 1 - first + (end - (m - 1)) ≡ end - first = omega (arith, g .high) in
-        rw (← x) (later s (m - 1 - first) first (end - (first + (m - 1 - first))) (rw (x, y) rises))
+        rw (← x) (later s (m - 1 - first) first (end - (first + (m - 1 - first))) (rw (x, y) (g .rises)))
 
     gives : seek s (rest s path from) (part s (m - 1) (end - (m - 1))) ≡ given (caseOf s) (search (caseOf s)) (memberWord s (m - 1) 1) (rest s path from) k
     unfolding orElse partAt
@@ -275,9 +273,9 @@ module _ {s t : List ℕ} {path : Run} {v from first end m : ℕ} (g : Seeking s
         ∙ seek-member s (rest s path from) some-names (partAt s (m - 1)) (part s m (end - m)) (rw here at rises-here)
         ∙ rw (g .nowhere, ← en, ← ek) refl
 
-    pub seeking-skip : k ≡ 0 → Seeking s path t v from first end (m - 1)
+    pub seeking-skip : k ≡ 0 → Seeking s path t from first end (m - 1)
     unfolding given
-    seeking-skip e = record { checked = g .checked; kept = g .kept; left = g .left; low = omega arith; high = omega (arith, g .high); all = g .all; nowhere = gives ∙ rw e refl }
+    seeking-skip e = record { checked = g .checked; kept = g .kept; left = g .left; low = omega arith; high = omega (arith, g .high); rises = g .rises; nowhere = gives ∙ rw e refl }
 
     module _ {w : List ℕ} {u : ℕ} {found : Found} (ne : k ≡ 0 → ⊥) (eu : u ≡ memberWord s (m - 1) 1) (o : Sought s path w u (from + k) found) where
       below : seek s (rest s path from) (part s (m - 1) (end - (m - 1))) ≡ foundAt found
@@ -288,17 +286,29 @@ module _ {s t : List ℕ} {path : Run} {v from first end m : ℕ} (g : Seeking s
           go zero e = absurd (ne e)
           go (suc j) e = ap (search (caseOf s) (memberWord s (m - 1) 1)) (rest-drop s path (suc j) from) ∙ rw (← eu, ← e) (sym (o .found))
 
-      pub seeking-nothing : found ≡ Nothing → Seeking s path w v from first end (m - 1)
+      pub seeking-nothing : found ≡ Nothing → Seeking s path w from first end (m - 1)
       unfolding foundAt
-      seeking-nothing e = record { checked = g .checked; kept = o .kept; left = g .left; low = omega arith; high = omega (arith, g .high); all = g .all; nowhere = below ∙ ap foundAt e }
+      seeking-nothing e = record { checked = g .checked; kept = o .kept; left = g .left; low = omega arith; high = omega (arith, g .high); rises = g .rises; nowhere = below ∙ ap foundAt e }
 
-      pub seeking-found : (x : ValNo) → found ≡ At x → Sought s path w v from (At x)
+      reached : (x : ValNo) → found ≡ At x → seek s (rest s path from) (part s first (end - first)) ≡ some (x .0)
       unfolding foundAt
-      seeking-found x e =
+      reached x e =
           let a : first + (m - 1 - first) ≡ m - 1 = omega arith in
           let b : m - 1 - first + (end - (m - 1)) ≡ end - first = omega (arith, g .high) in
-          let q : seek s (rest s path from) (part s first (m - 1 - first + (end - (m - 1)))) ≡ some (x .0) = stays s (rest s path from) some-names (x .0) (m - 1 - first) first (end - (m - 1)) (rw b rises) (rw a (below ∙ ap foundAt e)) in
-          record { kept = o .kept; found = sym (search-seeks s (g .checked) v (rest s path from) some-names ∙ ap (seek s (rest s path from)) (g .all) ∙ rw b at q) }
+          rw b at (stays s (rest s path from) some-names (x .0) (m - 1 - first) first (end - (m - 1)) (rw b (g .rises)) (rw a (below ∙ ap foundAt e)))
+
+-- what was found in value v
+module _ {s t : List ℕ} {path : Run} {from m : ℕ} (v : ℕ) (r : Span) (g : Seeking s path t from (r .first) (r .end) m) (p : Spans s v r) where
+  sought-so : (o : Option ℕ) → seek s (rest s path from) (part s (r .first) (r .end - r .first)) ≡ o → o ≡ search (caseOf s) v (rest s path from)
+  sought-so o e = sym (search-seeks s (g .checked) v (rest s path from) (some-names g) ∙ ap (seek s (rest s path from)) (p .all) ∙ e)
+
+  pub seeking-over : m ≤ r .first → Sought s path t v from Nothing
+  unfolding foundAt
+  seeking-over h = record { kept = g .kept; found = sought-so none (over g h) }
+
+  pub seeking-found : r .first < m → {name k : ℕ} → name ≡ memberWord s (m - 1) 0 → k ≡ joins (caseOf s) (text s name) (rest s path from) → (k ≡ 0 → ⊥) → {w : List ℕ} {u : ℕ} {found : Found} → u ≡ memberWord s (m - 1) 1 → Sought s path w u (from + k) found → (x : ValNo) → found ≡ At x → Sought s path w v from (At x)
+  unfolding foundAt
+  seeking-found h en ek ne eu o x e = record { kept = o .kept; found = sought-so (some (x .0)) (reached g h en ek ne eu o x e) }
 
 -- ---- the table
 
@@ -310,7 +320,7 @@ nothing-kept (suc n) (suc j) = nothing-kept n j
 pub failed-none : {s : List ℕ} {path : Run} → Failed s path (replicate {A = ℕ} 1933 0)
 failed-none = record { size = length-replicate {A = ℕ} 1933 0; nowhere = λ j v i h e. absurd (omega (arith, nothing-kept 1933 j, e)) }
 
-pub noted : (s t : List ℕ) (path : Run) (v from key at : ℕ) → Failed s path t → search (caseOf s) v (rest s path from) ≡ none → from < 4294967295 → key ≡ keyOf v from → at ≡ key % 1933 → Failed s path (set t at key)
+pub noted : (s t : List ℕ) (path : Run) (v from key at : ℕ) → Failed s path t → Nowhere s path v from → from < 4294967295 → key ≡ keyOf v from → at ≡ key % 1933 → Failed s path (set t at key)
 noted s t path v from key at k e small ek ea =
     record { size = length-set t at key ∙ k .size; nowhere = λ j u i h q. go j u i h q (eqb j at) refl }
   where
@@ -320,7 +330,7 @@ noted s t path v from key at k e small ek ea =
         let same : key ≡ keyOf u i = sym (getD-set-same t at key 0 (omega (arith, k .size))) ∙ ap (λ (x : ℕ). getD (set t at key) x 0) (sym z) ∙ q in
         let eu : u ≡ v = omega (arith, same, ek) in
         let ei : i ≡ from = omega (arith, same, ek) in
-        rw (eu, ei) e
+        rw (eu, ei) (e .is)
     go j u i h q false ej = k .nowhere j u i h (sym (getD-set-other t at j key 0 (eqb-false j at ej)) ∙ q)
 
 -- ---- where no string joins a name with the next, one member a name

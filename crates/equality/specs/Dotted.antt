@@ -8,11 +8,14 @@ use lib.Dec.{eqb, ltb, leb}
 use lib.ListN.{length, getD, drop}
 use Rattle.meaning.specs.declared.Run.{Run}
 use Rattle.meaning.specs.Tests.{_and_, choose}
-use Rattle.meaning.specs.Case.{Case, strings, list, text, places, caseOf}
+use Rattle.meaning.specs.Case.{Case, strings, list, text, places, partAt, valueAt, caseOf}
+use Rattle.meaning.specs.Check.{Checked}
+use Rattle.meaning.specs.Look.{members}
 use Rattle.meaning.specs.Laws.Search.{search}
 use Rattle.equality.specs.declared.After.{After}
 use Rattle.equality.specs.declared.After.the-variants.{End, Dot, Other}
 use Rattle.equality.specs.declared.Found.{Found}
+use Rattle.equality.specs.declared.Span.{Span}
 use Rattle.equality.specs.Paths.{foundAt}
 
 -- the path's names from one on
@@ -82,6 +85,21 @@ keyOf v i = 1 + i + 4294967296 * v
 pub record Failed (s : List ℕ) (path : Run) (t : List ℕ) : Type 0 where
   pub size : length t ≡ 1933
   pub nowhere : (j v i : ℕ) → i < 4294967296 → getD t j 0 ≡ keyOf v i → search (caseOf s) v (rest s path i) ≡ none
+
+-- it leads nowhere
+pub record Nowhere (s : List ℕ) (path : Run) (v from : ℕ) : Type 0 where
+  pub is : search (caseOf s) v (rest s path from) ≡ none
+
+-- a search by the names from `from` on, some of which are left, may begin
+pub record Ready (s : List ℕ) (path : Run) (t : List ℕ) (from : ℕ) : Type 0 where
+  pub checked : Checked s
+  pub kept : Failed s path t
+  pub left : from < path .count
+
+-- the members of value v stand from `first` on before `end`
+pub record Spans (s : List ℕ) (v : ℕ) (r : Span) : Type 0 where
+  pub low : r .first ≤ r .end
+  pub all : members (valueAt s v) ≡ map (partAt s) (places (r .first) 1 (r .end - r .first))
 
 -- v was searched by the names from `from` on
 pub record Sought (s : List ℕ) (path : Run) (t : List ℕ) (v from : ℕ) (r : Found) : Type 0 where

@@ -43,6 +43,12 @@ enum After {
     Other,
 }
 
+// a run of members: the first one's number, and the one after the last's
+struct Span {
+    first: usize,
+    end: usize,
+}
+
 // what two values show at once: the answer, or two runs of n members from p and from q on
 struct Heads {
     known: bool,

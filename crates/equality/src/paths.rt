@@ -1,6 +1,7 @@
 // What a path of names reaches: in an object, at a point's logged fields and context, from principal and resource.
 use crate::After;
 use crate::Found;
+use crate::Span;
 use crate::values::binding_of;
 use crate::values::both;
 use crate::values::long;
@@ -19,7 +20,7 @@ use tables::word_at;
 ghost use mathlib.Core.Path.{_≡_};
 ghost use mathlib.Core.Bool.{Bool, true};
 ghost use mathlib.Core.List.{[], _∷_};
-ghost use mathlib.Core.Option.{some, none};
+ghost use mathlib.Core.Option.{some};
 ghost use Prim.Native.Nat.{_+_, _<_, _≤_, _%_};
 ghost use lib.Dec.{eqb};
 ghost use lib.ListN.{length, getD, drop};
@@ -32,7 +33,7 @@ ghost use Rattle.meaning.specs.Rows.{inCells};
 ghost use Rattle.meaning.specs.Meaning.{names, sameEvent};
 ghost use Rattle.meaning.specs.Laws.Search.{search};
 ghost use Rattle.equality.specs.Paths.{foundAt};
-ghost use Rattle.equality.specs.Dotted.{rest, begins, joins, Behind, goesOn, mayJoin, keyOf, Failed, Sought};
+ghost use Rattle.equality.specs.Dotted.{rest, begins, joins, Behind, goesOn, mayJoin, keyOf, Failed, Nowhere, Ready, Spans, Sought};
 
 // ---- objects
 
@@ -209,12 +210,25 @@ fn known(failed: &[u64], key: u64) -> bool
 fn note(s: &[u8], failed: &mut [u64], path: Run, v: ValNo, from: usize)
     requires { ⌜ Failed (now s) path (now failed) ⌝ }
     requires { ⌜ from < 4294967295 ⌝ }
-    requires { ⌜ search (caseOf (now s)) (v .0) (rest (now s) path from) ≡ none ⌝ }
+    requires { ⌜ Nowhere (now s) path (v .0) from ⌝ }
     ensures { λ _. ⌜ Failed (now (s .entry)) path (now (failed .exit)) ⌝ }
 {
     let key = key_of(v, from);
     let at = place_of(key);
     failed[at] = key;
+}
+
+// what is no object has no members
+fn members_of(s: &[u8], v: ValNo) -> Span
+    requires { ⌜ Checked (now s) ⌝ }
+    ensures { λ r. ⌜ Spans (now (s .entry)) (v .0) r ⌝ }
+{
+    if value_word(s, v, 0) != 7 {
+        return Span { first: 0, end: 0 };
+    }
+    let first = wide(value_word(s, v, 1));
+    let end = first + wide(value_word(s, v, 2));
+    Span { first, end }
 }
 
 // from value v by the names from `from` on; what leads nowhere is kept
@@ -242,16 +256,12 @@ fn look(s: &[u8], failed: &mut [u64], path: Run, v: ValNo, from: usize) -> Found
 
 // the last member that leads to the path's end
 fn look_in(s: &[u8], failed: &mut [u64], path: Run, v: ValNo, from: usize) -> Found
-    requires { ⌜ Checked (now s) ⌝ }
-    requires { ⌜ Failed (now s) path (now failed) ⌝ }
-    requires { ⌜ from < path .count ⌝ }
+    requires { ⌜ Ready (now s) path (now failed) from ⌝ }
     ensures { λ r. ⌜ Sought (now (s .entry)) path (now (failed .exit)) (v .0) from r ⌝ }
 {
-    if value_word(s, v, 0) != 7 {
-        return Found::Nothing;
-    }
-    let first = wide(value_word(s, v, 1));
-    let mut m = first + wide(value_word(s, v, 2));
+    let run = members_of(s, v);
+    let first = run.first;
+    let mut m = run.end;
     while first < m {
         m -= 1;
         let name = member_word(s, m, 0);

@@ -9,10 +9,10 @@ use Rattle.equality.proofs.paths.look_in.Kinds as look-in-kinds
 use Rattle.equality.proofs.paths.+look+look_in.Lts-look_in as look-in-lts
 use Rattle.equality.proofs.paths.key_of.Reads as key-of-reads
 use Rattle.equality.proofs.paths.known.Reads as known-reads
+use Rattle.equality.proofs.paths.members_of.Reads as members-of-reads
 use Rattle.equality.proofs.paths.names_joined.Reads as names-joined-reads
 use Rattle.equality.proofs.paths.note.Reads as note-reads
 use Rattle.tables.proofs.member_word.Reads as member-word-reads
-use Rattle.tables.proofs.value_word.Reads as value-word-reads
 use Rattle.tables.proofs.wide.Reads as wide-reads
 use Rattle.equality.proofs.paths.+look+look_in.{statement}
 use Rattle.equality.proofs.paths.+look+look_in.Tie.{close}
@@ -35,7 +35,7 @@ look-in-at t = and 2 look-in-kinds.ps (is 2 look-in-kinds.ps μ-look-in t) look-
 abbrev look-in-below : ℕ → In 2 look-in-kinds.ps
 look-in-below t = and 2 look-in-kinds.ps (falls 2 look-in-kinds.ps _<_ μ-look-in t) look-in.Pre
 
--- src/paths.rt:227:16
+-- src/paths.rt:241:16
 look-wide-requires : (t : ℕ) → look-lts.Need-wide-requires (
   wide-reads.Asked,
   wide-reads.Learnt,
@@ -50,7 +50,7 @@ look-wide-requires : (t : ℕ) → look-lts.Need-wide-requires (
 ) (look-at t) look.Post
 look-wide-requires t c κs = ?
 
--- src/paths.rt:228:9
+-- src/paths.rt:242:9
 look-returns : (t : ℕ) → look-lts.Need-returns (
   wide-reads.Asked,
   wide-reads.Learnt,
@@ -65,7 +65,7 @@ look-returns : (t : ℕ) → look-lts.Need-returns (
 ) (look-at t) look.Post
 look-returns t c = ?
 
--- src/paths.rt:230:22
+-- src/paths.rt:244:22
 look-key-of-requires : (t : ℕ) → look-lts.Need-key-of-requires (
   wide-reads.Asked,
   wide-reads.Learnt,
@@ -80,7 +80,7 @@ look-key-of-requires : (t : ℕ) → look-lts.Need-key-of-requires (
 ) (look-at t) look.Post
 look-key-of-requires t c κs = ?
 
--- src/paths.rt:230:8
+-- src/paths.rt:244:8
 look-known-requires : (t : ℕ) → look-lts.Need-known-requires (
   wide-reads.Asked,
   wide-reads.Learnt,
@@ -95,7 +95,7 @@ look-known-requires : (t : ℕ) → look-lts.Need-known-requires (
 ) (look-at t) look.Post
 look-known-requires t c κs = ?
 
--- src/paths.rt:231:9
+-- src/paths.rt:245:9
 look-same-length : (t : ℕ) → look-lts.Need-same-length (
   wide-reads.Asked,
   wide-reads.Learnt,
@@ -110,7 +110,7 @@ look-same-length : (t : ℕ) → look-lts.Need-same-length (
 ) (look-at t) look.Post
 look-same-length t c = ?
 
--- src/paths.rt:231:9
+-- src/paths.rt:245:9
 look-returns-2 : (t : ℕ) → look-lts.Need-returns-2 (
   wide-reads.Asked,
   wide-reads.Learnt,
@@ -125,7 +125,7 @@ look-returns-2 : (t : ℕ) → look-lts.Need-returns-2 (
 ) (look-at t) look.Post
 look-returns-2 t c = ?
 
--- src/paths.rt:233:9
+-- src/paths.rt:247:9
 look-look-in-requires : (t : ℕ) → look-lts.Need-look-in-requires (
   wide-reads.Asked,
   wide-reads.Learnt,
@@ -140,7 +140,7 @@ look-look-in-requires : (t : ℕ) → look-lts.Need-look-in-requires (
 ) (look-at t) look.Post
 look-look-in-requires t c κs = ?
 
--- src/paths.rt:235:19
+-- src/paths.rt:249:19
 look-enum-known-found : (t : ℕ) → look-lts.Need-enum-known-found (
   wide-reads.Asked,
   wide-reads.Learnt,
@@ -155,7 +155,7 @@ look-enum-known-found : (t : ℕ) → look-lts.Need-enum-known-found (
 ) (look-at t) look.Post
 look-enum-known-found t c = ?
 
--- src/paths.rt:237:21
+-- src/paths.rt:251:21
 look-enum-told : (t : ℕ) → look-lts.Need-enum-told (
   wide-reads.Asked,
   wide-reads.Learnt,
@@ -170,7 +170,7 @@ look-enum-told : (t : ℕ) → look-lts.Need-enum-told (
 ) (look-at t) look.Post
 look-enum-told t c = ?
 
--- src/paths.rt:237:13
+-- src/paths.rt:251:13
 look-note-requires : (t : ℕ) → look-lts.Need-note-requires (
   wide-reads.Asked,
   wide-reads.Learnt,
@@ -185,7 +185,7 @@ look-note-requires : (t : ℕ) → look-lts.Need-note-requires (
 ) (look-at t) look.Post
 look-note-requires t c κs = ?
 
--- src/paths.rt:221:1
+-- src/paths.rt:235:1
 look-same-length-2 : (t : ℕ) → look-lts.Need-same-length-2 (
   wide-reads.Asked,
   wide-reads.Learnt,
@@ -200,7 +200,7 @@ look-same-length-2 : (t : ℕ) → look-lts.Need-same-length-2 (
 ) (look-at t) look.Post
 look-same-length-2 t c = ?
 
--- src/paths.rt:221:1
+-- src/paths.rt:235:1
 look-returns-3 : (t : ℕ) → look-lts.Need-returns-3 (
   wide-reads.Asked,
   wide-reads.Learnt,
@@ -215,7 +215,7 @@ look-returns-3 : (t : ℕ) → look-lts.Need-returns-3 (
 ) (look-at t) look.Post
 look-returns-3 t c = ?
 
--- src/paths.rt:221:1
+-- src/paths.rt:235:1
 look-same-length-3 : (t : ℕ) → look-lts.Need-same-length-3 (
   wide-reads.Asked,
   wide-reads.Learnt,
@@ -230,7 +230,7 @@ look-same-length-3 : (t : ℕ) → look-lts.Need-same-length-3 (
 ) (look-at t) look.Post
 look-same-length-3 t c = ?
 
--- src/paths.rt:221:1
+-- src/paths.rt:235:1
 look-returns-4 : (t : ℕ) → look-lts.Need-returns-4 (
   wide-reads.Asked,
   wide-reads.Learnt,
@@ -251,12 +251,10 @@ look-in-Inv-loop s failed₀ path from first m₀ failed m = ?
 abbrev look-in-μ-loop : look-in-lts.MeasureT-loop
 look-in-μ-loop s failed₀ path from first m₀ failed m = ?
 
--- src/paths.rt:250:8
-look-in-value-word-requires : (t : ℕ) → look-in-lts.Need-value-word-requires (
-  value-word-reads.Asked,
-  value-word-reads.Learnt,
-  wide-reads.Asked,
-  wide-reads.Learnt,
+-- src/paths.rt:262:9
+look-in-members-of-requires : (t : ℕ) → look-in-lts.Need-members-of-requires (
+  members-of-reads.Asked,
+  members-of-reads.Learnt,
   member-word-reads.Asked,
   member-word-reads.Learnt,
   names-joined-reads.Asked,
@@ -264,104 +262,12 @@ look-in-value-word-requires : (t : ℕ) → look-in-lts.Need-value-word-requires
   look-below t,
   look.Post,
 ) (look-in-at t) look-in.Post look-in-Inv-loop look-in-μ-loop
-look-in-value-word-requires t c κs = ?
+look-in-members-of-requires t c κs = ?
 
--- src/paths.rt:251:9
-look-in-returns : (t : ℕ) → look-in-lts.Need-returns (
-  value-word-reads.Asked,
-  value-word-reads.Learnt,
-  wide-reads.Asked,
-  wide-reads.Learnt,
-  member-word-reads.Asked,
-  member-word-reads.Learnt,
-  names-joined-reads.Asked,
-  names-joined-reads.Learnt,
-  look-below t,
-  look.Post,
-) (look-in-at t) look-in.Post look-in-Inv-loop look-in-μ-loop
-look-in-returns t c = ?
-
--- src/paths.rt:253:22
-look-in-value-word-requires-2 : (t : ℕ) → look-in-lts.Need-value-word-requires-2 (
-  value-word-reads.Asked,
-  value-word-reads.Learnt,
-  wide-reads.Asked,
-  wide-reads.Learnt,
-  member-word-reads.Asked,
-  member-word-reads.Learnt,
-  names-joined-reads.Asked,
-  names-joined-reads.Learnt,
-  look-below t,
-  look.Post,
-) (look-in-at t) look-in.Post look-in-Inv-loop look-in-μ-loop
-look-in-value-word-requires-2 t c κs = ?
-
--- src/paths.rt:253:9
-look-in-wide-requires : (t : ℕ) → look-in-lts.Need-wide-requires (
-  value-word-reads.Asked,
-  value-word-reads.Learnt,
-  wide-reads.Asked,
-  wide-reads.Learnt,
-  member-word-reads.Asked,
-  member-word-reads.Learnt,
-  names-joined-reads.Asked,
-  names-joined-reads.Learnt,
-  look-below t,
-  look.Post,
-) (look-in-at t) look-in.Post look-in-Inv-loop look-in-μ-loop
-look-in-wide-requires t c κs = ?
-
--- src/paths.rt:254:30
-look-in-value-word-requires-3 : (t : ℕ) → look-in-lts.Need-value-word-requires-3 (
-  value-word-reads.Asked,
-  value-word-reads.Learnt,
-  wide-reads.Asked,
-  wide-reads.Learnt,
-  member-word-reads.Asked,
-  member-word-reads.Learnt,
-  names-joined-reads.Asked,
-  names-joined-reads.Learnt,
-  look-below t,
-  look.Post,
-) (look-in-at t) look-in.Post look-in-Inv-loop look-in-μ-loop
-look-in-value-word-requires-3 t c κs = ?
-
--- src/paths.rt:254:25
-look-in-wide-requires-2 : (t : ℕ) → look-in-lts.Need-wide-requires-2 (
-  value-word-reads.Asked,
-  value-word-reads.Learnt,
-  wide-reads.Asked,
-  wide-reads.Learnt,
-  member-word-reads.Asked,
-  member-word-reads.Learnt,
-  names-joined-reads.Asked,
-  names-joined-reads.Learnt,
-  look-below t,
-  look.Post,
-) (look-in-at t) look-in.Post look-in-Inv-loop look-in-μ-loop
-look-in-wide-requires-2 t c κs = ?
-
--- src/paths.rt:254:17
-look-in-add-m : (t : ℕ) → look-in-lts.Need-add-m (
-  value-word-reads.Asked,
-  value-word-reads.Learnt,
-  wide-reads.Asked,
-  wide-reads.Learnt,
-  member-word-reads.Asked,
-  member-word-reads.Learnt,
-  names-joined-reads.Asked,
-  names-joined-reads.Learnt,
-  look-below t,
-  look.Post,
-) (look-in-at t) look-in.Post look-in-Inv-loop look-in-μ-loop
-look-in-add-m t c = ?
-
--- src/paths.rt:255:5
+-- src/paths.rt:265:5
 look-in-loop-holds : (t : ℕ) → look-in-lts.Need-loop-holds (
-  value-word-reads.Asked,
-  value-word-reads.Learnt,
-  wide-reads.Asked,
-  wide-reads.Learnt,
+  members-of-reads.Asked,
+  members-of-reads.Learnt,
   member-word-reads.Asked,
   member-word-reads.Learnt,
   names-joined-reads.Asked,
@@ -371,12 +277,10 @@ look-in-loop-holds : (t : ℕ) → look-in-lts.Need-loop-holds (
 ) (look-in-at t) look-in.Post look-in-Inv-loop look-in-μ-loop
 look-in-loop-holds t c = ?
 
--- src/paths.rt:256:9
+-- src/paths.rt:266:9
 look-in-sub-m : (t : ℕ) → look-in-lts.Need-sub-m (
-  value-word-reads.Asked,
-  value-word-reads.Learnt,
-  wide-reads.Asked,
-  wide-reads.Learnt,
+  members-of-reads.Asked,
+  members-of-reads.Learnt,
   member-word-reads.Asked,
   member-word-reads.Learnt,
   names-joined-reads.Asked,
@@ -386,12 +290,10 @@ look-in-sub-m : (t : ℕ) → look-in-lts.Need-sub-m (
 ) (look-in-at t) look-in.Post look-in-Inv-loop look-in-μ-loop
 look-in-sub-m t c = ?
 
--- src/paths.rt:257:13
+-- src/paths.rt:267:13
 look-in-member-word-requires : (t : ℕ) → look-in-lts.Need-member-word-requires (
-  value-word-reads.Asked,
-  value-word-reads.Learnt,
-  wide-reads.Asked,
-  wide-reads.Learnt,
+  members-of-reads.Asked,
+  members-of-reads.Learnt,
   member-word-reads.Asked,
   member-word-reads.Learnt,
   names-joined-reads.Asked,
@@ -401,12 +303,10 @@ look-in-member-word-requires : (t : ℕ) → look-in-lts.Need-member-word-requir
 ) (look-in-at t) look-in.Post look-in-Inv-loop look-in-μ-loop
 look-in-member-word-requires t c κs = ?
 
--- src/paths.rt:258:13
+-- src/paths.rt:268:13
 look-in-names-joined-requires : (t : ℕ) → look-in-lts.Need-names-joined-requires (
-  value-word-reads.Asked,
-  value-word-reads.Learnt,
-  wide-reads.Asked,
-  wide-reads.Learnt,
+  members-of-reads.Asked,
+  members-of-reads.Learnt,
   member-word-reads.Asked,
   member-word-reads.Learnt,
   names-joined-reads.Asked,
@@ -416,12 +316,10 @@ look-in-names-joined-requires : (t : ℕ) → look-in-lts.Need-names-joined-requ
 ) (look-in-at t) look-in.Post look-in-Inv-loop look-in-μ-loop
 look-in-names-joined-requires t c κs = ?
 
--- src/paths.rt:255:5
+-- src/paths.rt:265:5
 look-in-loop-less : (t : ℕ) → look-in-lts.Need-loop-less (
-  value-word-reads.Asked,
-  value-word-reads.Learnt,
-  wide-reads.Asked,
-  wide-reads.Learnt,
+  members-of-reads.Asked,
+  members-of-reads.Learnt,
   member-word-reads.Asked,
   member-word-reads.Learnt,
   names-joined-reads.Asked,
@@ -431,12 +329,10 @@ look-in-loop-less : (t : ℕ) → look-in-lts.Need-loop-less (
 ) (look-in-at t) look-in.Post look-in-Inv-loop look-in-μ-loop
 look-in-loop-less t c = ?
 
--- src/paths.rt:255:5
+-- src/paths.rt:265:5
 look-in-loop-again : (t : ℕ) → look-in-lts.Need-loop-again (
-  value-word-reads.Asked,
-  value-word-reads.Learnt,
-  wide-reads.Asked,
-  wide-reads.Learnt,
+  members-of-reads.Asked,
+  members-of-reads.Learnt,
   member-word-reads.Asked,
   member-word-reads.Learnt,
   names-joined-reads.Asked,
@@ -446,12 +342,10 @@ look-in-loop-again : (t : ℕ) → look-in-lts.Need-loop-again (
 ) (look-in-at t) look-in.Post look-in-Inv-loop look-in-μ-loop
 look-in-loop-again t c = ?
 
--- src/paths.rt:262:13
+-- src/paths.rt:272:13
 look-in-member-word-requires-2 : (t : ℕ) → look-in-lts.Need-member-word-requires-2 (
-  value-word-reads.Asked,
-  value-word-reads.Learnt,
-  wide-reads.Asked,
-  wide-reads.Learnt,
+  members-of-reads.Asked,
+  members-of-reads.Learnt,
   member-word-reads.Asked,
   member-word-reads.Learnt,
   names-joined-reads.Asked,
@@ -461,12 +355,10 @@ look-in-member-word-requires-2 : (t : ℕ) → look-in-lts.Need-member-word-requ
 ) (look-in-at t) look-in.Post look-in-Inv-loop look-in-μ-loop
 look-in-member-word-requires-2 t c κs = ?
 
--- src/paths.rt:263:53
+-- src/paths.rt:273:53
 look-in-add-look : (t : ℕ) → look-in-lts.Need-add-look (
-  value-word-reads.Asked,
-  value-word-reads.Learnt,
-  wide-reads.Asked,
-  wide-reads.Learnt,
+  members-of-reads.Asked,
+  members-of-reads.Learnt,
   member-word-reads.Asked,
   member-word-reads.Learnt,
   names-joined-reads.Asked,
@@ -476,12 +368,10 @@ look-in-add-look : (t : ℕ) → look-in-lts.Need-add-look (
 ) (look-in-at t) look-in.Post look-in-Inv-loop look-in-μ-loop
 look-in-add-look t c = ?
 
--- src/paths.rt:263:13
+-- src/paths.rt:273:13
 look-in-look-requires : (t : ℕ) → look-in-lts.Need-look-requires (
-  value-word-reads.Asked,
-  value-word-reads.Learnt,
-  wide-reads.Asked,
-  wide-reads.Learnt,
+  members-of-reads.Asked,
+  members-of-reads.Learnt,
   member-word-reads.Asked,
   member-word-reads.Learnt,
   names-joined-reads.Asked,
@@ -491,12 +381,10 @@ look-in-look-requires : (t : ℕ) → look-in-lts.Need-look-requires (
 ) (look-in-at t) look-in.Post look-in-Inv-loop look-in-μ-loop
 look-in-look-requires t c κs = ?
 
--- src/paths.rt:265:23
+-- src/paths.rt:275:23
 look-in-enum-known-found : (t : ℕ) → look-in-lts.Need-enum-known-found (
-  value-word-reads.Asked,
-  value-word-reads.Learnt,
-  wide-reads.Asked,
-  wide-reads.Learnt,
+  members-of-reads.Asked,
+  members-of-reads.Learnt,
   member-word-reads.Asked,
   member-word-reads.Learnt,
   names-joined-reads.Asked,
@@ -506,12 +394,10 @@ look-in-enum-known-found : (t : ℕ) → look-in-lts.Need-enum-known-found (
 ) (look-in-at t) look-in.Post look-in-Inv-loop look-in-μ-loop
 look-in-enum-known-found t c = ?
 
--- src/paths.rt:265:29
+-- src/paths.rt:275:29
 look-in-same-length : (t : ℕ) → look-in-lts.Need-same-length (
-  value-word-reads.Asked,
-  value-word-reads.Learnt,
-  wide-reads.Asked,
-  wide-reads.Learnt,
+  members-of-reads.Asked,
+  members-of-reads.Learnt,
   member-word-reads.Asked,
   member-word-reads.Learnt,
   names-joined-reads.Asked,
@@ -521,12 +407,10 @@ look-in-same-length : (t : ℕ) → look-in-lts.Need-same-length (
 ) (look-in-at t) look-in.Post look-in-Inv-loop look-in-μ-loop
 look-in-same-length t c = ?
 
--- src/paths.rt:265:29
-look-in-returns-2 : (t : ℕ) → look-in-lts.Need-returns-2 (
-  value-word-reads.Asked,
-  value-word-reads.Learnt,
-  wide-reads.Asked,
-  wide-reads.Learnt,
+-- src/paths.rt:275:29
+look-in-returns : (t : ℕ) → look-in-lts.Need-returns (
+  members-of-reads.Asked,
+  members-of-reads.Learnt,
   member-word-reads.Asked,
   member-word-reads.Learnt,
   names-joined-reads.Asked,
@@ -534,13 +418,11 @@ look-in-returns-2 : (t : ℕ) → look-in-lts.Need-returns-2 (
   look-below t,
   look.Post,
 ) (look-in-at t) look-in.Post look-in-Inv-loop look-in-μ-loop
-look-in-returns-2 t c = ?
+look-in-returns t c = ?
 
 look-in-enum-told : (t : ℕ) → look-in-lts.Need-enum-told (
-  value-word-reads.Asked,
-  value-word-reads.Learnt,
-  wide-reads.Asked,
-  wide-reads.Learnt,
+  members-of-reads.Asked,
+  members-of-reads.Learnt,
   member-word-reads.Asked,
   member-word-reads.Learnt,
   names-joined-reads.Asked,
@@ -550,12 +432,10 @@ look-in-enum-told : (t : ℕ) → look-in-lts.Need-enum-told (
 ) (look-in-at t) look-in.Post look-in-Inv-loop look-in-μ-loop
 look-in-enum-told t c = ?
 
--- src/paths.rt:255:5
+-- src/paths.rt:265:5
 look-in-loop-less-2 : (t : ℕ) → look-in-lts.Need-loop-less-2 (
-  value-word-reads.Asked,
-  value-word-reads.Learnt,
-  wide-reads.Asked,
-  wide-reads.Learnt,
+  members-of-reads.Asked,
+  members-of-reads.Learnt,
   member-word-reads.Asked,
   member-word-reads.Learnt,
   names-joined-reads.Asked,
@@ -565,12 +445,10 @@ look-in-loop-less-2 : (t : ℕ) → look-in-lts.Need-loop-less-2 (
 ) (look-in-at t) look-in.Post look-in-Inv-loop look-in-μ-loop
 look-in-loop-less-2 t c = ?
 
--- src/paths.rt:255:5
+-- src/paths.rt:265:5
 look-in-loop-again-2 : (t : ℕ) → look-in-lts.Need-loop-again-2 (
-  value-word-reads.Asked,
-  value-word-reads.Learnt,
-  wide-reads.Asked,
-  wide-reads.Learnt,
+  members-of-reads.Asked,
+  members-of-reads.Learnt,
   member-word-reads.Asked,
   member-word-reads.Learnt,
   names-joined-reads.Asked,
@@ -580,12 +458,10 @@ look-in-loop-again-2 : (t : ℕ) → look-in-lts.Need-loop-again-2 (
 ) (look-in-at t) look-in.Post look-in-Inv-loop look-in-μ-loop
 look-in-loop-again-2 t c = ?
 
--- src/paths.rt:244:1
+-- src/paths.rt:258:1
 look-in-same-length-2 : (t : ℕ) → look-in-lts.Need-same-length-2 (
-  value-word-reads.Asked,
-  value-word-reads.Learnt,
-  wide-reads.Asked,
-  wide-reads.Learnt,
+  members-of-reads.Asked,
+  members-of-reads.Learnt,
   member-word-reads.Asked,
   member-word-reads.Learnt,
   names-joined-reads.Asked,
@@ -595,12 +471,10 @@ look-in-same-length-2 : (t : ℕ) → look-in-lts.Need-same-length-2 (
 ) (look-in-at t) look-in.Post look-in-Inv-loop look-in-μ-loop
 look-in-same-length-2 t c = ?
 
--- src/paths.rt:244:1
-look-in-returns-3 : (t : ℕ) → look-in-lts.Need-returns-3 (
-  value-word-reads.Asked,
-  value-word-reads.Learnt,
-  wide-reads.Asked,
-  wide-reads.Learnt,
+-- src/paths.rt:258:1
+look-in-returns-2 : (t : ℕ) → look-in-lts.Need-returns-2 (
+  members-of-reads.Asked,
+  members-of-reads.Learnt,
   member-word-reads.Asked,
   member-word-reads.Learnt,
   names-joined-reads.Asked,
@@ -608,7 +482,7 @@ look-in-returns-3 : (t : ℕ) → look-in-lts.Need-returns-3 (
   look-below t,
   look.Post,
 ) (look-in-at t) look-in.Post look-in-Inv-loop look-in-μ-loop
-look-in-returns-3 t c = ?
+look-in-returns-2 t c = ?
 
 pub +look+look-in-spec : {M : Type 1} → statement M
 +look+look-in-spec = close μ-look μ-look-in (λ t. look-lts.spec (
@@ -640,10 +514,8 @@ pub +look+look-in-spec : {M : Type 1} → statement M
     (look-same-length-3 t)
     (look-returns-4 t))
     λ t. look-in-lts.spec (
-      value-word-reads.Asked,
-      value-word-reads.Learnt,
-      wide-reads.Asked,
-      wide-reads.Learnt,
+      members-of-reads.Asked,
+      members-of-reads.Learnt,
       member-word-reads.Asked,
       member-word-reads.Learnt,
       names-joined-reads.Asked,
@@ -655,13 +527,7 @@ pub +look+look-in-spec : {M : Type 1} → statement M
     look-in.Post
     look-in-Inv-loop
     look-in-μ-loop
-    (look-in-value-word-requires t)
-    (look-in-returns t)
-    (look-in-value-word-requires-2 t)
-    (look-in-wide-requires t)
-    (look-in-value-word-requires-3 t)
-    (look-in-wide-requires-2 t)
-    (look-in-add-m t)
+    (look-in-members-of-requires t)
     (look-in-loop-holds t)
     (look-in-sub-m t)
     (look-in-member-word-requires t)
@@ -673,9 +539,9 @@ pub +look+look-in-spec : {M : Type 1} → statement M
     (look-in-look-requires t)
     (look-in-enum-known-found t)
     (look-in-same-length t)
-    (look-in-returns-2 t)
+    (look-in-returns t)
     (look-in-enum-told t)
     (look-in-loop-less-2 t)
     (look-in-loop-again-2 t)
     (look-in-same-length-2 t)
-    (look-in-returns-3 t)
+    (look-in-returns-2 t)

@@ -63,7 +63,7 @@ look-from-add-look-from : (t : ℕ) → look-from-lts.Need-add-look-from (look-f
 look-from-add-look-from t c = search needs
 
 look-from-look-from-requires : (t : ℕ) → look-from-lts.Need-look-from-requires (look-from-claims t) (look-from-at t) look-from.Post
-look-from-look-from-requires t c κs = (search needs, search needs, search needs, search needs)
+look-from-look-from-requires t c κs = (search needs, (search needs, (search needs, search needs)))
 
 look-from-enum-told : (t : ℕ) → look-from-lts.Need-enum-told (look-from-claims t) (look-from-at t) look-from.Post
 look-from-enum-told t c = search needs

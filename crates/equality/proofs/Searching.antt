@@ -27,7 +27,7 @@ use Rattle.equality.specs.declared.Found.{Found}
 use Rattle.equality.specs.declared.Found.the-variants.{At, Nothing}
 use Rattle.equality.specs.declared.Span.{Span}
 use Rattle.equality.specs.Paths.{foundAt}
-use Rattle.equality.specs.Dotted.{rest, begins, more, behindName, fromName, joins, goesOn, mayJoin, keyOf, Failed, Nowhere, Ready, Spans, Sought}
+use Rattle.equality.specs.Dotted.{rest, begins, more, behindName, fromName, joins, goesOn, mayJoin, keyOf, Failed, Ready, Spans, Sought, Missed}
 use Rattle.equality.proofs.Members.{part, no-members, members-are}
 use Rattle.equality.proofs.Dotted.{begun, rest-open, rest-shut, rest-drop, rest-all}
 
@@ -193,17 +193,8 @@ sought-known v from key r k er e ek small =
 pub sought-same : {s t : List ℕ} {path : Run} {v from : ℕ} {found : Found} (u : ValNo) → Sought s path t v from found → found ≡ At u → Sought s path t v from (At u)
 sought-same u o e = rw (← e) o
 
-pub sought-none : {s t : List ℕ} {path : Run} {v from : ℕ} {found : Found} → Sought s path t v from found → found ≡ Nothing → Nowhere s path v from
-unfolding foundAt
-sought-none o e = record { is = sym (o .found) ∙ ap foundAt e }
-
-pub sought-noted : {s t u : List ℕ} {path : Run} {v from : ℕ} {found : Found} → Sought s path t v from found → found ≡ Nothing → Failed s path u → Sought s path u v from Nothing
-unfolding foundAt
-sought-noted o e k = record { kept = k; found = sym (sought-none o e .is) }
-
--- the table keeps its size
-pub same-size : {s t u : List ℕ} {path : Run} {v from : ℕ} {r : Found} → Failed s path t → Sought s path u v from r → length u ≡ length t
-same-size k o = o .kept .size ∙ sym (k .size)
+pub sought-none : {s t : List ℕ} {path : Run} {v from : ℕ} {found : Found} → Sought s path t v from found → found ≡ Nothing → Missed s path t v from
+sought-none o e = rw (← e) o
 
 -- how far there is to go
 pub look-in-falls : (count from z : ℕ) → 2 * (count - from) + 1 ≡ z → 2 * (count - from) < z
@@ -320,18 +311,22 @@ nothing-kept (suc n) (suc j) = nothing-kept n j
 pub failed-none : {s : List ℕ} {path : Run} → Failed s path (replicate {A = ℕ} 1933 0)
 failed-none = record { size = length-replicate {A = ℕ} 1933 0; nowhere = λ j v i h e. absurd (omega (arith, nothing-kept 1933 j, e)) }
 
-pub noted : (s t : List ℕ) (path : Run) (v from key at : ℕ) → Failed s path t → Nowhere s path v from → from < 4294967295 → key ≡ keyOf v from → at ≡ key % 1933 → Failed s path (set t at key)
-noted s t path v from key at k e small ek ea =
-    record { size = length-set t at key ∙ k .size; nowhere = λ j u i h q. go j u i h q (eqb j at) refl }
+missed : {s t : List ℕ} {path : Run} {v from : ℕ} → Missed s path t v from → search (caseOf s) v (rest s path from) ≡ none
+unfolding foundAt
+missed o = sym (o .found)
+
+pub noted : (s t : List ℕ) (path : Run) (v from key at : ℕ) → Missed s path t v from → from < 4294967295 → key ≡ keyOf v from → at ≡ key % 1933 → Missed s path (set t at key) v from
+noted s t path v from key at o small ek ea =
+    record { kept = record { size = length-set t at key ∙ o .kept .size; nowhere = λ j u i h q. go j u i h q (eqb j at) refl }; found = o .found }
   where
     go : (j u i : ℕ) → i < 4294967296 → getD (set t at key) j 0 ≡ keyOf u i → (b : Bool) → eqb j at ≡ b → search (caseOf s) u (rest s path i) ≡ none
     go j u i h q true ej =
         let z : j ≡ at = eqb-true j at ej in
-        let same : key ≡ keyOf u i = sym (getD-set-same t at key 0 (omega (arith, k .size))) ∙ ap (λ (x : ℕ). getD (set t at key) x 0) (sym z) ∙ q in
+        let same : key ≡ keyOf u i = sym (getD-set-same t at key 0 (omega (arith, o .kept .size))) ∙ ap (λ (x : ℕ). getD (set t at key) x 0) (sym z) ∙ q in
         let eu : u ≡ v = omega (arith, same, ek) in
         let ei : i ≡ from = omega (arith, same, ek) in
-        rw (eu, ei) (e .is)
-    go j u i h q false ej = k .nowhere j u i h (sym (getD-set-other t at j key 0 (eqb-false j at ej)) ∙ q)
+        rw (eu, ei) (missed o)
+    go j u i h q false ej = o .kept .nowhere j u i h (sym (getD-set-other t at j key 0 (eqb-false j at ej)) ∙ q)
 
 -- ---- where no string joins a name with the next, one member a name
 

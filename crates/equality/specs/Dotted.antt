@@ -15,6 +15,7 @@ use Rattle.meaning.specs.Laws.Search.{search}
 use Rattle.equality.specs.declared.After.{After}
 use Rattle.equality.specs.declared.After.the-variants.{End, Dot, Other}
 use Rattle.equality.specs.declared.Found.{Found}
+use Rattle.equality.specs.declared.Found.the-variants.{Nothing}
 use Rattle.equality.specs.declared.Span.{Span}
 use Rattle.equality.specs.Paths.{foundAt}
 
@@ -86,10 +87,6 @@ pub record Failed (s : List ℕ) (path : Run) (t : List ℕ) : Type 0 where
   pub size : length t ≡ 1933
   pub nowhere : (j v i : ℕ) → i < 4294967296 → getD t j 0 ≡ keyOf v i → search (caseOf s) v (rest s path i) ≡ none
 
--- it leads nowhere
-pub record Nowhere (s : List ℕ) (path : Run) (v from : ℕ) : Type 0 where
-  pub is : search (caseOf s) v (rest s path from) ≡ none
-
 -- a search by the names from `from` on, some of which are left, may begin
 pub record Ready (s : List ℕ) (path : Run) (t : List ℕ) (from : ℕ) : Type 0 where
   pub checked : Checked s
@@ -105,3 +102,7 @@ pub record Spans (s : List ℕ) (v : ℕ) (r : Span) : Type 0 where
 pub record Sought (s : List ℕ) (path : Run) (t : List ℕ) (v from : ℕ) (r : Found) : Type 0 where
   pub kept : Failed s path t
   pub found : foundAt r ≡ search (caseOf s) v (rest s path from)
+
+-- v leads nowhere by them
+abbrev pub Missed : List ℕ → Run → List ℕ → ℕ → ℕ → Type 0
+Missed s path t v from = Sought s path t v from Nothing

@@ -33,7 +33,7 @@ ghost use Rattle.meaning.specs.Rows.{inCells};
 ghost use Rattle.meaning.specs.Meaning.{names, sameEvent};
 ghost use Rattle.meaning.specs.Laws.Search.{search};
 ghost use Rattle.equality.specs.Paths.{foundAt};
-ghost use Rattle.equality.specs.Dotted.{rest, begins, joins, Behind, goesOn, mayJoin, keyOf, Failed, Nowhere, Ready, Spans, Sought};
+ghost use Rattle.equality.specs.Dotted.{rest, begins, joins, Behind, goesOn, mayJoin, keyOf, Failed, Ready, Spans, Sought, Missed};
 
 // ---- objects
 
@@ -208,10 +208,9 @@ fn known(failed: &[u64], key: u64) -> bool
 
 // it led nowhere; what was kept in its place is forgotten
 fn note(s: &[u8], failed: &mut [u64], path: Run, v: ValNo, from: usize)
-    requires { ⌜ Failed (now s) path (now failed) ⌝ }
+    requires { ⌜ Missed (now s) path (now failed) (v .0) from ⌝ }
     requires { ⌜ from < 4294967295 ⌝ }
-    requires { ⌜ Nowhere (now s) path (v .0) from ⌝ }
-    ensures { λ _. ⌜ Failed (now (s .entry)) path (now (failed .exit)) ⌝ }
+    ensures { λ _. ⌜ Missed (now (s .entry)) path (now (failed .exit)) (v .0) from ⌝ }
 {
     let key = key_of(v, from);
     let at = place_of(key);

@@ -1,3 +1,9 @@
+use Prim.Native.Nat.{_+_, _*_, _-_}
+use mathlib.Core.Path.{_≡_}
+use lib.ListN.{length}
+use Rattle.meaning.specs.Laws.Checked.{checked-bodies}
+use Rattle.equality.proofs.Searching.{Seeking, sought-end, sought-known, sought-same, sought-none, ready, look-in-falls, look-falls, seeking-start, seeking-skip, seeking-found, seeking-nothing, seeking-over}
+use borrow.Author.Needs.{needs}
 use Prim.Native.Nat.{ℕ, _<_}
 use borrow.Fn.Kinds.{In}
 use borrow.Fn.PlainCycle.{Measures, is, falls, and}
@@ -18,10 +24,10 @@ use Rattle.equality.proofs.paths.+look+look_in.{statement}
 use Rattle.equality.proofs.paths.+look+look_in.Tie.{close}
 
 abbrev μ-look : Measures 2 look-kinds.ps ℕ
-μ-look κs a = ?
+μ-look κs a = 2 * (a .1 .1 .0 .count - a .1 .1 .1 .1 .0) + 1
 
 abbrev μ-look-in : Measures 2 look-in-kinds.ps ℕ
-μ-look-in κs a = ?
+μ-look-in κs a = 2 * (a .1 .1 .0 .count - a .1 .1 .1 .1 .0)
 
 abbrev look-at : ℕ → In 2 look-kinds.ps
 look-at t = and 2 look-kinds.ps (is 2 look-kinds.ps μ-look t) look.Pre
@@ -35,469 +41,116 @@ look-in-at t = and 2 look-in-kinds.ps (is 2 look-in-kinds.ps μ-look-in t) look-
 abbrev look-in-below : ℕ → In 2 look-in-kinds.ps
 look-in-below t = and 2 look-in-kinds.ps (falls 2 look-in-kinds.ps _<_ μ-look-in t) look-in.Pre
 
--- src/paths.rt:241:16
-look-wide-requires : (t : ℕ) → look-lts.Need-wide-requires (
-  wide-reads.Asked,
-  wide-reads.Learnt,
-  key-of-reads.Asked,
-  key-of-reads.Learnt,
-  known-reads.Asked,
-  known-reads.Learnt,
-  look-in-below t,
-  look-in.Post,
-  note-reads.Asked,
-  note-reads.Learnt,
-) (look-at t) look.Post
-look-wide-requires t c κs = ?
+abbrev look-claims : ℕ → look-lts.Claims
+look-claims t = (wide-reads.Asked, wide-reads.Learnt, key-of-reads.Asked, key-of-reads.Learnt, known-reads.Asked, known-reads.Learnt, look-in-below t, look-in.Post, note-reads.Asked, note-reads.Learnt)
 
--- src/paths.rt:242:9
-look-returns : (t : ℕ) → look-lts.Need-returns (
-  wide-reads.Asked,
-  wide-reads.Learnt,
-  key-of-reads.Asked,
-  key-of-reads.Learnt,
-  known-reads.Asked,
-  known-reads.Learnt,
-  look-in-below t,
-  look-in.Post,
-  note-reads.Asked,
-  note-reads.Learnt,
-) (look-at t) look.Post
-look-returns t c = ?
+abbrev look-in-claims : ℕ → look-in-lts.Claims
+look-in-claims t = (members-of-reads.Asked, members-of-reads.Learnt, member-word-reads.Asked, member-word-reads.Learnt, names-joined-reads.Asked, names-joined-reads.Learnt, look-below t, look.Post)
 
--- src/paths.rt:244:22
-look-key-of-requires : (t : ℕ) → look-lts.Need-key-of-requires (
-  wide-reads.Asked,
-  wide-reads.Learnt,
-  key-of-reads.Asked,
-  key-of-reads.Learnt,
-  known-reads.Asked,
-  known-reads.Learnt,
-  look-in-below t,
-  look-in.Post,
-  note-reads.Asked,
-  note-reads.Learnt,
-) (look-at t) look.Post
-look-key-of-requires t c κs = ?
+look-wide-requires : (t : ℕ) → look-lts.Need-wide-requires (look-claims t) (look-at t) look.Post
+look-wide-requires t c κs = search needs
 
--- src/paths.rt:244:8
-look-known-requires : (t : ℕ) → look-lts.Need-known-requires (
-  wide-reads.Asked,
-  wide-reads.Learnt,
-  key-of-reads.Asked,
-  key-of-reads.Learnt,
-  known-reads.Asked,
-  known-reads.Learnt,
-  look-in-below t,
-  look-in.Post,
-  note-reads.Asked,
-  note-reads.Learnt,
-) (look-at t) look.Post
-look-known-requires t c κs = ?
+look-returns : (t : ℕ) → look-lts.Need-returns (look-claims t) (look-at t) look.Post
+look-returns t c = search (sought-end, needs)
 
--- src/paths.rt:245:9
-look-same-length : (t : ℕ) → look-lts.Need-same-length (
-  wide-reads.Asked,
-  wide-reads.Learnt,
-  key-of-reads.Asked,
-  key-of-reads.Learnt,
-  known-reads.Asked,
-  known-reads.Learnt,
-  look-in-below t,
-  look-in.Post,
-  note-reads.Asked,
-  note-reads.Learnt,
-) (look-at t) look.Post
-look-same-length t c = ?
+look-key-of-requires : (t : ℕ) → look-lts.Need-key-of-requires (look-claims t) (look-at t) look.Post
+look-key-of-requires t c κs = search needs
 
--- src/paths.rt:245:9
-look-returns-2 : (t : ℕ) → look-lts.Need-returns-2 (
-  wide-reads.Asked,
-  wide-reads.Learnt,
-  key-of-reads.Asked,
-  key-of-reads.Learnt,
-  known-reads.Asked,
-  known-reads.Learnt,
-  look-in-below t,
-  look-in.Post,
-  note-reads.Asked,
-  note-reads.Learnt,
-) (look-at t) look.Post
-look-returns-2 t c = ?
+look-known-requires : (t : ℕ) → look-lts.Need-known-requires (look-claims t) (look-at t) look.Post
+look-known-requires t c κs = search needs
 
--- src/paths.rt:247:9
-look-look-in-requires : (t : ℕ) → look-lts.Need-look-in-requires (
-  wide-reads.Asked,
-  wide-reads.Learnt,
-  key-of-reads.Asked,
-  key-of-reads.Learnt,
-  known-reads.Asked,
-  known-reads.Learnt,
-  look-in-below t,
-  look-in.Post,
-  note-reads.Asked,
-  note-reads.Learnt,
-) (look-at t) look.Post
-look-look-in-requires t c κs = ?
+look-same-length : (t : ℕ) → look-lts.Need-same-length (look-claims t) (look-at t) look.Post
+look-same-length t c = search needs
 
--- src/paths.rt:249:19
-look-enum-known-found : (t : ℕ) → look-lts.Need-enum-known-found (
-  wide-reads.Asked,
-  wide-reads.Learnt,
-  key-of-reads.Asked,
-  key-of-reads.Learnt,
-  known-reads.Asked,
-  known-reads.Learnt,
-  look-in-below t,
-  look-in.Post,
-  note-reads.Asked,
-  note-reads.Learnt,
-) (look-at t) look.Post
-look-enum-known-found t c = ?
+look-returns-2 : (t : ℕ) → look-lts.Need-returns-2 (look-claims t) (look-at t) look.Post
+look-returns-2 t c = search (sought-known, needs)
 
--- src/paths.rt:251:21
-look-enum-told : (t : ℕ) → look-lts.Need-enum-told (
-  wide-reads.Asked,
-  wide-reads.Learnt,
-  key-of-reads.Asked,
-  key-of-reads.Learnt,
-  known-reads.Asked,
-  known-reads.Learnt,
-  look-in-below t,
-  look-in.Post,
-  note-reads.Asked,
-  note-reads.Learnt,
-) (look-at t) look.Post
-look-enum-told t c = ?
+look-look-in-requires : (t : ℕ) → look-lts.Need-look-in-requires (look-claims t) (look-at t) look.Post
+look-look-in-requires t c κs = (search (look-in-falls, needs), search (ready, needs))
 
--- src/paths.rt:251:13
-look-note-requires : (t : ℕ) → look-lts.Need-note-requires (
-  wide-reads.Asked,
-  wide-reads.Learnt,
-  key-of-reads.Asked,
-  key-of-reads.Learnt,
-  known-reads.Asked,
-  known-reads.Learnt,
-  look-in-below t,
-  look-in.Post,
-  note-reads.Asked,
-  note-reads.Learnt,
-) (look-at t) look.Post
-look-note-requires t c κs = ?
+look-enum-known-found : (t : ℕ) → look-lts.Need-enum-known-found (look-claims t) (look-at t) look.Post
+look-enum-known-found t c = search needs
 
--- src/paths.rt:235:1
-look-same-length-2 : (t : ℕ) → look-lts.Need-same-length-2 (
-  wide-reads.Asked,
-  wide-reads.Learnt,
-  key-of-reads.Asked,
-  key-of-reads.Learnt,
-  known-reads.Asked,
-  known-reads.Learnt,
-  look-in-below t,
-  look-in.Post,
-  note-reads.Asked,
-  note-reads.Learnt,
-) (look-at t) look.Post
-look-same-length-2 t c = ?
+look-enum-told : (t : ℕ) → look-lts.Need-enum-told (look-claims t) (look-at t) look.Post
+look-enum-told t c = search needs
 
--- src/paths.rt:235:1
-look-returns-3 : (t : ℕ) → look-lts.Need-returns-3 (
-  wide-reads.Asked,
-  wide-reads.Learnt,
-  key-of-reads.Asked,
-  key-of-reads.Learnt,
-  known-reads.Asked,
-  known-reads.Learnt,
-  look-in-below t,
-  look-in.Post,
-  note-reads.Asked,
-  note-reads.Learnt,
-) (look-at t) look.Post
-look-returns-3 t c = ?
+look-note-requires : (t : ℕ) → look-lts.Need-note-requires (look-claims t) (look-at t) look.Post
+look-note-requires t c κs = (sought-none (search needs) (c .before .enum-told .given .1), search needs)
 
--- src/paths.rt:235:1
-look-same-length-3 : (t : ℕ) → look-lts.Need-same-length-3 (
-  wide-reads.Asked,
-  wide-reads.Learnt,
-  key-of-reads.Asked,
-  key-of-reads.Learnt,
-  known-reads.Asked,
-  known-reads.Learnt,
-  look-in-below t,
-  look-in.Post,
-  note-reads.Asked,
-  note-reads.Learnt,
-) (look-at t) look.Post
-look-same-length-3 t c = ?
+look-same-length-2 : (t : ℕ) → look-lts.Need-same-length-2 (look-claims t) (look-at t) look.Post
+look-same-length-2 t c = search needs
 
--- src/paths.rt:235:1
-look-returns-4 : (t : ℕ) → look-lts.Need-returns-4 (
-  wide-reads.Asked,
-  wide-reads.Learnt,
-  key-of-reads.Asked,
-  key-of-reads.Learnt,
-  known-reads.Asked,
-  known-reads.Learnt,
-  look-in-below t,
-  look-in.Post,
-  note-reads.Asked,
-  note-reads.Learnt,
-) (look-at t) look.Post
-look-returns-4 t c = ?
+look-returns-3 : (t : ℕ) → look-lts.Need-returns-3 (look-claims t) (look-at t) look.Post
+look-returns-3 t c = search (sought-same, needs)
+
+look-same-length-3 : (t : ℕ) → look-lts.Need-same-length-3 (look-claims t) (look-at t) look.Post
+look-same-length-3 t c = search needs
+
+look-returns-4 : (t : ℕ) → look-lts.Need-returns-4 (look-claims t) (look-at t) look.Post
+look-returns-4 t c = search needs
 
 abbrev look-in-Inv-loop : look-in-lts.InvT-loop
-look-in-Inv-loop s failed₀ path from first m₀ failed m = ?
+look-in-Inv-loop s failed₀ path from first m₀ failed m = Seeking s path failed from first m₀ m × (length failed₀ ≡ 1933)
 
 abbrev look-in-μ-loop : look-in-lts.MeasureT-loop
-look-in-μ-loop s failed₀ path from first m₀ failed m = ?
+look-in-μ-loop s failed₀ path from first m₀ failed m = m - first
 
--- src/paths.rt:262:9
-look-in-members-of-requires : (t : ℕ) → look-in-lts.Need-members-of-requires (
-  members-of-reads.Asked,
-  members-of-reads.Learnt,
-  member-word-reads.Asked,
-  member-word-reads.Learnt,
-  names-joined-reads.Asked,
-  names-joined-reads.Learnt,
-  look-below t,
-  look.Post,
-) (look-in-at t) look-in.Post look-in-Inv-loop look-in-μ-loop
-look-in-members-of-requires t c κs = ?
+look-in-members-of-requires : (t : ℕ) → look-in-lts.Need-members-of-requires (look-in-claims t) (look-in-at t) look-in.Post look-in-Inv-loop look-in-μ-loop
+look-in-members-of-requires t c κs = search needs
 
--- src/paths.rt:265:5
-look-in-loop-holds : (t : ℕ) → look-in-lts.Need-loop-holds (
-  members-of-reads.Asked,
-  members-of-reads.Learnt,
-  member-word-reads.Asked,
-  member-word-reads.Learnt,
-  names-joined-reads.Asked,
-  names-joined-reads.Learnt,
-  look-below t,
-  look.Post,
-) (look-in-at t) look-in.Post look-in-Inv-loop look-in-μ-loop
-look-in-loop-holds t c = ?
+look-in-loop-holds : (t : ℕ) → look-in-lts.Need-loop-holds (look-in-claims t) (look-in-at t) look-in.Post look-in-Inv-loop look-in-μ-loop
+look-in-loop-holds t c = (search (seeking-start, needs), search needs)
 
--- src/paths.rt:266:9
-look-in-sub-m : (t : ℕ) → look-in-lts.Need-sub-m (
-  members-of-reads.Asked,
-  members-of-reads.Learnt,
-  member-word-reads.Asked,
-  member-word-reads.Learnt,
-  names-joined-reads.Asked,
-  names-joined-reads.Learnt,
-  look-below t,
-  look.Post,
-) (look-in-at t) look-in.Post look-in-Inv-loop look-in-μ-loop
-look-in-sub-m t c = ?
+look-in-sub-m : (t : ℕ) → look-in-lts.Need-sub-m (look-in-claims t) (look-in-at t) look-in.Post look-in-Inv-loop look-in-μ-loop
+look-in-sub-m t c = search needs
 
--- src/paths.rt:267:13
-look-in-member-word-requires : (t : ℕ) → look-in-lts.Need-member-word-requires (
-  members-of-reads.Asked,
-  members-of-reads.Learnt,
-  member-word-reads.Asked,
-  member-word-reads.Learnt,
-  names-joined-reads.Asked,
-  names-joined-reads.Learnt,
-  look-below t,
-  look.Post,
-) (look-in-at t) look-in.Post look-in-Inv-loop look-in-μ-loop
-look-in-member-word-requires t c κs = ?
+look-in-member-word-requires : (t : ℕ) → look-in-lts.Need-member-word-requires (look-in-claims t) (look-in-at t) look-in.Post look-in-Inv-loop look-in-μ-loop
+look-in-member-word-requires t c κs = search (checked-bodies, needs)
 
--- src/paths.rt:268:13
-look-in-names-joined-requires : (t : ℕ) → look-in-lts.Need-names-joined-requires (
-  members-of-reads.Asked,
-  members-of-reads.Learnt,
-  member-word-reads.Asked,
-  member-word-reads.Learnt,
-  names-joined-reads.Asked,
-  names-joined-reads.Learnt,
-  look-below t,
-  look.Post,
-) (look-in-at t) look-in.Post look-in-Inv-loop look-in-μ-loop
-look-in-names-joined-requires t c κs = ?
+look-in-names-joined-requires : (t : ℕ) → look-in-lts.Need-names-joined-requires (look-in-claims t) (look-in-at t) look-in.Post look-in-Inv-loop look-in-μ-loop
+look-in-names-joined-requires t c κs = search needs
 
--- src/paths.rt:265:5
-look-in-loop-less : (t : ℕ) → look-in-lts.Need-loop-less (
-  members-of-reads.Asked,
-  members-of-reads.Learnt,
-  member-word-reads.Asked,
-  member-word-reads.Learnt,
-  names-joined-reads.Asked,
-  names-joined-reads.Learnt,
-  look-below t,
-  look.Post,
-) (look-in-at t) look-in.Post look-in-Inv-loop look-in-μ-loop
-look-in-loop-less t c = ?
+look-in-loop-less : (t : ℕ) → look-in-lts.Need-loop-less (look-in-claims t) (look-in-at t) look-in.Post look-in-Inv-loop look-in-μ-loop
+look-in-loop-less t c = search needs
 
--- src/paths.rt:265:5
-look-in-loop-again : (t : ℕ) → look-in-lts.Need-loop-again (
-  members-of-reads.Asked,
-  members-of-reads.Learnt,
-  member-word-reads.Asked,
-  member-word-reads.Learnt,
-  names-joined-reads.Asked,
-  names-joined-reads.Learnt,
-  look-below t,
-  look.Post,
-) (look-in-at t) look-in.Post look-in-Inv-loop look-in-μ-loop
-look-in-loop-again t c = ?
+look-in-loop-again : (t : ℕ) → look-in-lts.Need-loop-again (look-in-claims t) (look-in-at t) look-in.Post look-in-Inv-loop look-in-μ-loop
+look-in-loop-again t c = (search (seeking-skip, needs), search needs)
 
--- src/paths.rt:272:13
-look-in-member-word-requires-2 : (t : ℕ) → look-in-lts.Need-member-word-requires-2 (
-  members-of-reads.Asked,
-  members-of-reads.Learnt,
-  member-word-reads.Asked,
-  member-word-reads.Learnt,
-  names-joined-reads.Asked,
-  names-joined-reads.Learnt,
-  look-below t,
-  look.Post,
-) (look-in-at t) look-in.Post look-in-Inv-loop look-in-μ-loop
-look-in-member-word-requires-2 t c κs = ?
+look-in-member-word-requires-2 : (t : ℕ) → look-in-lts.Need-member-word-requires-2 (look-in-claims t) (look-in-at t) look-in.Post look-in-Inv-loop look-in-μ-loop
+look-in-member-word-requires-2 t c κs = search (checked-bodies, needs)
 
--- src/paths.rt:273:53
-look-in-add-look : (t : ℕ) → look-in-lts.Need-add-look (
-  members-of-reads.Asked,
-  members-of-reads.Learnt,
-  member-word-reads.Asked,
-  member-word-reads.Learnt,
-  names-joined-reads.Asked,
-  names-joined-reads.Learnt,
-  look-below t,
-  look.Post,
-) (look-in-at t) look-in.Post look-in-Inv-loop look-in-μ-loop
-look-in-add-look t c = ?
+look-in-add-look : (t : ℕ) → look-in-lts.Need-add-look (look-in-claims t) (look-in-at t) look-in.Post look-in-Inv-loop look-in-μ-loop
+look-in-add-look t c = search needs
 
--- src/paths.rt:273:13
-look-in-look-requires : (t : ℕ) → look-in-lts.Need-look-requires (
-  members-of-reads.Asked,
-  members-of-reads.Learnt,
-  member-word-reads.Asked,
-  member-word-reads.Learnt,
-  names-joined-reads.Asked,
-  names-joined-reads.Learnt,
-  look-below t,
-  look.Post,
-) (look-in-at t) look-in.Post look-in-Inv-loop look-in-μ-loop
-look-in-look-requires t c κs = ?
+look-in-look-requires : (t : ℕ) → look-in-lts.Need-look-requires (look-in-claims t) (look-in-at t) look-in.Post look-in-Inv-loop look-in-μ-loop
+look-in-look-requires t c κs = (search (look-falls, needs), (search needs, (search needs, search needs)))
 
--- src/paths.rt:275:23
-look-in-enum-known-found : (t : ℕ) → look-in-lts.Need-enum-known-found (
-  members-of-reads.Asked,
-  members-of-reads.Learnt,
-  member-word-reads.Asked,
-  member-word-reads.Learnt,
-  names-joined-reads.Asked,
-  names-joined-reads.Learnt,
-  look-below t,
-  look.Post,
-) (look-in-at t) look-in.Post look-in-Inv-loop look-in-μ-loop
-look-in-enum-known-found t c = ?
+look-in-enum-known-found : (t : ℕ) → look-in-lts.Need-enum-known-found (look-in-claims t) (look-in-at t) look-in.Post look-in-Inv-loop look-in-μ-loop
+look-in-enum-known-found t c = search needs
 
--- src/paths.rt:275:29
-look-in-same-length : (t : ℕ) → look-in-lts.Need-same-length (
-  members-of-reads.Asked,
-  members-of-reads.Learnt,
-  member-word-reads.Asked,
-  member-word-reads.Learnt,
-  names-joined-reads.Asked,
-  names-joined-reads.Learnt,
-  look-below t,
-  look.Post,
-) (look-in-at t) look-in.Post look-in-Inv-loop look-in-μ-loop
-look-in-same-length t c = ?
+look-in-same-length : (t : ℕ) → look-in-lts.Need-same-length (look-in-claims t) (look-in-at t) look-in.Post look-in-Inv-loop look-in-μ-loop
+look-in-same-length t c = search needs
 
--- src/paths.rt:275:29
-look-in-returns : (t : ℕ) → look-in-lts.Need-returns (
-  members-of-reads.Asked,
-  members-of-reads.Learnt,
-  member-word-reads.Asked,
-  member-word-reads.Learnt,
-  names-joined-reads.Asked,
-  names-joined-reads.Learnt,
-  look-below t,
-  look.Post,
-) (look-in-at t) look-in.Post look-in-Inv-loop look-in-μ-loop
-look-in-returns t c = ?
+look-in-returns : (t : ℕ) → look-in-lts.Need-returns (look-in-claims t) (look-in-at t) look-in.Post look-in-Inv-loop look-in-μ-loop
+look-in-returns t c = search (seeking-found, needs)
 
-look-in-enum-told : (t : ℕ) → look-in-lts.Need-enum-told (
-  members-of-reads.Asked,
-  members-of-reads.Learnt,
-  member-word-reads.Asked,
-  member-word-reads.Learnt,
-  names-joined-reads.Asked,
-  names-joined-reads.Learnt,
-  look-below t,
-  look.Post,
-) (look-in-at t) look-in.Post look-in-Inv-loop look-in-μ-loop
-look-in-enum-told t c = ?
+look-in-enum-told : (t : ℕ) → look-in-lts.Need-enum-told (look-in-claims t) (look-in-at t) look-in.Post look-in-Inv-loop look-in-μ-loop
+look-in-enum-told t c = search needs
 
--- src/paths.rt:265:5
-look-in-loop-less-2 : (t : ℕ) → look-in-lts.Need-loop-less-2 (
-  members-of-reads.Asked,
-  members-of-reads.Learnt,
-  member-word-reads.Asked,
-  member-word-reads.Learnt,
-  names-joined-reads.Asked,
-  names-joined-reads.Learnt,
-  look-below t,
-  look.Post,
-) (look-in-at t) look-in.Post look-in-Inv-loop look-in-μ-loop
-look-in-loop-less-2 t c = ?
+look-in-loop-less-2 : (t : ℕ) → look-in-lts.Need-loop-less-2 (look-in-claims t) (look-in-at t) look-in.Post look-in-Inv-loop look-in-μ-loop
+look-in-loop-less-2 t c = search needs
 
--- src/paths.rt:265:5
-look-in-loop-again-2 : (t : ℕ) → look-in-lts.Need-loop-again-2 (
-  members-of-reads.Asked,
-  members-of-reads.Learnt,
-  member-word-reads.Asked,
-  member-word-reads.Learnt,
-  names-joined-reads.Asked,
-  names-joined-reads.Learnt,
-  look-below t,
-  look.Post,
-) (look-in-at t) look-in.Post look-in-Inv-loop look-in-μ-loop
-look-in-loop-again-2 t c = ?
+look-in-loop-again-2 : (t : ℕ) → look-in-lts.Need-loop-again-2 (look-in-claims t) (look-in-at t) look-in.Post look-in-Inv-loop look-in-μ-loop
+look-in-loop-again-2 t c = (search (seeking-nothing, needs), search needs)
 
--- src/paths.rt:258:1
-look-in-same-length-2 : (t : ℕ) → look-in-lts.Need-same-length-2 (
-  members-of-reads.Asked,
-  members-of-reads.Learnt,
-  member-word-reads.Asked,
-  member-word-reads.Learnt,
-  names-joined-reads.Asked,
-  names-joined-reads.Learnt,
-  look-below t,
-  look.Post,
-) (look-in-at t) look-in.Post look-in-Inv-loop look-in-μ-loop
-look-in-same-length-2 t c = ?
+look-in-same-length-2 : (t : ℕ) → look-in-lts.Need-same-length-2 (look-in-claims t) (look-in-at t) look-in.Post look-in-Inv-loop look-in-μ-loop
+look-in-same-length-2 t c = search needs
 
--- src/paths.rt:258:1
-look-in-returns-2 : (t : ℕ) → look-in-lts.Need-returns-2 (
-  members-of-reads.Asked,
-  members-of-reads.Learnt,
-  member-word-reads.Asked,
-  member-word-reads.Learnt,
-  names-joined-reads.Asked,
-  names-joined-reads.Learnt,
-  look-below t,
-  look.Post,
-) (look-in-at t) look-in.Post look-in-Inv-loop look-in-μ-loop
-look-in-returns-2 t c = ?
+look-in-returns-2 : (t : ℕ) → look-in-lts.Need-returns-2 (look-in-claims t) (look-in-at t) look-in.Post look-in-Inv-loop look-in-μ-loop
+look-in-returns-2 t c = search (seeking-over, needs)
 
 pub +look+look-in-spec : {M : Type 1} → statement M
-+look+look-in-spec = close μ-look μ-look-in (λ t. look-lts.spec (
-  wide-reads.Asked,
-  wide-reads.Learnt,
-  key-of-reads.Asked,
-  key-of-reads.Learnt,
-  known-reads.Asked,
-  known-reads.Learnt,
-  look-in-below t,
-  look-in.Post,
-  note-reads.Asked,
-  note-reads.Learnt,
-)
-    (look-at t)
++look+look-in-spec = close μ-look μ-look-in (λ t. look-lts.spec (look-claims t) (look-at t)
     look.Post
     (look-wide-requires t)
     (look-returns t)
@@ -513,17 +166,7 @@ pub +look+look-in-spec : {M : Type 1} → statement M
     (look-returns-3 t)
     (look-same-length-3 t)
     (look-returns-4 t))
-    λ t. look-in-lts.spec (
-      members-of-reads.Asked,
-      members-of-reads.Learnt,
-      member-word-reads.Asked,
-      member-word-reads.Learnt,
-      names-joined-reads.Asked,
-      names-joined-reads.Learnt,
-      look-below t,
-      look.Post,
-    )
-    (look-in-at t)
+    λ t. look-in-lts.spec (look-in-claims t) (look-in-at t)
     look-in.Post
     look-in-Inv-loop
     look-in-μ-loop

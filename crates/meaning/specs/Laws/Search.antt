@@ -218,12 +218,12 @@ module _ (c : Case) where
 
   module _ (of : ℕ → List ℕ → Option ℕ) (n : ℕ) (ns : List ℕ) where
     -- what one member gives, by the next k names or fewer
-    taken : Part → ℕ → Option ℕ
+    unfoldable pub taken : Part → ℕ → Option ℕ
     taken p zero = none
     taken p (suc k) = elim (sameList (c .text (p .name)) (joined c (take (suc k) (n ∷ ns)))) [ true ↦ of (p .value) (drop (suc k) (n ∷ ns)) | false ↦ taken p k ]
 
     -- where its name is longer, fewer names do not name it
-    taken-none : (p : Part) (k : ℕ) → ((i : ℕ) → i < k → c .text (p .name) ≡ joined c (take (suc i) (n ∷ ns)) → ⊥) → taken p k ≡ none
+    pub taken-none : (p : Part) (k : ℕ) → ((i : ℕ) → i < k → c .text (p .name) ≡ joined c (take (suc i) (n ∷ ns)) → ⊥) → taken p k ≡ none
     unfolding taken
     taken-none p zero h = refl
     taken-none p (suc k) h = rw (not-same (c .text (p .name)) (joined c (take (suc k) (n ∷ ns))) (h k (omega arith)), taken) (taken-none p k (λ i hi. h i (omega arith)))
@@ -233,7 +233,7 @@ module _ (c : Case) where
     called-none bytes [] h = refl
     called-none bytes (q ∷ ps) h = rw (not-same (c .text (q .name)) bytes (h .0), called) (called-none bytes ps (h .1))
 
-    longest-none : (ps : List Part) (k : ℕ) → ((i : ℕ) → i < k → Every (λ q. c .text (q .name) ≡ joined c (take (suc i) (n ∷ ns)) → ⊥) ps) → longest c of ps (n ∷ ns) k ≡ none
+    pub longest-none : (ps : List Part) (k : ℕ) → ((i : ℕ) → i < k → Every (λ q. c .text (q .name) ≡ joined c (take (suc i) (n ∷ ns)) → ⊥) ps) → longest c of ps (n ∷ ns) k ≡ none
     unfolding longest onward orElse
     longest-none ps zero h = refl
     longest-none ps (suc k) h = rw (called-none (joined c (take (suc k) (n ∷ ns))) ps (h k (omega arith))) (longest-none ps k (λ i hi. h i (omega arith)))
@@ -265,7 +265,7 @@ module _ (c : Case) where
             omega arith
 
     -- one member more, before the others
-    one-more : (p : Part) (ps : List Part) → Every (λ q. before (c .text (p .name)) (c .text (q .name)) ≡ true) ps → (k : ℕ) → k ≤ suc (length ns) → longest c of (p ∷ ps) (n ∷ ns) k ≡ orElse (longest c of ps (n ∷ ns) k) (taken p k)
+    pub one-more : (p : Part) (ps : List Part) → Every (λ q. before (c .text (p .name)) (c .text (q .name)) ≡ true) ps → (k : ℕ) → k ≤ suc (length ns) → longest c of (p ∷ ps) (n ∷ ns) k ≡ orElse (longest c of ps (n ∷ ns) k) (taken p k)
     unfolding longest taken orElse onward called
     one-more p ps up zero h = refl
     one-more p ps up (suc k) h =

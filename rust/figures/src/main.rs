@@ -13,7 +13,8 @@ use std::process::ExitCode;
 
 const USAGE: &str = "usage: figures speed                        time a question, ours and the Rust's, on every shape
        figures check                        the check's throughput beside a plain pass
-       figures compare N DAMAGED SEED       N questions and DAMAGED damaged files, put to all
+       figures compare N DAMAGED SEED [dots]   N questions and DAMAGED damaged files, put to all;
+                                            `dots`: of cases with dots in their names alone
        figures carried N DAMAGED SEED       the same of request #106; `compare` asks a tenth as many, too
        figures once SHAPE TIMES ours|rust   ask one shape so often, to be profiled
        figures lookups                      time a name's lookup in records of 4 to 16,384 members
@@ -27,7 +28,10 @@ fn main() -> ExitCode {
         ["speed"] => speed::print_tables(),
         ["check"] => checking::print_table(),
         ["compare", questions, copies, seed] => {
-            number(questions).and_then(|n| compare::run(n, number(copies)?, number(seed)?))
+            number(questions).and_then(|n| compare::run(n, number(copies)?, number(seed)?, None))
+        }
+        ["compare", questions, copies, seed, mix] => {
+            number(questions).and_then(|n| compare::run(n, number(copies)?, number(seed)?, Some(mix)))
         }
         ["carried", questions, copies, seed] => {
             number(questions).and_then(|n| compare::carried(n, number(copies)?, number(seed)?))

@@ -1,5 +1,6 @@
 //! What a variable is bound to, as text and as JSON.
 
+use casefile::text::{entity, quoted};
 use galivodern::{Bound, Case, Value};
 
 use crate::json;
@@ -12,7 +13,7 @@ pub fn text(case: &Case, bound: Option<Bound>) -> String {
     match bound {
         None => "-".to_string(),
         Some(Bound::Int(number)) => number.to_string(),
-        Some(Bound::Part(string)) => format!("{:?}", case.string(string).unwrap_or_default()),
+        Some(Bound::Part(string)) => quoted(case.string(string).unwrap_or_default()),
         Some(Bound::Value(value)) => {
             let mut shown = String::new();
             push_text(case, value, &mut shown);
@@ -31,14 +32,14 @@ fn push_text(case: &Case, number: u32, shown: &mut String) {
         Some(Value::Null) => shown.push_str("null"),
         Some(Value::Bool(b)) => shown.push_str(&b.to_string()),
         Some(Value::Int(n)) => shown.push_str(&n.to_string()),
-        Some(Value::Decimal(text)) => shown.push_str(&format!("decimal {text:?}")),
-        Some(Value::String(text)) => shown.push_str(&format!("{text:?}")),
-        Some(Value::Entity { ty, id }) => shown.push_str(&format!("{ty}::{id:?}")),
+        Some(Value::Decimal(text)) => shown.push_str(&format!("decimal {}", quoted(text))),
+        Some(Value::String(text)) => shown.push_str(&quoted(text)),
+        Some(Value::Entity { ty, id }) => shown.push_str(&entity(ty, id)),
         Some(Value::Array(items)) => {
             push_all(shown, "[]", items, |shown, item| push_text(case, item, shown));
         }
         Some(Value::Object(members)) => push_all(shown, "{}", members, |shown, (name, value)| {
-            shown.push_str(&format!("{name:?}: "));
+            shown.push_str(&format!("{}: ", quoted(name)));
             push_text(case, value, shown);
         }),
         Some(other) => shown.push_str(&format!("{other:?}")),

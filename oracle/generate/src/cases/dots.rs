@@ -20,11 +20,14 @@ const PARTS: [&[&str]; 10] = [
 ];
 /// The Rust writes every chain of a context before each question.
 const MOST_KEYS: usize = 160;
+const MOST_DEPTH: u32 = 32;
 
-/// An object, and the key of every chain of names in it.
+/// A value, the key of every chain of names in it, and how deep it is.
+#[derive(Clone)]
 pub(super) struct Joined {
     value: u32,
     keys: Vec<String>,
+    depth: u32,
 }
 
 impl Joined {
@@ -54,11 +57,7 @@ impl Making<'_> {
         let objects = if few { self.random.between(2, 4) } else { self.random.between(3, 8) };
         for _ in 0..objects {
             let many = self.random.pick(&[1, 2, 3, 3, 4, 4, 5, 6, 12]);
-            let mut members: Vec<(String, u32, Vec<String>)> = Vec::new();
-            for _ in 0..many {
-                let (value, below) = self.dotted_part();
-                members.push((self.joined_name(), value, below));
-            }
+            let members = (0..many).map(|_| (self.joined_name(), self.dotted_part())).collect();
             self.dotted_object(members);
         }
         self.joined.sort_by_key(|joined| joined.keys.len());
@@ -71,20 +70,16 @@ impl Making<'_> {
     fn dotted_fork(&mut self) {
         let [p, q, r] = [0; 3].map(|_| self.random.pick(self.parts));
         let joined = |names: &[&str]| names.join(".");
-        let (value, none) = self.leaf();
-        if self.random.percent(50) {
-            self.dotted_object(vec![(joined(&[q, r]), value, none)]);
+        let end = self.leaf();
+        let shorter = if self.random.percent(50) {
+            self.dotted_object(vec![(joined(&[q, r]), end)])
         } else {
-            self.dotted_object(vec![(r.to_string(), value, none)]);
-            let Joined { value, keys } = self.last_joined();
-            self.dotted_object(vec![(q.to_string(), value, keys)]);
-        }
-        let Joined { value, keys } = self.last_joined();
-        let (longer, below) = self.dotted_part();
-        let mut members = vec![(p.to_string(), value, keys), (joined(&[p, q]), longer, below)];
+            let below = self.dotted_object(vec![(r.to_string(), end)]);
+            self.dotted_object(vec![(q.to_string(), below)])
+        };
+        let mut members = vec![(p.to_string(), shorter), (joined(&[p, q]), self.dotted_part())];
         for _ in 0..self.random.below(3) {
-            let (value, below) = self.dotted_part();
-            members.push((self.joined_name(), value, below));
+            members.push((self.joined_name(), self.dotted_part()));
         }
         self.dotted_object(members);
         self.fork = Some([p, q, r].join("."));
@@ -93,84 +88,80 @@ impl Making<'_> {
     /// Shared objects in which every name leads to the one object below: a search that remembers nothing
     /// takes three times as long with each.
     fn dotted_tower(&mut self) {
-        let (mut value, mut below) = self.leaf();
-        let one = self.random.pick(self.parts);
-        let last = self.random.pick(self.parts);
-        self.dotted_object(vec![(last.to_string(), value, below)]);
+        let (one, last) = (self.random.pick(self.parts), self.random.pick(self.parts));
+        let end = self.leaf();
+        let mut below = self.dotted_object(vec![(last.to_string(), end)]);
         for _ in 0..self.random.between(2, 4) {
-            Joined { value, keys: below } = self.last_joined();
-            let names = [one.to_string(), [one, one].join("."), [one, one, one].join(".")];
             let count = self.random.between(2, 3);
-            self.dotted_object(names[..count].iter().map(|name| (name.clone(), value, below.clone())).collect());
+            let names = (1..=count).map(|many| vec![one; many].join("."));
+            below = self.dotted_object(names.map(|name| (name, below.clone())).collect());
         }
     }
 
     /// A chain of up to 29 objects, for paths of many names.
     fn dotted_chain(&mut self) {
-        let (value, below) = self.leaf();
-        let first = (self.joined_name(), value, below);
-        self.dotted_object(vec![first]);
-        for _ in 0..self.random.between(4, 28) {
-            let Joined { value, keys } = self.last_joined();
-            let mut members = vec![(self.joined_name(), value, keys)];
+        let mut below = self.leaf();
+        for _ in 0..self.random.between(5, 29) {
+            let mut members = vec![(self.joined_name(), below)];
             if self.random.percent(20) {
-                let (leaf, none) = self.leaf();
-                members.push((self.joined_name(), leaf, none));
+                members.push((self.joined_name(), self.leaf()));
             }
-            self.dotted_object(members);
+            below = self.dotted_object(members);
         }
     }
 
-    fn last_joined(&self) -> Joined {
-        let last = self.joined.last().expect("one was made");
-        Joined { value: last.value, keys: last.keys.clone() }
-    }
-
-    /// The first member of each name; members that write too much become leaves.
-    fn dotted_object(&mut self, members: Vec<(String, u32, Vec<String>)>) {
-        let (mut names, mut keys): (Vec<(String, u32)>, Vec<String>) = (Vec::new(), Vec::new());
-        for (name, mut value, mut below) in members {
-            if names.iter().any(|(other, _)| *other == name) {
+    /// The first member of each name; members that write too much, or are too deep, become leaves.
+    fn dotted_object(&mut self, members: Vec<(String, Joined)>) -> Joined {
+        let mut object = Joined { value: 0, keys: Vec::new(), depth: 1 };
+        let mut named: Vec<(String, u32)> = Vec::new();
+        for (name, mut below) in members {
+            if named.iter().any(|(other, _)| *other == name) {
                 continue;
             }
-            if keys.len() + below.len() > MOST_KEYS {
-                (value, below) = self.leaf();
+            if object.keys.len() + below.keys.len() > MOST_KEYS || below.depth >= MOST_DEPTH {
+                below = self.number();
             }
-            keys.push(name.clone());
-            keys.extend(below.iter().map(|key| format!("{name}.{key}")));
-            names.push((name, value));
+            object.keys.push(name.clone());
+            object.keys.extend(below.keys.iter().map(|key| format!("{name}.{key}")));
+            object.depth = object.depth.max(1 + below.depth);
+            named.push((name, below.value));
         }
-        let members: Vec<(&str, u32)> = names.iter().map(|(name, value)| (name.as_str(), *value)).collect();
-        let value = self.builder.object(&members);
-        self.joined.push(Joined { value, keys });
+        let members: Vec<(&str, u32)> = named.iter().map(|(name, value)| (name.as_str(), *value)).collect();
+        object.value = self.builder.object(&members);
+        self.joined.push(object.clone());
+        object
     }
 
     /// An object made before, or what ends a chain.
-    fn dotted_part(&mut self) -> (u32, Vec<String>) {
+    fn dotted_part(&mut self) -> Joined {
         if self.joined.is_empty() || self.random.percent(45) {
             return self.leaf();
         }
-        let Joined { value, keys } = &self.joined[self.random.below(self.joined.len())];
-        (*value, keys.clone())
+        self.joined[self.random.below(self.joined.len())].clone()
     }
 
     /// Mostly a number of its own, so that answers tell one place from another.
-    fn leaf(&mut self) -> (u32, Vec<String>) {
-        let value = match self.random.below(20) {
-            0 => self.builder.value(Value::Null),
-            1 => self.common_value(),
+    fn leaf(&mut self) -> Joined {
+        let (value, depth) = match self.random.below(20) {
+            0 => (self.builder.value(Value::Null), 1),
+            1 => (self.random.pick(&self.scope).2, 1),
             2 if !self.joined.is_empty() => {
-                let held = self.joined[self.random.below(self.joined.len())].value;
-                self.builder.array(&[held])
+                let held = &self.joined[self.random.below(self.joined.len())];
+                if held.depth + 1 >= MOST_DEPTH {
+                    return self.number();
+                }
+                (self.builder.array(&[held.value]), held.depth + 1)
             }
-            _ => {
-                let n = 100 + self.builder.values().len() as i64;
-                let value = self.builder.int(n);
-                self.literals.push(value);
-                value
-            }
+            _ => return self.number(),
         };
-        (value, Vec::new())
+        Joined { value, keys: Vec::new(), depth }
+    }
+
+    fn number(&mut self) -> Joined {
+        let n = 100 + self.builder.values().len() as i64;
+        let value = self.builder.int(n);
+        self.literals.push(value);
+        Joined { value, keys: Vec::new(), depth: 1 }
     }
 
     /// A join of one to three parts.

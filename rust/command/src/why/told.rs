@@ -160,11 +160,7 @@ pub fn action(opened: &Opened, point: usize, told: fn(&str) -> String) -> String
 
 /// A name as a case's text has it: a plain word, or quoted, so that it is taken for nothing else.
 pub fn name(name: &str) -> String {
-    if !name.is_empty() && name.chars().all(|c| c.is_alphanumeric() || c == '_') {
-        name.to_string()
-    } else {
-        format!("{name:?}")
-    }
+    casefile::text::word(name)
 }
 
 /// The logged fields of a point, as names and values of the case.

@@ -107,8 +107,11 @@ impl Look<'_> {
             let kinds = match fields.at(&path) {
                 Ok(kinds) => kinds,
                 Err((at, names)) => {
-                    let near = near_or_all(&path[at], names);
-                    self.tell(about, format!("{source} field `{}` in `{action}`{near}", path[..=at].join(".")));
+                    let near = match fields.joined(&path) {
+                        Ok(_) => "; one whose own name holds a dot is reached by no path".to_string(),
+                        Err(_) => near_or_all(&path[at], names),
+                    };
+                    self.tell(about, format!("{source} field `{}` in `{action}`{near}", behind_dot(&path[..=at])));
                     continue;
                 }
             };

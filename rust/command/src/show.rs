@@ -1,12 +1,45 @@
 //! What a variable is bound to, as text and as JSON.
 
-use casefile::text::{entity, quoted};
+use casefile::text::word;
 use galivodern::{Bound, Case, Value};
 
 use crate::json;
 
 /// Values may share their parts many times over; what is longer than this is named by its number.
 const MOST_CHARACTERS: usize = 2_000;
+
+/// A text in quotation marks, as a case's text has it; what is no plain character goes by its number, so that it is
+/// seen and does nothing to a terminal.
+pub fn quoted(text: &str) -> String {
+    let mut shown = String::from("\"");
+    for c in text.chars() {
+        match c {
+            '\'' => shown.push(c),
+            '\0' | '\r' => shown.push_str(&format!("\\u{{{:x}}}", c as u32)),
+            c => shown.extend(c.escape_debug()),
+        }
+    }
+    shown.push('"');
+    shown
+}
+
+/// A name as a case's text has it: a plain word, or quoted, so that it is taken for nothing else.
+pub fn name(name: &str) -> String {
+    if word(name) == name {
+        name.to_string()
+    } else {
+        quoted(name)
+    }
+}
+
+/// An entity's type: plain words with `::` between them, or quoted.
+fn type_words(ty: &str) -> String {
+    if ty.split("::").all(|part| word(part) == part) {
+        ty.to_string()
+    } else {
+        quoted(ty)
+    }
+}
 
 /// As in a case's text; `-` for nothing.
 pub fn text(case: &Case, bound: Option<Bound>) -> String {
@@ -34,7 +67,7 @@ fn push_text(case: &Case, number: u32, shown: &mut String) {
         Some(Value::Int(n)) => shown.push_str(&n.to_string()),
         Some(Value::Decimal(text)) => shown.push_str(&format!("decimal {}", quoted(text))),
         Some(Value::String(text)) => shown.push_str(&quoted(text)),
-        Some(Value::Entity { ty, id }) => shown.push_str(&entity(ty, id)),
+        Some(Value::Entity { ty, id }) => shown.push_str(&format!("{}::{}", type_words(ty), quoted(id))),
         Some(Value::Array(items)) => {
             push_all(shown, "[]", items, |shown, item| push_text(case, item, shown));
         }

@@ -24,7 +24,8 @@ pub use lexer::Place;
 pub(crate) use lexer::Token;
 pub use parser::{pack, pack_or_faults};
 pub(crate) use parser::{Parsed, Parser};
-pub use printed::{behind_dot, entity, quoted, word};
+pub(crate) use printed::quoted;
+pub use printed::{behind_dot, word};
 pub use printer::{unpack, unpack_named, Given, NodeTexts};
 
 /// What is wrong with a text, and where: line and column count from 1.

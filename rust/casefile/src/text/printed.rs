@@ -40,7 +40,11 @@ impl Printer<'_> {
     }
 
     fn entity(&self, ty: u32, id: u32) -> Printed<String> {
-        Ok(entity(self.string(ty)?, self.string(id)?))
+        let ty = self.string(ty)?;
+        let words: Vec<String> = ty.split("::").map(plain).collect();
+        let bare = words.iter().all(|word| is_identifier(word));
+        let ty = if bare { words.join("::") } else { quoted(ty) };
+        Ok(format!("{ty}::{}", quoted(self.string(id)?)))
     }
 
     fn value(&self, number: u32) -> Printed<String> {
@@ -142,14 +146,6 @@ fn window(within: Within) -> Printed<String> {
 
 fn sign(signs: &[&'static str], number: u32) -> Printed<&'static str> {
     signs.get(number as usize).copied().ok_or(format!("operator, unit or root {number} is unknown"))
-}
-
-/// An entity: its type bare where all its words may be, else quoted.
-pub fn entity(ty: &str, id: &str) -> String {
-    let words: Vec<String> = ty.split("::").map(plain).collect();
-    let bare = words.iter().all(|word| is_identifier(word));
-    let ty = if bare { words.join("::") } else { quoted(ty) };
-    format!("{ty}::{}", quoted(id))
 }
 
 /// A name where keywords, too, may stand bare.

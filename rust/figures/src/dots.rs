@@ -3,45 +3,50 @@
 
 use std::hint::black_box;
 
-use casefile::{Builder, Node, Point, Run, Tables, Value};
+use casefile::{Builder, Node, Point, Run, Tables};
 use galivodern::{Answer, Bindings, Case, Limits, PointNo, RuleNo};
 
 use crate::speed::shown;
 use crate::timing::by_itself;
 
-/// Objects above each other: with the number below them the deepest allowed.
-const LEVELS: usize = 31;
-
-/// A file: how many names each object has (a, a.a and so on), how many a's the path has before its b, and
-/// how far apart the objects' numbers are.
+/// A file of so many objects above each other (31 are the most): all names of an object lead to the one below
+/// it, and each joins so many a's.
 struct Worst {
     name: &'static str,
-    names: usize,
+    objects: usize,
+    parts: fn() -> Vec<usize>,
+    /// How many a's the path has before its b.
     path: usize,
-    apart: usize,
 }
 
-const FILES: [Worst; 7] = [
-    Worst { name: "3 names, a path of 61", names: 3, path: 60, apart: 1 },
-    Worst { name: "3 names, a path of 61, numbers 512 apart", names: 3, path: 60, apart: 512 },
-    Worst { name: "8 names, a path of 201", names: 8, path: 200, apart: 1 },
-    Worst { name: "8 names, a path of 201, numbers 512 apart", names: 8, path: 200, apart: 512 },
-    Worst { name: "20 names, a path of 501", names: 20, path: 500, apart: 1 },
-    Worst { name: "100 names, a path of 3,001", names: 100, path: 3_000, apart: 1 },
-    Worst { name: "400 names, a path of 12,001", names: 400, path: 12_000, apart: 1 },
+const FILES: [Worst; 8] = [
+    Worst { name: "31 objects, 3 names, a path of 61", objects: 31, parts: || up_to(3), path: 60 },
+    Worst { name: "31 objects, 3 names, a path of 94", objects: 31, parts: || up_to(3), path: 93 },
+    Worst { name: "31 objects, 8 names, a path of 201", objects: 31, parts: || up_to(8), path: 200 },
+    Worst { name: "31 objects, 20 names, a path of 501", objects: 31, parts: || up_to(20), path: 500 },
+    Worst { name: "31 objects, 40 names, a path of 1,001", objects: 31, parts: || up_to(40), path: 1_000 },
+    Worst { name: "31 objects, 100 names, a path of 3,001", objects: 31, parts: || up_to(100), path: 3_000 },
+    Worst { name: "8 objects, 3 names, a path of 30,945", objects: 8, parts: || vec![1, 1_934, 3_867], path: 30_944 },
+    Worst {
+        name: "12 objects, 4 names of 1 to 1,728 parts",
+        objects: 12,
+        parts: || vec![1, 12, 144, 1_728],
+        path: 20_736,
+    },
 ];
+
+fn up_to(most: usize) -> Vec<usize> {
+    (1..=most).collect()
+}
 
 impl Worst {
     /// The file, and the node that is asked: `context.a.a. .. .b == 1`.
     fn made(&self) -> (Tables, u32) {
         let mut builder = Builder::new(0);
-        let names: Vec<String> = (1..=self.names).map(|many| vec!["a"; many].join(".")).collect();
+        let names: Vec<String> = (self.parts)().into_iter().map(|many| vec!["a"; many].join(".")).collect();
         let one = builder.int(1);
         let mut object = one;
-        for _ in 0..LEVELS {
-            (1..self.apart).for_each(|_| {
-                builder.value(Value::Null);
-            });
+        for _ in 0..self.objects {
             let members: Vec<(&str, u32)> = names.iter().map(|name| (name.as_str(), object)).collect();
             object = builder.object(&members);
         }
@@ -69,7 +74,7 @@ impl Worst {
 
 /// The time of one question for each file, or for the one of this number.
 pub fn print_table(only: Option<usize>) -> Result<bool, String> {
-    println!("| objects that share | bytes | one question |");
+    println!("| file | bytes | one question |");
     println!("|---|---|---|");
     for (_, file) in FILES.iter().enumerate().filter(|(k, _)| only.is_none_or(|only| only == *k)) {
         let (tables, node) = file.made();

@@ -9,30 +9,38 @@ use galivodern::{Answer, Bindings, Case, Limits, PointNo, RuleNo};
 use crate::speed::shown;
 use crate::timing::by_itself;
 
-/// A file of so many objects above each other (31 are the most): all names of an object lead to the one below
-/// it, and each joins so many a's.
+/// A file of 31 objects above each other, the most there can be: all names of an object lead to the one below
+/// it, and each joins so many a's. The path has so many a's, and then a b.
 struct Worst {
-    name: &'static str,
-    objects: usize,
     parts: fn() -> Vec<usize>,
-    /// How many a's the path has before its b.
     path: usize,
+    /// Made to run away: asked only where it is named by its number.
+    runs_away: bool,
 }
 
-const FILES: [Worst; 8] = [
-    Worst { name: "31 objects, 3 names, a path of 61", objects: 31, parts: || up_to(3), path: 60 },
-    Worst { name: "31 objects, 3 names, a path of 94", objects: 31, parts: || up_to(3), path: 93 },
-    Worst { name: "31 objects, 8 names, a path of 201", objects: 31, parts: || up_to(8), path: 200 },
-    Worst { name: "31 objects, 20 names, a path of 501", objects: 31, parts: || up_to(20), path: 500 },
-    Worst { name: "31 objects, 40 names, a path of 1,001", objects: 31, parts: || up_to(40), path: 1_000 },
-    Worst { name: "31 objects, 100 names, a path of 3,001", objects: 31, parts: || up_to(100), path: 3_000 },
-    Worst { name: "8 objects, 3 names, a path of 30,945", objects: 8, parts: || vec![1, 1_934, 3_867], path: 30_944 },
-    Worst {
-        name: "12 objects, 4 names of 1 to 1,728 parts",
-        objects: 12,
-        parts: || vec![1, 12, 144, 1_728],
-        path: 20_736,
-    },
+const LEVELS: usize = 31;
+
+const fn file(parts: fn() -> Vec<usize>, path: usize) -> Worst {
+    Worst { parts, path, runs_away: false }
+}
+
+/// More pairs of an object and a place in the path than any table has room for.
+const fn running_away(parts: fn() -> Vec<usize>, path: usize) -> Worst {
+    Worst { parts, path, runs_away: true }
+}
+
+const FILES: [Worst; 11] = [
+    file(|| up_to(3), 60),
+    file(|| up_to(3), 93),
+    file(|| up_to(8), 200),
+    file(|| up_to(20), 500),
+    file(|| up_to(40), 1_000),
+    file(|| vec![1, 4, 16, 64], LEVELS * 64),
+    file(|| vec![1, 6, 36, 216], LEVELS * 216),
+    file(|| vec![1, 20, 333], LEVELS * 333),
+    running_away(|| up_to(100), 3_000),
+    running_away(|| vec![1, 12, 144, 1_728], LEVELS * 1_728),
+    running_away(|| vec![1, 8, 64, 512, 4_096], LEVELS * 4_096),
 ];
 
 fn up_to(most: usize) -> Vec<usize> {
@@ -40,13 +48,22 @@ fn up_to(most: usize) -> Vec<usize> {
 }
 
 impl Worst {
+    /// The lengths of its names.
+    fn told(&self) -> String {
+        let parts = (self.parts)();
+        if parts.len() > 5 || parts == up_to(parts.len()) {
+            return format!("1 to {}", parts.len());
+        }
+        parts.iter().map(usize::to_string).collect::<Vec<_>>().join(", ")
+    }
+
     /// The file, and the node that is asked: `context.a.a. .. .b == 1`.
     fn made(&self) -> (Tables, u32) {
         let mut builder = Builder::new(0);
         let names: Vec<String> = (self.parts)().into_iter().map(|many| vec!["a"; many].join(".")).collect();
         let one = builder.int(1);
         let mut object = one;
-        for _ in 0..self.objects {
+        for _ in 0..LEVELS {
             let members: Vec<(&str, u32)> = names.iter().map(|name| (name.as_str(), object)).collect();
             object = builder.object(&members);
         }
@@ -72,22 +89,23 @@ impl Worst {
     }
 }
 
-/// The time of one question for each file, or for the one of this number.
+/// The time of one question for each file that is made to end, or for the one of this number.
 pub fn print_table(only: Option<usize>) -> Result<bool, String> {
-    println!("| file | bytes | one question |");
-    println!("|---|---|---|");
-    for (_, file) in FILES.iter().enumerate().filter(|(k, _)| only.is_none_or(|only| only == *k)) {
+    println!("| names of so many parts | path | bytes | one question |");
+    println!("|---|---|---|---|");
+    let wanted = |k: usize, file: &Worst| only.map_or(!file.runs_away, |only| only == k);
+    for (_, file) in FILES.iter().enumerate().filter(|(k, file)| wanted(*k, file)) {
         let (tables, node) = file.made();
         let bytes = tables.encode();
-        let length = bytes.len();
-        let case = Case::new(bytes).map_err(|refusal| format!("{}: {refusal}", file.name))?;
+        let (told, path, length) = (file.told(), file.path + 1, bytes.len());
+        let case = Case::new(bytes).map_err(|refusal| format!("{told}: {refusal}"))?;
         let limits = Limits { steps: 1, room: 0 };
         let ask = || case.ask(PointNo(0), RuleNo(node), &Bindings::new(), limits);
         match ask() {
             Ok(answer) if answer.value == Answer::Verdict(false) => {}
-            other => return Err(format!("{}: {other:?}, not no", file.name)),
+            other => return Err(format!("{told}: {other:?}, not no")),
         }
-        println!("| {} | {length} | {} |", file.name, shown(by_itself(|| black_box(ask()))));
+        println!("| {told} | {path} | {length} | {} |", shown(by_itself(|| black_box(ask()))));
     }
     Ok(true)
 }

@@ -14,7 +14,7 @@ use model::{Model, Variant};
 const USAGE: &str = "usage: oracle compare N SEED    put N questions to the model and to the Rust
        oracle compare N SEED dots   the same, of cases with dots in their names alone
        oracle carried N SEED     the same of request #106, beside single verdicts of the Rust
-       oracle examples           ask E1 to E12, the sample and the counted examples of both
+       oracle examples           ask E1 to E13, the sample and the counted examples of both
        oracle variants SEED [X]  catch every wrong variant of the model whose name begins with X
        oracle lists              write data/*.bin again, byte for byte";
 

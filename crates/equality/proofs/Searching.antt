@@ -184,10 +184,10 @@ sought-end {s} {t} {path} {from} {w} {v} c k e f =
     record { kept = k; found = sym (ap (search (caseOf s) (v .0)) (rest-shut s path from (omega arith)) ∙ search-ends s c (v .0)) }
 
 -- what is known to lead nowhere
-pub sought-known : {s t : List ℕ} {path : Run} (v from key : ℕ) (r : Bool) → Failed s path t → r ≡ eqb (getD t (key % 1933) 0) key → r ≡ true → key ≡ keyOf v from → from < 4294967295 → Sought s path t v from Nothing
+pub sought-known : {s t : List ℕ} {path : Run} (v from key : ℕ) (r : Bool) → Failed s path t → r ≡ eqb (getD t (key % 3989) 0) key → r ≡ true → key ≡ keyOf v from → from < 4294967295 → Sought s path t v from Nothing
 unfolding foundAt
 sought-known v from key r k er e ek small =
-    record { kept = k; found = sym (k .nowhere (key % 1933) v from (omega arith) (eqb-true _ _ (sym er ∙ e) ∙ ek)) }
+    record { kept = k; found = sym (k .nowhere (key % 3989) v from (omega arith) (eqb-true _ _ (sym er ∙ e) ∙ ek)) }
 
 -- what was found, and what was not
 pub sought-same : {s t : List ℕ} {path : Run} {v from : ℕ} {found : Found} (u : ValNo) → Sought s path t v from found → found ≡ At u → Sought s path t v from (At u)
@@ -308,14 +308,14 @@ nothing-kept zero j = refl
 nothing-kept (suc n) zero = refl
 nothing-kept (suc n) (suc j) = nothing-kept n j
 
-pub failed-none : {s : List ℕ} {path : Run} → Failed s path (replicate {A = ℕ} 1933 0)
-failed-none = record { size = length-replicate {A = ℕ} 1933 0; nowhere = λ j v i h e. absurd (omega (arith, nothing-kept 1933 j, e)) }
+pub failed-none : {s : List ℕ} {path : Run} → Failed s path (replicate {A = ℕ} 3989 0)
+failed-none = record { size = length-replicate {A = ℕ} 3989 0; nowhere = λ j v i h e. absurd (omega (arith, nothing-kept 3989 j, e)) }
 
 missed : {s t : List ℕ} {path : Run} {v from : ℕ} → Missed s path t v from → search (caseOf s) v (rest s path from) ≡ none
 unfolding foundAt
 missed o = sym (o .found)
 
-pub noted : (s t : List ℕ) (path : Run) (v from key at : ℕ) → Missed s path t v from → from < 4294967295 → key ≡ keyOf v from → at ≡ key % 1933 → Missed s path (set t at key) v from
+pub noted : (s t : List ℕ) (path : Run) (v from key at : ℕ) → Missed s path t v from → from < 4294967295 → key ≡ keyOf v from → at ≡ key % 3989 → Missed s path (set t at key) v from
 noted s t path v from key at o small ek ea =
     record { kept = record { size = length-set t at key ∙ o .kept .size; nowhere = λ j u i h q. go j u i h q (eqb j at) refl }; found = o .found }
   where
@@ -500,5 +500,5 @@ pub string-behind : (s : List ℕ) (n size : ℕ) (r : Bool) (x y : List ℕ) �
 unfolding mayJoin
 string-behind s n size r x y ne q h ex ey er = er ∙ rw (ex, ey) refl ∙ sym (after (lt-ltb (n + 1) (strings s) (omega (arith, q))))
 
-pub known-is : (t : List ℕ) (at key : ℕ) → at ≡ key % 1933 → eqb (getD t at 0) key ≡ eqb (getD t (key % 1933) 0) key
+pub known-is : (t : List ℕ) (at key : ℕ) → at ≡ key % 3989 → eqb (getD t at 0) key ≡ eqb (getD t (key % 3989) 0) key
 known-is t at key e = ap (λ (i : ℕ). eqb (getD t i 0) key) e

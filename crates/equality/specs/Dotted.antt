@@ -84,7 +84,7 @@ keyOf v i = 1 + i + 4294967296 * v
 
 -- what is kept led nowhere
 pub record Failed (s : List ℕ) (path : Run) (t : List ℕ) : Type 0 where
-  pub size : length t ≡ 1933
+  pub size : length t ≡ 3989
   pub nowhere : (j v i : ℕ) → i < 4294967296 → getD t j 0 ≡ keyOf v i → search (caseOf s) v (rest s path i) ≡ none
 
 -- a search by the names from `from` on, some of which are left, may begin

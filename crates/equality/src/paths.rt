@@ -192,15 +192,15 @@ fn key_of(v: ValNo, from: usize) -> u64
 }
 
 fn place_of(key: u64) -> usize
-    ensures { λ r. ⌜ r ≡ key % 1933 ⌝ }
+    ensures { λ r. ⌜ r ≡ key % 3989 ⌝ }
 {
-    (key % 1933) as usize
+    (key % 3989) as usize
 }
 
 // whether this led nowhere before
 fn known(failed: &[u64], key: u64) -> bool
-    requires { ⌜ length (now failed) ≡ 1933 ⌝ }
-    ensures { λ r. ⌜ _≡_ {A = Bool} r (eqb (getD (now (failed .entry)) (key % 1933) 0) key) ⌝ }
+    requires { ⌜ length (now failed) ≡ 3989 ⌝ }
+    ensures { λ r. ⌜ _≡_ {A = Bool} r (eqb (getD (now (failed .entry)) (key % 3989) 0) key) ⌝ }
 {
     let at = place_of(key);
     failed[at] == key
@@ -284,7 +284,7 @@ fn look_far(s: &[u8], path: Run, v: ValNo, from: usize) -> Found
     requires { ⌜ from ≤ path .count ⌝ }
     ensures { λ r. ⌜ foundAt r ≡ search (caseOf (now (s .entry))) (v .0) (rest (now (s .entry)) path from) ⌝ }
 {
-    let mut failed: [u64; 1933] = [0; 1933];
+    let mut failed: [u64; 3989] = [0; 3989];
     look(s, &mut failed, path, v, from)
 }
 

@@ -26,8 +26,8 @@ use Rattle.meaning.specs.Laws.Searched.{context-path, scope-path}
 use Rattle.matching.specs.Laws.{shape-is}
 
 -- a node of a checked case has a path without dots
-pub stands : {s : List ℕ} {nd : Node} {n : ℕ} → nd ≡ nodeAt s n → Standing s nd
-stands {n = n} e = record { number = n; is = e }
+pub stands : {s : List ℕ} {nd : Node} (n : ℕ) → nd ≡ nodeAt s n → Standing s nd
+stands n e = record { number = n; is = e }
 
 pub path-of-context : {s : List ℕ} {nd : Node} {path : Run} → Checked s → Standing s nd → nd ≡ Context path → pathRun s (path .first) (path .count) ≡ true
 path-of-context {path = path} c o e = context-path c (o .number) path (sym (o .is) ∙ e)

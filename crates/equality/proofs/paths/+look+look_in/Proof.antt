@@ -90,7 +90,7 @@ look-returns-4 : (t : ℕ) → look-lts.Need-returns-4 (look-claims t) (look-at 
 look-returns-4 t c = search needs
 
 abbrev look-in-Inv-loop : look-in-lts.InvT-loop
-look-in-Inv-loop s failed₀ path from first m₀ failed m = Seeking s path failed from first m₀ m × (length failed₀ ≡ 1933)
+look-in-Inv-loop s failed₀ path from first m₀ failed m = Seeking s path failed from first m₀ m × (length failed₀ ≡ 3989)
 
 abbrev look-in-μ-loop : look-in-lts.MeasureT-loop
 look-in-μ-loop s failed₀ path from first m₀ failed m = m - first

@@ -88,28 +88,28 @@ returns-3 : tie.Need-returns-3
 returns-3 c = search (refused, three, said, denied, needs)
 
 check-values-requires : tie.Need-check-values-requires
-check-values-requires c κs = search (said, needs)
+check-values-requires c κs = ((said _ _ (c .before .before .before .before .before .check-bodies .ensures) (c .before .before .before .before .if1 .left)), (said _ _ (c .before .before .before .check-mosts .ensures) (c .before .before .if2 .left)))
 
 returns-4 : tie.Need-returns-4
 returns-4 c = search (refused, four, said, denied, needs)
 
 list-tops-requires : tie.Need-list-tops-requires
-list-tops-requires c κs = search (said, needs)
+list-tops-requires c κs = ((said _ _ (c .before .before .before .before .before .before .before .check-bodies .ensures) (c .before .before .before .before .before .before .if1 .left)), (said _ _ (c .before .before .before .before .before .check-mosts .ensures) (c .before .before .before .before .if2 .left)))
 
 check-points-requires : tie.Need-check-points-requires
-check-points-requires c κs = search (said, placed, needs)
+check-points-requires c κs = (said _ _ (c .before .before .before .before .before .before .before .before .before .check-bodies .ensures) (c .before .before .before .before .before .before .before .before .if1 .left), (said _ _ (c .before .before .before .before .before .before .before .check-mosts .ensures) (c .before .before .before .before .before .before .if2 .left), (placed _ (said _ _ (c .before .before .before .before .before .check-strings .ensures) (c .before .before .before .before .if3 .left)), (c .before .list-tops .ensures))))
 
 returns-5 : tie.Need-returns-5
 returns-5 c = search (refused, five, said, denied, needs)
 
 free-strings-requires : tie.Need-free-strings-requires
-free-strings-requires c κs = search (said, placed, needs)
+free-strings-requires c κs = (said _ _ (c .before .before .before .before .before .before .before .before .before .before .before .check-bodies .ensures) (c .before .before .before .before .before .before .before .before .before .before .if1 .left), (said _ _ (c .before .before .before .before .before .before .before .before .before .check-mosts .ensures) (c .before .before .before .before .before .before .before .before .if2 .left), placed _ (said _ _ (c .before .before .before .before .before .before .before .check-strings .ensures) (c .before .before .before .before .before .before .if3 .left))))
 
 path-blocks-requires : tie.Need-path-blocks-requires
 path-blocks-requires c κs = search (said, needs)
 
 check-nodes-requires : tie.Need-check-nodes-requires
-check-nodes-requires c κs = search (said, each, needs)
+check-nodes-requires c κs = (said _ _ (c .before .before .before .before .before .before .before .before .before .before .before .before .before .before .before .before .before .check-bodies .ensures) (c .before .before .before .before .before .before .before .before .before .before .before .before .before .before .before .before .if1 .left), (said _ _ (c .before .before .before .before .before .before .before .before .before .before .before .before .before .before .before .check-mosts .ensures) (c .before .before .before .before .before .before .before .before .before .before .before .before .before .before .if2 .left), (each _ (said _ _ (c .before .before .before .before .before .before .before .before .before .before .before .check-values .ensures) (c .before .before .before .before .before .before .before .before .before .before .if4 .left)), ((c .before .before .before .before .before .before .before .before .before .list-tops .ensures), ((c .before .before .before .before .before .free-strings .ensures), (c .before .before .before .path-blocks .ensures))))))
 
 returns-6 : tie.Need-returns-6
 returns-6 c = search (refused, six, said, denied, needs)

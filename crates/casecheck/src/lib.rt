@@ -67,10 +67,10 @@ pub fn check(file: &[u8]) -> Checking
         return Checking::Refused(Refusal::BadValues);
     }
     let tops = list_tops(file);
-    let undotted = free_strings(file, 46);
-    if !check_points(file, &tops, &undotted) {
+    if !check_points(file, &tops) {
         return Checking::Refused(Refusal::BadPoints);
     }
+    let undotted = free_strings(file, 46);
     let paths = path_blocks(file, &undotted);
     if !check_nodes(file, &tops, &undotted, &paths) {
         return Checking::Refused(Refusal::BadNodes);

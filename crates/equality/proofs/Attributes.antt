@@ -15,7 +15,7 @@ use Rattle.meaning.specs.declared.ValNo.{ValNo}
 use Rattle.meaning.specs.Tests.{_and_, pick, orElse, onlyIf}
 use Rattle.meaning.specs.Case.{Part, Point, Attributes, maybe, text, valueWord, pointWord, valueAt, valueFrom, partAt, pointAt, entityAt, places, list, caseOf}
 use Rattle.meaning.specs.Equal.{Bound, sameList, boundOf, part}
-use Rattle.meaning.specs.Look.{descend, boundAt, attributesOf, ownPart, supplied, entityOf, attribute, fromRoot, rootOf, scopeAt}
+use Rattle.meaning.specs.Look.{lookup, boundAt, attributesOf, ownPart, supplied, entityOf, attribute, fromRoot, rootOf, scopeAt}
 use Rattle.meaning.specs.Rows.{inCells}
 use Rattle.meaning.specs.Meaning.{names}
 use Rattle.meaning.specs.Laws.Tests.{stop, skip, after}
@@ -161,7 +161,7 @@ module _ (s : List ℕ) (object : Found) (o : Option ℕ) (path : List ℕ) (eo 
   unfolding supplied foundAt inCells pick
   supplied-none e = let z : o ≡ none = sym eo ∙ ap foundAt e in rw z refl
 
-  pub supplied-found : (v : ValNo) (found : Found) (tag bits : ℕ) → object ≡ At v → foundAt found ≡ descend (caseOf s) (v .0) path → inCells tag bits ≡ boundAt (caseOf s) (foundAt found) → inCells tag bits ≡ supplied (caseOf s) o path
+  pub supplied-found : (v : ValNo) (found : Found) (tag bits : ℕ) → object ≡ At v → foundAt found ≡ lookup (caseOf s) (v .0) path → inCells tag bits ≡ boundAt (caseOf s) (foundAt found) → inCells tag bits ≡ supplied (caseOf s) o path
   unfolding supplied foundAt
   supplied-found v found tag bits ev ef h = let z : o ≡ some (v .0) = sym eo ∙ ap foundAt ev in h ∙ rw (z, ef) refl
 

@@ -8,5 +8,7 @@ pub mod Cells
 pub mod Rising
 pub mod Members
 pub mod Reach
+pub mod Dotted
+pub mod Searching
 pub mod Attributes
 pub mod Hashing

@@ -24,7 +24,7 @@ use Rattle.equality.proofs.Rising.{numbers-rise}
 
 -- ---- what is no object
 
-no-members : (part : ℕ → Part) (k a b : ℕ) → (k ≡ 7 → ⊥) → members (valueFrom part k a b) ≡ []
+pub no-members : (part : ℕ → Part) (k a b : ℕ) → (k ≡ 7 → ⊥) → members (valueFrom part k a b) ≡ []
 unfolding members valueFrom pick
 no-members part zero a b h = refl
 no-members part (suc zero) a b h = refl
@@ -97,7 +97,7 @@ module _ {s : List ℕ} (c : Checked s) (v : ℕ) (e : valueWord s v 0 ≡ 7) wh
 
 -- ---- a name in a part of a run
 
-abbrev part : List ℕ → ℕ → ℕ → List Part
+abbrev pub part : List ℕ → ℕ → ℕ → List Part
 part s at left = map (partAt s) (places at 1 left)
 
 module _ (s : List ℕ) (n : ℕ) where
@@ -134,7 +134,7 @@ pub record Among (s : List ℕ) (n table first count at left : ℕ) : Type 0 whe
 
 -- object v by the words that the code has of it: its kind, where its run starts, how many members it has
 module _ (s : List ℕ) (v kind x y first count : ℕ) (ef : first ≡ x) (ex : x ≡ valueWord s v 1) (ec : count ≡ y) (ey : y ≡ valueWord s v 2) (ek : kind ≡ valueWord s v 0) (e : kind ≡ 7) where
-  members-are : members (valueAt s v) ≡ part s first count
+  pub members-are : members (valueAt s v) ≡ part s first count
   unfolding members valueFrom pick
   members-are = ap members (value-as s v 7 kind first count ek (ef ∙ ex) (ec ∙ ey) e)
 

@@ -12,7 +12,7 @@ use Rattle.meaning.specs.declared.ValNo.{ValNo}
 use Rattle.meaning.specs.Tests.{_and_, pick}
 use Rattle.meaning.specs.Case.{pointWord, valueAt, pointAt, places, run, runOf, list, caseOf}
 use Rattle.meaning.specs.Equal.{sameList, boundOf}
-use Rattle.meaning.specs.Look.{named, members, descend, boundAt, fieldAt, contextAt}
+use Rattle.meaning.specs.Look.{named, members, descend, lookup, boundAt, fieldAt, contextAt}
 use Rattle.meaning.specs.Rows.{inCells}
 use Rattle.meaning.specs.Meaning.{names, sameEvent}
 use Rattle.meaning.specs.Laws.Tests.{stop, skip, pass, after}
@@ -83,6 +83,7 @@ module _ (s : List ℕ) (found : Found) (tag bits : ℕ) where
     unfolding fieldAt pointAt
     field-is e = h ∙ ap (boundAt (caseOf s)) ef ∙ rw e refl
 
+  module _ (p v : ℕ) (path : Run) (ef : foundAt found ≡ lookup (caseOf s) v (names (caseOf s) path)) (h : inCells tag bits ≡ boundAt (caseOf s) (foundAt found)) where
     pub context-is : v ≡ pointWord s p 7 → inCells tag bits ≡ contextAt (caseOf s) (pointAt s p) (names (caseOf s) path)
     unfolding contextAt pointAt
     context-is e = h ∙ ap (boundAt (caseOf s)) ef ∙ rw e refl

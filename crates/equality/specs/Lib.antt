@@ -2,5 +2,6 @@ pub mod Numbers
 pub mod Decimals
 pub mod Cells
 pub mod Paths
+pub mod Dotted
 pub mod Hashes
 pub mod Joined

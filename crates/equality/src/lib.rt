@@ -36,6 +36,19 @@ pub enum Found {
     Nothing,
 }
 
+// what is behind a name in a text: the end, a dot and the byte after it, or something else
+enum After {
+    End,
+    Dot(usize),
+    Other,
+}
+
+// a run of members: the first one's number, and the one after the last's
+struct Span {
+    first: usize,
+    end: usize,
+}
+
 // what two values show at once: the answer, or two runs of n members from p and from q on
 struct Heads {
     known: bool,

@@ -1,5 +1,7 @@
 // What a path of names reaches: in an object, at a point's logged fields and context, from principal and resource.
+use crate::After;
 use crate::Found;
+use crate::Span;
 use crate::values::binding_of;
 use crate::values::both;
 use crate::values::long;
@@ -9,6 +11,7 @@ use meaning::Run;
 use meaning::StrNo;
 use meaning::ValNo;
 use tables::list_at;
+use tables::member_word;
 use tables::offset_of;
 use tables::point_word;
 use tables::value_word;
@@ -18,14 +21,19 @@ ghost use mathlib.Core.Path.{_≡_};
 ghost use mathlib.Core.Bool.{Bool, true};
 ghost use mathlib.Core.List.{[], _∷_};
 ghost use mathlib.Core.Option.{some};
+ghost use Prim.Native.Nat.{_+_, _<_, _≤_, _%_};
+ghost use lib.Dec.{eqb};
+ghost use lib.ListN.{length, getD, drop};
 ghost use Rattle.meaning.specs.Tests.{orElse};
-ghost use Rattle.meaning.specs.Case.{caseOf, valueAt, pointAt, runOf, list, maybe};
-ghost use Rattle.meaning.specs.Check.{bodies, Checked};
+ghost use Rattle.meaning.specs.Case.{caseOf, valueAt, pointAt, runOf, list, maybe, strings, text};
+ghost use Rattle.meaning.specs.Check.{bodies, Checked, pathRun};
 ghost use Rattle.meaning.specs.Equal.{sameList};
-ghost use Rattle.meaning.specs.Look.{named, members, descend, boundAt, attributesOf, ownPart, supplied as suppliedAt, fromRoot, rootOf, fieldAt, contextAt, scopeAt};
+ghost use Rattle.meaning.specs.Look.{named, members, descend, lookup, boundAt, attributesOf, ownPart, supplied as suppliedAt, fromRoot, rootOf, fieldAt, contextAt, scopeAt};
 ghost use Rattle.meaning.specs.Rows.{inCells};
 ghost use Rattle.meaning.specs.Meaning.{names, sameEvent};
+ghost use Rattle.meaning.specs.Laws.Search.{search};
 ghost use Rattle.equality.specs.Paths.{foundAt};
+ghost use Rattle.equality.specs.Dotted.{rest, begins, joins, Behind, goesOn, mayJoin, keyOf, Failed, Ready, Spans, Sought, Missed};
 
 // ---- objects
 
@@ -85,6 +93,235 @@ pub fn path_descend(s: &[u8], v: ValNo, path: Run) -> Found
     Found::At(at)
 }
 
+// ---- names with dots: what a path gives in context and attributes
+
+// whether t has the name from byte `at` on
+fn stands_at(t: &[u8], at: usize, name: &[u8]) -> bool
+    requires { ⌜ at ≤ length (now t) ⌝ }
+    ensures { λ r. ⌜ _≡_ {A = Bool} r (begins (now (name .entry)) (drop at (now (t .entry)))) ⌝ }
+{
+    if t.len() - at < name.len() {
+        return false;
+    }
+    let mut i = 0;
+    while i < name.len() {
+        if t[at + i] != name[i] {
+            return false;
+        }
+        i += 1;
+    }
+    true
+}
+
+// what is behind a name that stands at byte `at` of t
+fn behind_name(t: &[u8], at: usize, name: &[u8]) -> After
+    requires { ⌜ at ≤ length (now t) ⌝ }
+    ensures { λ r. ⌜ Behind (now (t .entry)) at (now (name .entry)) r ⌝ }
+{
+    if !stands_at(t, at, name) {
+        return After::Other;
+    }
+    let end = at + name.len();
+    if end == t.len() {
+        return After::End;
+    }
+    if t[end] != b'.' {
+        return After::Other;
+    }
+    After::Dot(end + 1)
+}
+
+// how many of the path's names from `from` on string n joins by dots, 0 where it joins none
+fn names_joined(s: &[u8], n: StrNo, path: Run, from: usize) -> usize
+    requires { ⌜ Checked (now s) ⌝ }
+    requires { ⌜ from ≤ path .count ⌝ }
+    ensures { λ r. ⌜ r ≡ joins (caseOf (now (s .entry))) (text (now (s .entry)) (n .0)) (rest (now (s .entry)) path from) ⌝ }
+    ensures { λ r. ⌜ from + r ≤ path .count ⌝ }
+{
+    let first = wide(path.first) + from;
+    let left = wide(path.count) - from;
+    let mut at = 0;
+    let mut k = 0;
+    while k < left {
+        let name = list_at(s, first + k);
+        k += 1;
+        let behind = behind_name(tables::text_of(s, n), at, tables::text_of(s, StrNo(name)));
+        match behind {
+            After::End => return k,
+            After::Dot(next) => at = next,
+            After::Other => return 0,
+        }
+    }
+    0
+}
+
+fn goes_on(name: &[u8], t: &[u8]) -> bool
+    ensures { λ r. ⌜ _≡_ {A = Bool} r (goesOn (now (name .entry)) (now (t .entry))) ⌝ }
+{
+    let end = name.len();
+    if t.len() <= end {
+        return false;
+    }
+    if b'.' < t[end] {
+        return false;
+    }
+    stands_at(t, 0, name)
+}
+
+// whether a string may begin with string n and a dot: then the one behind n in their order goes on so
+fn may_join(s: &[u8], n: StrNo) -> bool
+    requires { ⌜ Checked (now s) ⌝ }
+    requires { ⌜ n .0 < strings (now s) ⌝ }
+    ensures { λ r. ⌜ _≡_ {A = Bool} r (mayJoin (now (s .entry)) (n .0)) ⌝ }
+{
+    let count = tables::size_of(s, 0) / 8;
+    let next = n.0 + 1;
+    if count == next {
+        return false;
+    }
+    goes_on(tables::text_of(s, n), tables::text_of(s, StrNo(next)))
+}
+
+// the number that value v with the names from `from` on is kept by
+fn key_of(v: ValNo, from: usize) -> u64
+    requires { ⌜ from < 4294967295 ⌝ }
+    ensures { λ r. ⌜ r ≡ keyOf (v .0) from ⌝ }
+    ensures { λ _. ⌜ from < 4294967295 ⌝ }
+{
+    1 + (from as u64) + 4294967296 * long(v.0)
+}
+
+fn place_of(key: u64) -> usize
+    ensures { λ r. ⌜ r ≡ key % 3989 ⌝ }
+{
+    (key % 3989) as usize
+}
+
+// whether this led nowhere before
+fn known(failed: &[u64], key: u64) -> bool
+    requires { ⌜ length (now failed) ≡ 3989 ⌝ }
+    ensures { λ r. ⌜ _≡_ {A = Bool} r (eqb (getD (now (failed .entry)) (key % 3989) 0) key) ⌝ }
+{
+    let at = place_of(key);
+    failed[at] == key
+}
+
+// it led nowhere; what was kept in its place is forgotten
+fn note(s: &[u8], failed: &mut [u64], path: Run, v: ValNo, from: usize)
+    requires { ⌜ Missed (now s) path (now failed) (v .0) from ⌝ }
+    requires { ⌜ from < 4294967295 ⌝ }
+    ensures { λ _. ⌜ Missed (now (s .entry)) path (now (failed .exit)) (v .0) from ⌝ }
+{
+    let key = key_of(v, from);
+    let at = place_of(key);
+    failed[at] = key;
+}
+
+// what is no object has no members
+fn members_of(s: &[u8], v: ValNo) -> Span
+    requires { ⌜ Checked (now s) ⌝ }
+    ensures { λ r. ⌜ Spans (now (s .entry)) (v .0) r ⌝ }
+{
+    if value_word(s, v, 0) != 7 {
+        return Span { first: 0, end: 0 };
+    }
+    let first = wide(value_word(s, v, 1));
+    let end = first + wide(value_word(s, v, 2));
+    Span { first, end }
+}
+
+// from value v by the names from `from` on; what leads nowhere is kept
+fn look(s: &[u8], failed: &mut [u64], path: Run, v: ValNo, from: usize) -> Found
+    requires { ⌜ Checked (now s) ⌝ }
+    requires { ⌜ Failed (now s) path (now failed) ⌝ }
+    requires { ⌜ from ≤ path .count ⌝ }
+    ensures { λ r. ⌜ Sought (now (s .entry)) path (now (failed .exit)) (v .0) from r ⌝ }
+{
+    if from == wide(path.count) {
+        return Found::At(v);
+    }
+    if known(failed, key_of(v, from)) {
+        return Found::Nothing;
+    }
+    let found = look_in(s, failed, path, v, from);
+    match found {
+        Found::At(u) => Found::At(u),
+        Found::Nothing => {
+            note(s, failed, path, v, from);
+            Found::Nothing
+        }
+    }
+}
+
+// the last member that leads to the path's end
+fn look_in(s: &[u8], failed: &mut [u64], path: Run, v: ValNo, from: usize) -> Found
+    requires { ⌜ Ready (now s) path (now failed) from ⌝ }
+    ensures { λ r. ⌜ Sought (now (s .entry)) path (now (failed .exit)) (v .0) from r ⌝ }
+{
+    let run = members_of(s, v);
+    let first = run.first;
+    let mut m = run.end;
+    while first < m {
+        m -= 1;
+        let name = member_word(s, m, 0);
+        let k = names_joined(s, StrNo(name), path, from);
+        if k == 0 {
+            continue;
+        }
+        let u = member_word(s, m, 1);
+        let found = look(s, failed, path, ValNo(u), from + k);
+        match found {
+            Found::At(w) => return Found::At(w),
+            Found::Nothing => {}
+        }
+    }
+    Found::Nothing
+}
+
+// the table is large: the caller calls itself, so that it is not compiled into the caller's frame
+fn look_far(s: &[u8], path: Run, v: ValNo, from: usize) -> Found
+    requires { ⌜ Checked (now s) ⌝ }
+    requires { ⌜ from ≤ path .count ⌝ }
+    ensures { λ r. ⌜ foundAt r ≡ search (caseOf (now (s .entry))) (v .0) (rest (now (s .entry)) path from) ⌝ }
+{
+    let mut failed: [u64; 3989] = [0; 3989];
+    look(s, &mut failed, path, v, from)
+}
+
+// the same, name by name as long as no string joins a name with the next
+fn look_from(s: &[u8], path: Run, v: ValNo, from: usize) -> Found
+    requires { ⌜ Checked (now s) ⌝ }
+    requires { ⌜ pathRun (now s) (path .first) (path .count) ≡ true ⌝ }
+    requires { ⌜ from ≤ path .count ⌝ }
+    ensures { λ r. ⌜ foundAt r ≡ search (caseOf (now (s .entry))) (v .0) (rest (now (s .entry)) path from) ⌝ }
+{
+    if from == wide(path.count) {
+        return Found::At(v);
+    }
+    let name = list_at(s, wide(path.first) + from);
+    if may_join(s, StrNo(name)) {
+        return look_far(s, path, v, from);
+    }
+    let found = member_named(s, v, StrNo(name));
+    match found {
+        Found::At(u) => look_from(s, path, u, from + 1),
+        Found::Nothing => Found::Nothing,
+    }
+}
+
+// the value that a path gives in value v; one name joins nothing
+fn path_lookup(s: &[u8], v: ValNo, path: Run) -> Found
+    requires { ⌜ Checked (now s) ⌝ }
+    requires { ⌜ pathRun (now s) (path .first) (path .count) ≡ true ⌝ }
+    ensures { λ r. ⌜ foundAt r ≡ lookup (caseOf (now (s .entry))) (v .0) (names (caseOf (now (s .entry))) path) ⌝ }
+{
+    if path.count == 1 {
+        let name = list_at(s, wide(path.first));
+        return member_named(s, v, StrNo(name));
+    }
+    look_from(s, path, v, 0)
+}
+
 fn binding_found(s: &[u8], found: Found) -> Binding
     requires { ⌜ Checked (now s) ⌝ }
     ensures { λ r. ⌜ inCells (r .tag) (r .bits) ≡ boundAt (caseOf (now (s .entry))) (foundAt found) ⌝ }
@@ -108,10 +345,11 @@ pub fn field_at(s: &[u8], p: usize, path: Run) -> Binding
 
 pub fn context_at(s: &[u8], p: usize, path: Run) -> Binding
     requires { ⌜ Checked (now s) ⌝ }
+    requires { ⌜ pathRun (now s) (path .first) (path .count) ≡ true ⌝ }
     ensures { λ r. ⌜ inCells (r .tag) (r .bits) ≡ contextAt (caseOf (now (s .entry))) (pointAt (now (s .entry)) p) (names (caseOf (now (s .entry))) path) ⌝ }
 {
     let v = point_word(s, p, 7);
-    let found = path_descend(s, ValNo(v), path);
+    let found = path_lookup(s, ValNo(v), path);
     binding_found(s, found)
 }
 
@@ -191,12 +429,13 @@ fn own_part(s: &[u8], t: StrNo, i: StrNo, path: Run) -> Binding
 // what a path reaches in the attributes that point p has of an entity
 fn supplied(s: &[u8], p: usize, t: StrNo, i: StrNo, path: Run) -> Binding
     requires { ⌜ Checked (now s) ⌝ }
+    requires { ⌜ pathRun (now s) (path .first) (path .count) ≡ true ⌝ }
     ensures { λ r. ⌜ inCells (r .tag) (r .bits) ≡ suppliedAt (caseOf (now (s .entry))) (attributesOf (t .0) (i .0) (pointAt (now (s .entry)) p .entities)) (names (caseOf (now (s .entry))) path) ⌝ }
 {
     let object = attributes_of(s, p, t, i);
     match object {
         Found::At(v) => {
-            let found = path_descend(s, v, path);
+            let found = path_lookup(s, v, path);
             binding_found(s, found)
         }
         Found::Nothing => Binding { tag: 0, bits: 0 },
@@ -219,6 +458,7 @@ fn or_else(a: Binding, b: Binding) -> Binding
 // a supplied attribute wins
 fn resolve_entity_attr(s: &[u8], p: usize, t: StrNo, i: StrNo, path: Run) -> Binding
     requires { ⌜ Checked (now s) ⌝ }
+    requires { ⌜ pathRun (now s) (path .first) (path .count) ≡ true ⌝ }
     ensures { λ r. ⌜ inCells (r .tag) (r .bits) ≡ orElse (suppliedAt (caseOf (now (s .entry))) (attributesOf (t .0) (i .0) (pointAt (now (s .entry)) p .entities)) (names (caseOf (now (s .entry))) path)) (ownPart (caseOf (now (s .entry))) (t .0) (i .0) (names (caseOf (now (s .entry))) path)) ⌝ }
 {
     let given = supplied(s, p, t, i, path);
@@ -229,6 +469,7 @@ fn resolve_entity_attr(s: &[u8], p: usize, t: StrNo, i: StrNo, path: Run) -> Bin
 // what a path reaches from a root that is there
 fn from_value(s: &[u8], p: usize, v: ValNo, path: Run) -> Binding
     requires { ⌜ Checked (now s) ⌝ }
+    requires { ⌜ pathRun (now s) (path .first) (path .count) ≡ true ⌝ }
     ensures { λ r. ⌜ inCells (r .tag) (r .bits) ≡ fromRoot (caseOf (now (s .entry))) (pointAt (now (s .entry)) p) (some (v .0)) (names (caseOf (now (s .entry))) path) ⌝ }
 {
     if path.count == 0 {
@@ -254,6 +495,7 @@ fn root_word(s: &[u8], p: usize, root: Root) -> u32
 
 pub fn scope_at(s: &[u8], p: usize, root: Root, path: Run) -> Binding
     requires { ⌜ Checked (now s) ⌝ }
+    requires { ⌜ pathRun (now s) (path .first) (path .count) ≡ true ⌝ }
     ensures { λ r. ⌜ inCells (r .tag) (r .bits) ≡ scopeAt (caseOf (now (s .entry))) (pointAt (now (s .entry)) p) root (names (caseOf (now (s .entry))) path) ⌝ }
 {
     let v = root_word(s, p, root);

@@ -14,15 +14,26 @@ use Rattle.meaning.specs.declared.Root.{Root}
 use Rattle.meaning.specs.declared.Run.{Run}
 use Rattle.meaning.specs.declared.ValNo.{ValNo}
 use Rattle.meaning.specs.Tests.{pick, isSome, onlyIf}
-use Rattle.meaning.specs.Check.{Checked}
+use Rattle.meaning.specs.Check.{Checked, pathRun}
 use Rattle.meaning.specs.Case.{pointAt, valueAt, nodeAt, caseOf}
 use Rattle.meaning.specs.Equal.{Bound, boundOf}
 use Rattle.meaning.specs.Look.{contextAt, scopeAt}
 use Rattle.meaning.specs.Rows.{at, rowOf, inCells}
 use Rattle.meaning.specs.Meaning.{Question, names, unbound}
 use Rattle.matching.specs.declared.Variable.the-variants.{Is, Not as NotAny}
-use Rattle.matching.specs.Asking.{asking, leafValue, shapeOf, unboundAt, variableOf}
+use Rattle.matching.specs.Asking.{Standing, asking, leafValue, shapeOf, unboundAt, variableOf}
+use Rattle.meaning.specs.Laws.Searched.{context-path, scope-path}
 use Rattle.matching.specs.Laws.{shape-is}
+
+-- a node of a checked case has a path without dots
+pub stands : {s : List ℕ} {nd : Node} (n : ℕ) → nd ≡ nodeAt s n → Standing s nd
+stands n e = record { number = n; is = e }
+
+pub path-of-context : {s : List ℕ} {nd : Node} {path : Run} → Checked s → Standing s nd → nd ≡ Context path → pathRun s (path .first) (path .count) ≡ true
+path-of-context {path = path} c o e = context-path c (o .number) path (sym (o .is) ∙ e)
+
+pub path-of-scope : {s : List ℕ} {nd : Node} {root : Root} {path : Run} → Checked s → Standing s nd → nd ≡ Scope root path → pathRun s (path .first) (path .count) ≡ true
+path-of-scope {root = root} {path = path} c o e = scope-path c (o .number) root path (sym (o .is) ∙ e)
 
 module _ (s : List ℕ) (asked : ℕ) (env : Env) (nd : Node) (b : Option Bound) where
   pub leaf-literal : (v : ValNo) → nd ≡ Literal v → b ≡ some (boundOf (v .0) (valueAt s (v .0))) → b ≡ leafValue s asked env nd

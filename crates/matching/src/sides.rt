@@ -16,7 +16,7 @@ ghost use Rattle.meaning.specs.Rows.{inCells};
 ghost use Rattle.meaning.specs.Meaning.{both, compared};
 ghost use Rattle.equality.specs.Numbers.{orders};
 ghost use Rattle.rows.specs.Slots.{Sized};
-ghost use Rattle.matching.specs.Asking.{leafValue, unboundAt, variableOf, integerIn, combined};
+ghost use Rattle.matching.specs.Asking.{Standing, leafValue, unboundAt, variableOf, integerIn, combined};
 
 // ---- terms
 
@@ -24,6 +24,7 @@ ghost use Rattle.matching.specs.Asking.{leafValue, unboundAt, variableOf
 pub fn leaf_of(s: &[u8], asked: usize, env: Env, node: Node) -> Binding
     requires { ⌜ Checked (now s) ⌝ }
     requires { ⌜ Sized env ⌝ }
+    requires { ⌜ Standing (now s) node ⌝ }
     ensures { λ r. ⌜ inCells (r .tag) (r .bits) ≡ leafValue (now (s .entry)) asked env node ⌝ }
 {
     match node {

@@ -159,18 +159,6 @@ module _ (s : List ℕ) where
   abbrev pub isObject : ℕ → Bool
   isObject v = ltb v (values s) and eqb (kind v) 7
 
-  -- a value's own names hold no dot
-  unfoldable pub plainNames : ℕ → Bool
-  plainNames v =
-      allBelow (partCount v) (λ i. eqb (name (valueWord s v 1 + i)) nothing or free 46 (text s (name (valueWord s v 1 + i))))
-
-  -- nor does any inside, at any depth
-  unfoldable pub plain : ℕ → Bool
-  plain = throughout partCount partValue plainNames
-
-  abbrev pub plainObject : ℕ → Bool
-  plainObject v = isObject v and plain v
-
   abbrev pub maybeValue : ℕ → Bool
   maybeValue v = eqb v nothing or ltb v (values s)
 
@@ -186,7 +174,7 @@ module _ (s : List ℕ) where
   unfoldable pub entityRule : ℕ → Bool
   entityRule i =
       (isString (list s i) and free 34 (text s (list s i)))
-      and isString (list s (i + 1)) and plainObject (list s (i + 2))
+      and isString (list s (i + 1)) and isObject (list s (i + 2))
 
   unfoldable pub entityItem : ℕ → ℕ → Bool
   entityItem first i = entityRule (first + 3 * i) and rises (λ i j. entityBefore (first + 3 * i) (first + 3 * j)) i
@@ -200,7 +188,7 @@ module _ (s : List ℕ) where
       and isString (pointWord s p 4)
       and isString (pointWord s p 5)
       and isObject (pointWord s p 6)
-      and plainObject (pointWord s p 7)
+      and isObject (pointWord s p 7)
       and maybeValue (pointWord s p 8)
       and maybeValue (pointWord s p 9)
       and entityRun (pointWord s p 10) (pointWord s p 11)

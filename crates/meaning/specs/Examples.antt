@@ -1,4 +1,4 @@
--- E1 to E12, the sample table and the slips: one list with one claim, asked of the calls on the bytes of one case; then each refusal, later points, and parts that the case does not reach
+-- E1 to E12, the sample table and the slips: one list with one claim, asked of the calls on the bytes of one case; then E13 on a case of its own, each refusal, later points, and parts that the case does not reach
 use mathlib.Core.Path.{_≡_, refl, _∙_}
 use mathlib.Core.Bool.{Bool, true, false}
 use mathlib.Core.List.{List, [], _∷_, _++_, map}
@@ -24,10 +24,10 @@ use Rattle.meaning.specs.Below.{upto, made}
 use Rattle.meaning.specs.Tests.{_and_, _or_, choose, onlyIf, isSome, orElse, pick, allBelow, rises, greatest, levels, throughout}
 use Rattle.meaning.specs.Text.{before, free as free·Text, first, follow, next, ended, utf8}
 use Rattle.meaning.specs.Case.{Point, Value, Int, Decimal, Text, Object, words as words·Case, contents, offset, size, body, bodyWord, stringWord, valueWord, memberWord, pointWord, nodeWord, list as list·Case, text as text·Case, places, runOf, signed, maybe, unitOf, cmpOf, arithOf, rootFrom, under, nodeFrom, valueFrom, partAt, valueAt, entityAt, pointAt, nodeAt, caseOf, isSort, sortOf, arity, child}
-use Rattle.meaning.specs.Check.{startOf, bodyRule, bodies, mosts, endBefore, placeRule, endToEnd, utf8Rule, orderRule, stringRules, memberRule, arrayItem, objectItem, valueRule, partCount, partValue, depth, depthRule, valueRules, plainNames, plain, stringRun, entityRule, entityItem, entityRun, pointRule, pointRules, pathRun, variableRun, argumentRule, argumentRun, literal, zerosFrom, ruleOf, nodeRule, height, heightRule, nodeRules, check}
+use Rattle.meaning.specs.Check.{startOf, bodyRule, bodies, mosts, endBefore, placeRule, endToEnd, utf8Rule, orderRule, stringRules, memberRule, arrayItem, objectItem, valueRule, partCount, partValue, depth, depthRule, valueRules, stringRun, entityRule, entityItem, entityRun, pointRule, pointRules, pathRun, variableRun, argumentRule, argumentRun, literal, zerosFrom, ruleOf, nodeRule, height, heightRule, nodeRules, check}
 use Rattle.meaning.specs.Number.{highest, lowest, clamp, calculate, secondsOf, seconds, inWindow, sumℤ}
 use Rattle.meaning.specs.Equal.{int, value, isDigit, digits, natural, cut, unsigned, scaled, decimal, seen, decimalKey, see, sameList, sameParts, alike, sameValue, asValue, same, boundOf, integer}
-use Rattle.meaning.specs.Look.{named, members as members·Look, descend, boundAt, attributesOf, ownPart, supplied, entityOf, attribute, fromRoot, rootOf, scopeAt, contextAt, fieldAt}
+use Rattle.meaning.specs.Look.{named, members as members·Look, descend, dotted, writes, written, lastUnder, lookup, boundAt, attributesOf, ownPart, supplied, entityOf, attribute, fromRoot, rootOf, scopeAt, contextAt, fieldAt}
 use Rattle.meaning.specs.Rows.{inCells, cells, rowOf, at, blank, with, without, withoutAll, over, onto, agree, agreeing, sameCell, sameRow, isIn, addNew, joinAll, column}
 use Rattle.meaning.specs.Walk.{give, visit, adding, dropping, _>>=_, started, after, measured, spent, most, run as run·Walk, ending, outcome}
 use Rattle.meaning.specs.Meaning.{under as under·Meaning, unbinding, earlier, latest, now, lending, condition, term, aggregate, ifYes, unlessYes, oneRow, asRows, taking, lentTo, andVerdict, joining, andRows, orVerdict, orRows, notVerdict, existsVerdict, existsRows, time, inside, ifInside, downward, rising, upward, every, formerlyVerdict, formerlyRows, sinceVerdict, keeping, sinceRows, before as before·Meaning, isThere, previously, place, tpRow, tpVerdict, given, matchField, matchArguments, sameEvent, match, predicate, both, compared, compareVerdict, unbound, bindRows, eqRows, compareRows, ifInt, arithmetic, aggregated, relation, sumOf, countOf, names, arguments, meaningOf, noMeaning, meaning, firsts, question}
@@ -219,11 +219,11 @@ bytes = withLog points
 
 -- what everything but the check computes by
 walks-nothing : spent (give true) ≡ 0
-unfolding bytes upto made _and_ _or_ choose onlyIf isSome orElse pick allBelow rises greatest levels throughout before free·Text first follow next ended utf8 words·Case contents offset size body bodyWord stringWord valueWord memberWord pointWord nodeWord list·Case text·Case places runOf signed maybe unitOf cmpOf arithOf rootFrom under nodeFrom valueFrom partAt valueAt entityAt pointAt nodeAt caseOf isSort sortOf arity child highest lowest clamp calculate secondsOf seconds inWindow sumℤ isDigit digits natural cut unsigned scaled decimal seen decimalKey see sameList sameParts alike sameValue asValue same boundOf integer named members·Look descend boundAt attributesOf ownPart supplied entityOf attribute fromRoot rootOf scopeAt contextAt fieldAt inCells cells rowOf at blank with without withoutAll over onto agree agreeing sameCell sameRow isIn addNew joinAll column give visit adding dropping _>>=_ started after measured spent most run·Walk ending outcome under·Meaning unbinding earlier latest now lending condition term aggregate ifYes unlessYes oneRow asRows taking lentTo andVerdict joining andRows orVerdict orRows notVerdict existsVerdict existsRows time inside ifInside downward rising upward every formerlyVerdict formerlyRows sinceVerdict keeping sinceRows before·Meaning isThere previously place tpRow tpVerdict given matchField matchArguments sameEvent match predicate both compared compareVerdict unbound bindRows eqRows compareRows ifInt arithmetic aggregated relation sumOf countOf names arguments meaningOf noMeaning meaning firsts question numberOf isInt wellFormed moreRow startRow startOr isCondition isAggregate answerable against walkOf told unlessRefused unlessAgainst asking cleared workspaceAfter result checkCall saying askCall cellsOf filled allUnder projected outputFits rowsGiven rowsCall
+unfolding bytes upto made _and_ _or_ choose onlyIf isSome orElse pick allBelow rises greatest levels throughout before free·Text first follow next ended utf8 words·Case contents offset size body bodyWord stringWord valueWord memberWord pointWord nodeWord list·Case text·Case places runOf signed maybe unitOf cmpOf arithOf rootFrom under nodeFrom valueFrom partAt valueAt entityAt pointAt nodeAt caseOf isSort sortOf arity child highest lowest clamp calculate secondsOf seconds inWindow sumℤ isDigit digits natural cut unsigned scaled decimal seen decimalKey see sameList sameParts alike sameValue asValue same boundOf integer named members·Look descend dotted writes written lastUnder lookup boundAt attributesOf ownPart supplied entityOf attribute fromRoot rootOf scopeAt contextAt fieldAt inCells cells rowOf at blank with without withoutAll over onto agree agreeing sameCell sameRow isIn addNew joinAll column give visit adding dropping _>>=_ started after measured spent most run·Walk ending outcome under·Meaning unbinding earlier latest now lending condition term aggregate ifYes unlessYes oneRow asRows taking lentTo andVerdict joining andRows orVerdict orRows notVerdict existsVerdict existsRows time inside ifInside downward rising upward every formerlyVerdict formerlyRows sinceVerdict keeping sinceRows before·Meaning isThere previously place tpRow tpVerdict given matchField matchArguments sameEvent match predicate both compared compareVerdict unbound bindRows eqRows compareRows ifInt arithmetic aggregated relation sumOf countOf names arguments meaningOf noMeaning meaning firsts question numberOf isInt wellFormed moreRow startRow startOr isCondition isAggregate answerable against walkOf told unlessRefused unlessAgainst asking cleared workspaceAfter result checkCall saying askCall cellsOf filled allUnder projected outputFits rowsGiven rowsCall
 walks-nothing = refl
 
 passes : check bytes ≡ none
-unfolding walks-nothing startOf bodyRule bodies mosts endBefore placeRule endToEnd utf8Rule orderRule stringRules memberRule arrayItem objectItem valueRule partCount partValue depth depthRule valueRules plainNames plain stringRun entityRule entityItem entityRun pointRule pointRules pathRun variableRun argumentRule argumentRun literal zerosFrom ruleOf nodeRule height heightRule nodeRules check
+unfolding walks-nothing startOf bodyRule bodies mosts endBefore placeRule endToEnd utf8Rule orderRule stringRules memberRule arrayItem objectItem valueRule partCount partValue depth depthRule valueRules stringRun entityRule entityItem entityRun pointRule pointRules pathRun variableRun argumentRule argumentRun literal zerosFrom ruleOf nodeRule height heightRule nodeRules check
 passes = refl
 
 -- ---- what the bytes hold
@@ -554,6 +554,41 @@ rows-calls :
     [])
 unfolding rowsSaid
 rows-calls = refl
+
+-- ---- E13: in {a: {b: 1}, "a.b": 2} the path a.b gives 2, and the path a gives {b: 1}
+
+-- strings a, a.b, b; values 1, 2, {b: 1}, {a: {b: 1}, "a.b": 2}; one point that has the last as its context
+bytes13 : List ℕ
+unfolding table bytesOf packed placed flat file
+bytes13 =
+    file 1 (
+    table 2 ((0 ∷ 1 ∷ []) ∷ (1 ∷ 3 ∷ []) ∷ (4 ∷ 1 ∷ []) ∷ [])
+    ∷ table 4 ((2 ∷ 1 ∷ []) ∷ (2 ∷ 2 ∷ []) ∷ (7 ∷ 0 ∷ 1 ∷ []) ∷ (7 ∷ 1 ∷ 2 ∷ []) ∷ [])
+    ∷ table 2 ((2 ∷ 0 ∷ []) ∷ (0 ∷ 2 ∷ []) ∷ (1 ∷ 1 ∷ []) ∷ [])
+    ∷ table 12 ((0 ∷ 0 ∷ 0 ∷ 0 ∷ 0 ∷ 0 ∷ 3 ∷ 3 ∷ 4294967295 ∷ 4294967295 ∷ []) ∷ [])
+    ∷ table 8 (
+    (21 ∷ 0 ∷ 2 ∷ []) ∷  -- 0: context.a.b
+    (20 ∷ 1 ∷ []) ∷  -- 1: 2
+    (8 ∷ 4 ∷ 0 ∷ 1 ∷ []) ∷  -- 2: context.a.b == 2
+    (21 ∷ 0 ∷ 1 ∷ []) ∷  -- 3: context.a
+    (23 ∷ []) ∷  -- 4: x
+    (8 ∷ 4 ∷ 4 ∷ 3 ∷ []) ∷  -- 5: x == context.a
+    [])
+    ∷ (0 ∷ 2 ∷ [])
+    ∷ []
+    ) (97 ∷ 97 ∷ 46 ∷ 98 ∷ 98 ∷ [])
+
+-- both asked at the point, with room for one row
+call13 : ℕ → Call
+unfolding call
+call13 n = call bytes13 n 0 (0 ∷ 0 ∷ []) (record { steps = 10; room = 1 }) (0 ∷ 0 ∷ [])
+
+e13 :
+    (askCall (call13 2) .said ≡ gives (verdict true) 1 0)
+    × (rowsCall (0 ∷ []) (9 ∷ 9 ∷ []) (call13 5) .said ≡ gives 1 1 1)
+    × (rowsCall (0 ∷ []) (9 ∷ 9 ∷ []) (call13 5) .output ≡ (2 ∷ 2 ∷ []))
+unfolding passes bytes13 call13
+e13 = (refl, refl, refl)
 
 -- ---- refusals 1 to 6, each for one byte of the case changed: edition, V, a string, a member's value, a point's context, a node's child
 

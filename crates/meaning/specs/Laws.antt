@@ -10,9 +10,15 @@ pub mod Values
 pub mod Nodes
 pub mod Sorts
 pub mod Checked
+pub mod Text
+pub mod Search
+pub mod Searched
 pub mod Walk
 pub mod Meaning
 pub mod Carried
+pub mod Asked
+pub mod Readings
 pub mod Stack
 pub mod Calls
 pub mod Later
+pub mod Undotted

@@ -3,6 +3,7 @@ pub mod Tests
 pub mod Text
 pub mod Case
 pub mod Check
+pub mod Undotted
 pub mod Number
 pub mod Edges
 pub mod Equal
@@ -12,6 +13,8 @@ pub mod Walk
 pub mod Meaning
 pub mod Calls
 pub mod Carried
+pub mod Readings
+pub mod Calls01
 pub mod Single
 pub mod Demands
 pub mod Laws

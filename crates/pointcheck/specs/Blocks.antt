@@ -5,7 +5,7 @@ use Prim.Native.Nat.{ℕ, _+_, _*_, _/_, _%_}
 use Rattle.meaning.specs.Tests.{allBelow, greatest}
 use Rattle.meaning.specs.Text.{free}
 use Rattle.meaning.specs.Case.{strings, values, lists, list, text}
-use Rattle.meaning.specs.Check.{pathName, entityItem, plain, literal}
+use Rattle.meaning.specs.Check.{pathName, entityItem, literal}
 use Rattle.meaning.specs.Laws.Tests.{Filled}
 
 -- the strings without a dot
@@ -15,10 +15,6 @@ Undotted s table = Filled false (λ n. free 46 (text s n)) table (strings s)
 -- the strings without a quotation mark
 abbrev pub Unquoted : List ℕ → List Bool → Type 0
 Unquoted s table = Filled false (λ n. free 34 (text s n)) table (strings s)
-
--- the values without a dot in a name
-abbrev pub Plain : List ℕ → List Bool → Type 0
-Plain s table = Filled false (plain s) table (values s)
 
 -- the values without Null or Object
 abbrev pub Literals : List ℕ → List Bool → Type 0

@@ -13,15 +13,14 @@ use tables::point_word;
 use tables::value_word;
 use tables::wide;
 use valuecheck::larger;
-use valuecheck::plain_values;
 ghost use mathlib.Core.Path.{_≡_};
 ghost use mathlib.Core.Bool.{Bool, true, false};
 ghost use Prim.Native.Nat.{_+_, _*_, _/_, _<_};
 ghost use lib.Dec.{ltb};
 ghost use Rattle.meaning.specs.Tests.{_and_, allBelow, greatest};
-ghost use Rattle.meaning.specs.Case.{lists, list, strings, values, text};
-ghost use Rattle.meaning.specs.Check.{bodies, mosts, inTable, pathName, pathRun, stringRun, variableRun, endToEnd, valueRule, isObject, plainObject, maybeValue, entityBefore, isString, entityRule, entityItem, entityRun, pointRule, pointRules};
-ghost use Rattle.pointcheck.specs.Blocks.{Tops, Undotted, Paths, Unquoted, Plain, Entities};
+ghost use Rattle.meaning.specs.Case.{lists, list, text};
+ghost use Rattle.meaning.specs.Check.{bodies, mosts, inTable, pathName, pathRun, stringRun, variableRun, endToEnd, isObject, maybeValue, entityBefore, isString, entityRule, entityItem, entityRun, pointRule, pointRules};
+ghost use Rattle.pointcheck.specs.Blocks.{Tops, Undotted, Paths, Unquoted, Entities};
 ghost use Rattle.meaning.specs.Text.{free};
 
 // ---- runs of the lists: they may overlap, so they are read by blocks of 1024 words
@@ -208,20 +207,6 @@ fn is_object(s: &[u8], v: u32) -> bool
     both(v < value_count(s), value_word(s, ValNo(v), 0) == 7)
 }
 
-// an object in which no name holds a dot
-fn plain_object(s: &[u8], plain: &[bool; 16384], v: u32) -> bool
-    requires { ⌜ bodies (now s) ≡ true ⌝ }
-    requires { ⌜ mosts (now s) ≡ true ⌝ }
-    requires { ⌜ Plain (now s) (now plain) ⌝ }
-    ensures { λ r. ⌜ _≡_ {A = Bool} r (plainObject (now (s .entry)) v) ⌝ }
-{
-    if !is_object(s, v) {
-        return false;
-    }
-    let at = wide(v);
-    plain[at]
-}
-
 fn maybe_value(s: &[u8], v: u32) -> bool
     requires { ⌜ bodies (now s) ≡ true ⌝ }
     ensures { λ r. ⌜ _≡_ {A = Bool} r (maybeValue (now (s .entry)) v) ⌝ }
@@ -257,37 +242,29 @@ fn entity_type(s: &[u8], unquoted: &[bool; 16384], n: u32) -> bool
     unquoted[at]
 }
 
-fn entity_rule(s: &[u8], unquoted: &[bool; 16384], plain: &[bool; 16384], i: usize) -> bool
+fn entity_rule(s: &[u8], unquoted: &[bool; 16384], i: usize) -> bool
     requires { ⌜ bodies (now s) ≡ true ⌝ }
     requires { ⌜ mosts (now s) ≡ true ⌝ }
     requires { ⌜ Unquoted (now s) (now unquoted) ⌝ }
-    requires { ⌜ Plain (now s) (now plain) ⌝ }
     requires { ⌜ i < 4294967296 ⌝ }
     ensures { λ r. ⌜ _≡_ {A = Bool} r (entityRule (now (s .entry)) i) ⌝ }
 {
     let name = entity_type(s, unquoted, list_at(s, i));
     let id = list_at(s, i + 1) < string_count(s);
-    let object = plain_object(s, plain, list_at(s, i + 2));
+    let object = is_object(s, list_at(s, i + 2));
     both(name, both(id, object))
 }
 
 // item i of a run of entities: its own rule, and that it comes after the one before
-fn entity_item(
-    s: &[u8],
-    unquoted: &[bool; 16384],
-    plain: &[bool; 16384],
-    first: u32,
-    i: u32,
-) -> bool
+fn entity_item(s: &[u8], unquoted: &[bool; 16384], first: u32, i: u32) -> bool
     requires { ⌜ bodies (now s) ≡ true ⌝ }
     requires { ⌜ mosts (now s) ≡ true ⌝ }
     requires { ⌜ Unquoted (now s) (now unquoted) ⌝ }
-    requires { ⌜ Plain (now s) (now plain) ⌝ }
     requires { ⌜ first + 3 * i < 4294967296 ⌝ }
     ensures { λ r. ⌜ _≡_ {A = Bool} r (entityItem (now (s .entry)) first i) ⌝ }
 {
     let at = wide(first) + 3 * wide(i);
-    if !entity_rule(s, unquoted, plain, at) {
+    if !entity_rule(s, unquoted, at) {
         return false;
     }
     if i == 0 {
@@ -297,23 +274,16 @@ fn entity_item(
 }
 
 // so many items of a run of entities, one by one
-fn entity_items(
-    s: &[u8],
-    unquoted: &[bool; 16384],
-    plain: &[bool; 16384],
-    first: u32,
-    items: u32,
-) -> bool
+fn entity_items(s: &[u8], unquoted: &[bool; 16384], first: u32, items: u32) -> bool
     requires { ⌜ bodies (now s) ≡ true ⌝ }
     requires { ⌜ mosts (now s) ≡ true ⌝ }
     requires { ⌜ Unquoted (now s) (now unquoted) ⌝ }
-    requires { ⌜ Plain (now s) (now plain) ⌝ }
     requires { ⌜ first + 3 * items < 4294967296 ⌝ }
     ensures { λ r. ⌜ _≡_ {A = Bool} r (allBelow items (entityItem (now (s .entry)) first)) ⌝ }
 {
     let mut i = 0;
     while i < items {
-        if !entity_item(s, unquoted, plain, first, i) {
+        if !entity_item(s, unquoted, first, i) {
             return false;
         }
         i += 1;
@@ -322,11 +292,10 @@ fn entity_items(
 }
 
 // which blocks of 512 entities may stand in a run; entry 3 · b + r is the block that starts at word 1536 · b + r
-fn entity_blocks(s: &[u8], unquoted: &[bool; 16384], plain: &[bool; 16384]) -> [bool; 2052]
+fn entity_blocks(s: &[u8], unquoted: &[bool; 16384]) -> [bool; 2052]
     requires { ⌜ bodies (now s) ≡ true ⌝ }
     requires { ⌜ mosts (now s) ≡ true ⌝ }
     requires { ⌜ Unquoted (now s) (now unquoted) ⌝ }
-    requires { ⌜ Plain (now s) (now plain) ⌝ }
     ensures { λ r. ⌜ Entities (now (s .entry)) r ⌝ }
 {
     let n = 3 * (list_count(s) / 1536);
@@ -334,7 +303,7 @@ fn entity_blocks(s: &[u8], unquoted: &[bool; 16384], plain: &[bool; 16384]) -> [
     let mut k = 0;
     while k < n {
         let at = wide(k);
-        blocks[at] = entity_items(s, unquoted, plain, 1536 * (k / 3) + k % 3, 512);
+        blocks[at] = entity_items(s, unquoted, 1536 * (k / 3) + k % 3, 512);
         k += 1;
     }
     blocks
@@ -343,7 +312,6 @@ fn entity_blocks(s: &[u8], unquoted: &[bool; 16384], plain: &[bool; 16384]) -> [
 fn entity_run(
     s: &[u8],
     unquoted: &[bool; 16384],
-    plain: &[bool; 16384],
     blocks: &[bool; 2052],
     first: u32,
     items: u32,
@@ -351,7 +319,6 @@ fn entity_run(
     requires { ⌜ bodies (now s) ≡ true ⌝ }
     requires { ⌜ mosts (now s) ≡ true ⌝ }
     requires { ⌜ Unquoted (now s) (now unquoted) ⌝ }
-    requires { ⌜ Plain (now s) (now plain) ⌝ }
     requires { ⌜ Entities (now s) (now blocks) ⌝ }
     ensures { λ r. ⌜ _≡_ {A = Bool} r (entityRun (now (s .entry)) first items) ⌝ }
 {
@@ -360,7 +327,7 @@ fn entity_run(
     }
     let mut i = 0;
     while i < items {
-        if !entity_item(s, unquoted, plain, first, i) {
+        if !entity_item(s, unquoted, first, i) {
             return false;
         }
         let at = wide(first) + 3 * wide(i);
@@ -381,7 +348,6 @@ fn point_rule(
     s: &[u8],
     tops: &[u32; 1024],
     unquoted: &[bool; 16384],
-    plain: &[bool; 16384],
     blocks: &[bool; 2052],
     p: usize,
 ) -> bool
@@ -389,7 +355,6 @@ fn point_rule(
     requires { ⌜ mosts (now s) ≡ true ⌝ }
     requires { ⌜ Tops (now s) (now tops) ⌝ }
     requires { ⌜ Unquoted (now s) (now unquoted) ⌝ }
-    requires { ⌜ Plain (now s) (now plain) ⌝ }
     requires { ⌜ Entities (now s) (now blocks) ⌝ }
     ensures { λ r. ⌜ _≡_ {A = Bool} r (pointRule (now (s .entry)) p) ⌝ }
 {
@@ -397,13 +362,12 @@ fn point_rule(
     let action = point_word(s, p, 4) < string_count(s);
     let kind = point_word(s, p, 5) < string_count(s);
     let logged = is_object(s, point_word(s, p, 6));
-    let context = plain_object(s, plain, point_word(s, p, 7));
+    let context = is_object(s, point_word(s, p, 7));
     let principal = maybe_value(s, point_word(s, p, 8));
     let resource = maybe_value(s, point_word(s, p, 9));
     let entities = entity_run(
         s,
         unquoted,
-        plain,
         blocks,
         point_word(s, p, 10),
         point_word(s, p, 11),
@@ -415,22 +379,19 @@ fn point_rule(
     )
 }
 
-pub fn check_points(s: &[u8], tops: &[u32; 1024], undotted: &[bool; 16384]) -> bool
+pub fn check_points(s: &[u8], tops: &[u32; 1024]) -> bool
     requires { ⌜ bodies (now s) ≡ true ⌝ }
     requires { ⌜ mosts (now s) ≡ true ⌝ }
     requires { ⌜ endToEnd (now s) ≡ true ⌝ }
-    requires { ⌜ allBelow (values (now s)) (valueRule (now s)) ≡ true ⌝ }
     requires { ⌜ Tops (now s) (now tops) ⌝ }
-    requires { ⌜ Undotted (now s) (now undotted) ⌝ }
     ensures { λ r. ⌜ _≡_ {A = Bool} r (pointRules (now (s .entry))) ⌝ }
 {
     let unquoted = free_strings(s, 34);
-    let plain = plain_values(s, undotted);
-    let blocks = entity_blocks(s, &unquoted, &plain);
+    let blocks = entity_blocks(s, &unquoted);
     let n = wide(point_count(s));
     let mut p = 0;
     while p < n {
-        if !point_rule(s, tops, &unquoted, &plain, &blocks, p) {
+        if !point_rule(s, tops, &unquoted, &blocks, p) {
             return false;
         }
         p += 1;

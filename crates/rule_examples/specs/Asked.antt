@@ -9,10 +9,10 @@ use Rattle.meaning.specs.Below.{upto, made}
 use Rattle.meaning.specs.Tests.{_and_, _or_, choose, onlyIf, isSome, orElse, pick, allBelow, rises, greatest, levels, throughout}
 use Rattle.meaning.specs.Text.{before, free, first, follow, next, ended, utf8}
 use Rattle.meaning.specs.Case.{words, contents, offset, size, body, bodyWord, stringWord, valueWord, memberWord, pointWord, nodeWord, list, text, places, runOf, signed, maybe, unitOf, cmpOf, arithOf, rootFrom, under, nodeFrom, valueFrom, partAt, valueAt, entityAt, pointAt, nodeAt, caseOf, isSort, sortOf, arity, child}
-use Rattle.meaning.specs.Check.{startOf, bodyRule, bodies, mosts, endBefore, placeRule, endToEnd, utf8Rule, orderRule, stringRules, memberRule, arrayItem, objectItem, valueRule, partCount, partValue, depth, depthRule, valueRules, plainNames, plain, stringRun, entityRule, entityItem, entityRun, pointRule, pointRules, pathRun, variableRun, argumentRule, argumentRun, literal, zerosFrom, ruleOf, nodeRule, height, heightRule, nodeRules, check}
+use Rattle.meaning.specs.Check.{startOf, bodyRule, bodies, mosts, endBefore, placeRule, endToEnd, utf8Rule, orderRule, stringRules, memberRule, arrayItem, objectItem, valueRule, partCount, partValue, depth, depthRule, valueRules, stringRun, entityRule, entityItem, entityRun, pointRule, pointRules, pathRun, variableRun, argumentRule, argumentRun, literal, zerosFrom, ruleOf, nodeRule, height, heightRule, nodeRules, check}
 use Rattle.meaning.specs.Number.{highest, lowest, clamp, calculate, secondsOf, seconds, inWindow, sumℤ, window}
 use Rattle.meaning.specs.Equal.{isDigit, digits, natural, cut, unsigned, scaled, decimal, seen, decimalKey, see, sameList, sameParts, alike, sameValue, asValue, same, boundOf, integer}
-use Rattle.meaning.specs.Look.{named, members, descend, boundAt, attributesOf, ownPart, supplied, entityOf, attribute, fromRoot, rootOf, scopeAt, contextAt, fieldAt}
+use Rattle.meaning.specs.Look.{named, members, descend, dotted, writes, written, lastUnder, lookup, boundAt, attributesOf, ownPart, supplied, entityOf, attribute, fromRoot, rootOf, scopeAt, contextAt, fieldAt}
 use Rattle.meaning.specs.Rows.{inCells, cells, rowOf, at, blank, with, without, withoutAll, over, onto, agree, agreeing, sameCell, sameRow, isIn, addNew, joinAll, column}
 use Rattle.meaning.specs.Walk.{give, visit, adding, dropping, _>>=_, started, after, measured, spent, most, run, ending, outcome}
 use Rattle.meaning.specs.Meaning.{under as under·Meaning, unbinding, earlier, latest, now, lending, condition, term, aggregate, ifYes, unlessYes, oneRow, asRows, taking, lentTo, andVerdict, joining, andRows, orVerdict, orRows, notVerdict, existsVerdict, existsRows, time, inside, ifInside, downward, rising, upward, every, formerlyVerdict, formerlyRows, sinceVerdict, keeping, sinceRows, before as before·Meaning, isThere, previously, place, tpRow, tpVerdict, given, matchField, matchArguments, sameEvent, match, predicate, both, compared, compareVerdict, unbound, bindRows, eqRows, compareRows, ifInt, arithmetic, aggregated, relation, sumOf, countOf, names, arguments, meaningOf, noMeaning, meaning, firsts, question}
@@ -55,5 +55,5 @@ rows s node point start binders cells =
 
 -- the whole definition is computed by
 unfoldable pub all : true ≡ true
-unfolding upto made _and_ _or_ choose onlyIf isSome orElse pick allBelow rises greatest levels throughout before free first follow next ended utf8 words contents offset size body bodyWord stringWord valueWord memberWord pointWord nodeWord list text places runOf signed maybe unitOf cmpOf arithOf rootFrom under nodeFrom valueFrom partAt valueAt entityAt pointAt nodeAt caseOf isSort sortOf arity child startOf bodyRule bodies mosts endBefore placeRule endToEnd utf8Rule orderRule stringRules memberRule arrayItem objectItem valueRule partCount partValue depth depthRule valueRules plainNames plain stringRun entityRule entityItem entityRun pointRule pointRules pathRun variableRun argumentRule argumentRun literal zerosFrom ruleOf nodeRule height heightRule nodeRules check highest lowest clamp calculate secondsOf seconds inWindow sumℤ window isDigit digits natural cut unsigned scaled decimal seen decimalKey see sameList sameParts alike sameValue asValue same boundOf integer named members descend boundAt attributesOf ownPart supplied entityOf attribute fromRoot rootOf scopeAt contextAt fieldAt inCells cells rowOf at blank with without withoutAll over onto agree agreeing sameCell sameRow isIn addNew joinAll column give visit adding dropping _>>=_ started after measured spent most run ending outcome under·Meaning unbinding earlier latest now lending condition term aggregate ifYes unlessYes oneRow asRows taking lentTo andVerdict joining andRows orVerdict orRows notVerdict existsVerdict existsRows time inside ifInside downward rising upward every formerlyVerdict formerlyRows sinceVerdict keeping sinceRows before·Meaning isThere previously place tpRow tpVerdict given matchField matchArguments sameEvent match predicate both compared compareVerdict unbound bindRows eqRows compareRows ifInt arithmetic aggregated relation sumOf countOf names arguments meaningOf noMeaning meaning firsts question numberOf isInt wellFormed moreRow startRow startOr isCondition isAggregate answerable against walkOf told unlessRefused unlessAgainst asking cleared workspaceAfter result checkCall saying askCall cellsOf filled allUnder projected outputFits rowsGiven rowsCall bytesOf packed table placed flat file wanted got no checked asked answer rows
+unfolding upto made _and_ _or_ choose onlyIf isSome orElse pick allBelow rises greatest levels throughout before free first follow next ended utf8 words contents offset size body bodyWord stringWord valueWord memberWord pointWord nodeWord list text places runOf signed maybe unitOf cmpOf arithOf rootFrom under nodeFrom valueFrom partAt valueAt entityAt pointAt nodeAt caseOf isSort sortOf arity child startOf bodyRule bodies mosts endBefore placeRule endToEnd utf8Rule orderRule stringRules memberRule arrayItem objectItem valueRule partCount partValue depth depthRule valueRules stringRun entityRule entityItem entityRun pointRule pointRules pathRun variableRun argumentRule argumentRun literal zerosFrom ruleOf nodeRule height heightRule nodeRules check highest lowest clamp calculate secondsOf seconds inWindow sumℤ window isDigit digits natural cut unsigned scaled decimal seen decimalKey see sameList sameParts alike sameValue asValue same boundOf integer named members descend dotted writes written lastUnder lookup boundAt attributesOf ownPart supplied entityOf attribute fromRoot rootOf scopeAt contextAt fieldAt inCells cells rowOf at blank with without withoutAll over onto agree agreeing sameCell sameRow isIn addNew joinAll column give visit adding dropping _>>=_ started after measured spent most run ending outcome under·Meaning unbinding earlier latest now lending condition term aggregate ifYes unlessYes oneRow asRows taking lentTo andVerdict joining andRows orVerdict orRows notVerdict existsVerdict existsRows time inside ifInside downward rising upward every formerlyVerdict formerlyRows sinceVerdict keeping sinceRows before·Meaning isThere previously place tpRow tpVerdict given matchField matchArguments sameEvent match predicate both compared compareVerdict unbound bindRows eqRows compareRows ifInt arithmetic aggregated relation sumOf countOf names arguments meaningOf noMeaning meaning firsts question numberOf isInt wellFormed moreRow startRow startOr isCondition isAggregate answerable against walkOf told unlessRefused unlessAgainst asking cleared workspaceAfter result checkCall saying askCall cellsOf filled allUnder projected outputFits rowsGiven rowsCall bytesOf packed table placed flat file wanted got no checked asked answer rows
 all = refl

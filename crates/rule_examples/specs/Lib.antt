@@ -10,6 +10,7 @@ pub mod Towers
 pub mod Records
 pub mod Equality
 pub mod Look
+pub mod Dots
 pub mod Matching
 pub mod Conditions
 pub mod Windows

@@ -1,6 +1,6 @@
--- Refusal 5: points, entities and names without a dot. Each file with the check's refusal, 0 where it passes
+-- Refusal 5: points and entities; names with dots pass. Each file with the check's refusal, 0 where it passes
 use mathlib.Core.Path.{_≡_, refl}
-use mathlib.Core.List.{List, [], _∷_, _++_}
+use mathlib.Core.List.{List, [], _∷_}
 use Prim.Native.Nat.{ℕ}
 use Rattle.meaning.specs.Written.{table, file}
 use Rattle.rule_examples.specs.Asked.{all, wanted, got, checked}
@@ -62,11 +62,11 @@ points =
     (5, (4294967295 ∷ 4294967295 ∷ 0 ∷ 2 ∷ 1 ∷ 3 ∷ 3 ∷ 11 ∷ 4 ∷ 4294967295 ∷ 2 ∷ 2 ∷ [])) ∷  -- context that is no value
     (5, (4294967295 ∷ 4294967295 ∷ 0 ∷ 2 ∷ 1 ∷ 3 ∷ 3 ∷ 0 ∷ 4 ∷ 4294967295 ∷ 2 ∷ 2 ∷ [])) ∷  -- context Null
     (5, (4294967295 ∷ 4294967295 ∷ 0 ∷ 2 ∷ 1 ∷ 3 ∷ 3 ∷ 8 ∷ 4 ∷ 4294967295 ∷ 2 ∷ 2 ∷ [])) ∷  -- context an Array
-    (5, (4294967295 ∷ 4294967295 ∷ 0 ∷ 2 ∷ 1 ∷ 3 ∷ 3 ∷ 3 ∷ 4 ∷ 4294967295 ∷ 2 ∷ 2 ∷ [])) ∷  -- context with a dot
-    (5, (4294967295 ∷ 4294967295 ∷ 0 ∷ 2 ∷ 1 ∷ 3 ∷ 3 ∷ 4 ∷ 4 ∷ 4294967295 ∷ 2 ∷ 2 ∷ [])) ∷  -- context with a dot in its second name
-    (5, (4294967295 ∷ 4294967295 ∷ 0 ∷ 2 ∷ 1 ∷ 3 ∷ 3 ∷ 5 ∷ 4 ∷ 4294967295 ∷ 2 ∷ 2 ∷ [])) ∷  -- context with a dot one below
-    (5, (4294967295 ∷ 4294967295 ∷ 0 ∷ 2 ∷ 1 ∷ 3 ∷ 3 ∷ 7 ∷ 4 ∷ 4294967295 ∷ 2 ∷ 2 ∷ [])) ∷  -- context with a dot under an Array
-    (5, (4294967295 ∷ 4294967295 ∷ 0 ∷ 2 ∷ 1 ∷ 3 ∷ 3 ∷ 10 ∷ 4 ∷ 4294967295 ∷ 2 ∷ 2 ∷ [])) ∷  -- context with a dot in the last of four items
+    (0, (4294967295 ∷ 4294967295 ∷ 0 ∷ 2 ∷ 1 ∷ 3 ∷ 3 ∷ 3 ∷ 4 ∷ 4294967295 ∷ 2 ∷ 2 ∷ [])) ∷  -- context with a dot
+    (0, (4294967295 ∷ 4294967295 ∷ 0 ∷ 2 ∷ 1 ∷ 3 ∷ 3 ∷ 4 ∷ 4 ∷ 4294967295 ∷ 2 ∷ 2 ∷ [])) ∷  -- context with a dot in its second name
+    (0, (4294967295 ∷ 4294967295 ∷ 0 ∷ 2 ∷ 1 ∷ 3 ∷ 3 ∷ 5 ∷ 4 ∷ 4294967295 ∷ 2 ∷ 2 ∷ [])) ∷  -- context with a dot one below
+    (0, (4294967295 ∷ 4294967295 ∷ 0 ∷ 2 ∷ 1 ∷ 3 ∷ 3 ∷ 7 ∷ 4 ∷ 4294967295 ∷ 2 ∷ 2 ∷ [])) ∷  -- context with a dot under an Array
+    (0, (4294967295 ∷ 4294967295 ∷ 0 ∷ 2 ∷ 1 ∷ 3 ∷ 3 ∷ 10 ∷ 4 ∷ 4294967295 ∷ 2 ∷ 2 ∷ [])) ∷  -- context with a dot in the last of four items
     (0, (4294967295 ∷ 4294967295 ∷ 0 ∷ 2 ∷ 1 ∷ 3 ∷ 3 ∷ 2 ∷ 10 ∷ 4294967295 ∷ 2 ∷ 2 ∷ [])) ∷  -- a principal of the last value
     (5, (4294967295 ∷ 4294967295 ∷ 0 ∷ 2 ∷ 1 ∷ 3 ∷ 3 ∷ 2 ∷ 11 ∷ 4294967295 ∷ 2 ∷ 2 ∷ [])) ∷  -- a principal that is no value
     (0, (4294967295 ∷ 4294967295 ∷ 0 ∷ 2 ∷ 1 ∷ 3 ∷ 3 ∷ 2 ∷ 4294967295 ∷ 4294967295 ∷ 2 ∷ 2 ∷ [])) ∷  -- no principal
@@ -112,8 +112,8 @@ listed =
     (5, (1 ∷ 3 ∷ 0 ∷ 2 ∷ 11 ∷ 2 ∷ 0 ∷ 2 ∷ [])) ∷  -- attributes that are no value
     (5, (1 ∷ 3 ∷ 0 ∷ 2 ∷ 0 ∷ 2 ∷ 0 ∷ 2 ∷ [])) ∷  -- attributes Null
     (5, (1 ∷ 3 ∷ 0 ∷ 2 ∷ 8 ∷ 2 ∷ 0 ∷ 2 ∷ [])) ∷  -- attributes an Array
-    (5, (1 ∷ 3 ∷ 0 ∷ 2 ∷ 3 ∷ 2 ∷ 0 ∷ 2 ∷ [])) ∷  -- attributes with a dot
-    (5, (1 ∷ 3 ∷ 0 ∷ 2 ∷ 1 ∷ 2 ∷ 0 ∷ 5 ∷ [])) ∷  -- attributes with a dot one below
+    (0, (1 ∷ 3 ∷ 0 ∷ 2 ∷ 3 ∷ 2 ∷ 0 ∷ 2 ∷ [])) ∷  -- attributes with a dot
+    (0, (1 ∷ 3 ∷ 0 ∷ 2 ∷ 1 ∷ 2 ∷ 0 ∷ 5 ∷ [])) ∷  -- attributes with a dot one below
     (5, (1 ∷ 3 ∷ 0 ∷ 2 ∷ 1 ∷ 0 ∷ 2 ∷ 2 ∷ [])) ∷  -- the same entity twice
     (5, (1 ∷ 3 ∷ 0 ∷ 2 ∷ 1 ∷ 0 ∷ 0 ∷ 2 ∷ [])) ∷  -- ids fall
     (0, (1 ∷ 3 ∷ 0 ∷ 2 ∷ 1 ∷ 0 ∷ 3 ∷ 2 ∷ [])) ∷  -- ids rise under one type

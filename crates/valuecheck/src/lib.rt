@@ -12,11 +12,9 @@ ghost use mathlib.Core.Path.{_≡_};
 ghost use mathlib.Core.Bool.{Bool, true, false};
 ghost use Prim.Native.Nat.{_+_, _*_, _/_, _<_, _≤_, max};
 ghost use lib.ListN.{getD};
-ghost use lib.Dec.{ltb};
-ghost use Rattle.meaning.specs.Tests.{_and_, choose, allBelow, greatest};
-ghost use Rattle.meaning.specs.Text.{free};
-ghost use Rattle.meaning.specs.Case.{strings, values, members, text, memberWord};
-ghost use Rattle.meaning.specs.Check.{bodies, mosts, inTable, memberRule, arrayItem, objectItem, valueRule, valueRules, depthRule, depth, partCount, partValue, plainNames, plain, literal};
+ghost use Rattle.meaning.specs.Tests.{_and_, allBelow, greatest};
+ghost use Rattle.meaning.specs.Case.{values, members, memberWord};
+ghost use Rattle.meaning.specs.Check.{bodies, mosts, inTable, memberRule, arrayItem, objectItem, valueRule, valueRules, depthRule, depth, partCount, partValue, literal};
 ghost use Rattle.meaning.specs.Laws.Tests.{Filled};
 ghost use Rattle.meaning.specs.Laws.Values.{Runs};
 ghost use Rattle.valuecheck.specs.Blocks.{topOf, Lower, Depths, Marked};
@@ -404,65 +402,6 @@ pub fn literal_values(s: &[u8]) -> [bool; 16384]
         let whole = parts_marked(s, &marks, &mut blocks, v);
         let at = wide(v);
         marks[at] = both(!barred, whole);
-        v += 1;
-    }
-    marks
-}
-
-// whether a member's name holds no dot
-fn plain_name(undotted: &[bool; 16384], strings: u32, name: u32) -> bool
-    requires { ⌜ strings ≤ 16384 ⌝ }
-    ensures { λ r. ⌜ _≡_ {A = Bool} r (choose (ltb name strings) (getD (now (undotted .entry)) name false) true) ⌝ }
-{
-    if strings <= name {
-        return true;
-    }
-    let at = wide(name);
-    undotted[at]
-}
-
-// whether a value's own names hold no dot; an array has none
-fn plain_names(s: &[u8], undotted: &[bool; 16384], v: u32) -> bool
-    requires { ⌜ bodies (now s) ≡ true ⌝ }
-    requires { ⌜ mosts (now s) ≡ true ⌝ }
-    requires { ⌜ valueRule (now s) v ≡ true ⌝ }
-    requires { ⌜ Filled false (λ n. free 46 (text (now s) n)) (now undotted) (strings (now s)) ⌝ }
-    ensures { λ r. ⌜ _≡_ {A = Bool} r (plainNames (now (s .entry)) v) ⌝ }
-{
-    if value_word(s, ValNo(v), 0) != 7 {
-        return true;
-    }
-    let strings = string_count(s);
-    let first = wide(value_word(s, ValNo(v), 1));
-    let items = wide(value_word(s, ValNo(v), 2));
-    let mut i = 0;
-    while i < items {
-        let name = member_word(s, first + i, 0);
-        if !plain_name(undotted, strings, name) {
-            return false;
-        }
-        i += 1;
-    }
-    true
-}
-
-// which values have no name with a dot in them
-pub fn plain_values(s: &[u8], undotted: &[bool; 16384]) -> [bool; 16384]
-    requires { ⌜ bodies (now s) ≡ true ⌝ }
-    requires { ⌜ mosts (now s) ≡ true ⌝ }
-    requires { ⌜ allBelow (values (now s)) (valueRule (now s)) ≡ true ⌝ }
-    requires { ⌜ Filled false (λ n. free 46 (text (now s) n)) (now undotted) (strings (now s)) ⌝ }
-    ensures { λ r. ⌜ Filled false (plain (now (s .entry))) r (values (now (s .entry))) ⌝ }
-{
-    let n = value_count(s);
-    let mut marks = [false; 16384];
-    let mut blocks = [false; 1024];
-    let mut v = 0;
-    while v < n {
-        let names = plain_names(s, undotted, v);
-        let whole = parts_marked(s, &marks, &mut blocks, v);
-        let at = wide(v);
-        marks[at] = both(names, whole);
         v += 1;
     }
     marks

@@ -10,7 +10,7 @@ use Rattle.meaning.specs.Below.{upto, made}
 use Rattle.meaning.specs.Tests.{_and_, _or_, choose, orElse, pick, allBelow, rises, greatest, levels, throughout}
 use Rattle.meaning.specs.Text.{before, free, first, follow, next, ended, utf8}
 use Rattle.meaning.specs.Case.{words, contents, offset, size, body, bodyWord, stringWord, valueWord, memberWord, pointWord, nodeWord, list, text, places, unitOf, cmpOf, arithOf, rootFrom, under, nodeFrom, nodeAt, arity, child}
-use Rattle.meaning.specs.Check.{startOf, bodyRule, bodies, mosts, endBefore, placeRule, endToEnd, utf8Rule, orderRule, stringRules, memberRule, arrayItem, objectItem, valueRule, partCount, partValue, depth, depthRule, valueRules, plainNames, plain, stringRun, entityRule, entityItem, entityRun, pointRule, pointRules, pathRun, variableRun, argumentRule, argumentRun, literal, zerosFrom, ruleOf, nodeRule, height, heightRule, nodeRules, check}
+use Rattle.meaning.specs.Check.{startOf, bodyRule, bodies, mosts, endBefore, placeRule, endToEnd, utf8Rule, orderRule, stringRules, memberRule, arrayItem, objectItem, valueRule, partCount, partValue, depth, depthRule, valueRules, stringRun, entityRule, entityItem, entityRun, pointRule, pointRules, pathRun, variableRun, argumentRule, argumentRun, literal, zerosFrom, ruleOf, nodeRule, height, heightRule, nodeRules, check}
 use Rattle.meaning.specs.Calls.{numberOf}
 use Rattle.encode.specs.Words.{packed}
 use Rattle.encode.specs.Encode.{flat, placed, encoded}
@@ -41,5 +41,5 @@ wrote room output e = told (writeRefusal (e .0) (e .1) (replicate room 9) (repli
 
 -- the whole definition is computed by
 unfoldable pub all : true ≡ true
-unfolding upto made _and_ _or_ choose orElse pick allBelow rises greatest levels throughout before free first follow next ended utf8 words contents offset size body bodyWord stringWord valueWord memberWord pointWord nodeWord list text places unitOf cmpOf arithOf rootFrom under nodeFrom nodeAt arity child startOf bodyRule bodies mosts endBefore placeRule endToEnd utf8Rule orderRule stringRules memberRule arrayItem objectItem valueRule partCount partValue depth depthRule valueRules plainNames plain stringRun entityRule entityItem entityRun pointRule pointRules pathRun variableRun argumentRule argumentRun literal zerosFrom ruleOf nodeRule height heightRule nodeRules check numberOf packed flat placed encoded insertNew below joined inText texts number valueNames memberNames pointNames nodeNames marked names renamed table tables parts finished allMarked noneMarked entityMarks pointMarks argumentMarks marksOf nodeMarks over makeRefusal laterRefusal writeRefusal outputAfter someBelow pointStrings stringsOf usedAsString pointOthers othersOf usedOtherwise readMarks oneWay wanted got unsorted told wrote
+unfolding upto made _and_ _or_ choose orElse pick allBelow rises greatest levels throughout before free first follow next ended utf8 words contents offset size body bodyWord stringWord valueWord memberWord pointWord nodeWord list text places unitOf cmpOf arithOf rootFrom under nodeFrom nodeAt arity child startOf bodyRule bodies mosts endBefore placeRule endToEnd utf8Rule orderRule stringRules memberRule arrayItem objectItem valueRule partCount partValue depth depthRule valueRules stringRun entityRule entityItem entityRun pointRule pointRules pathRun variableRun argumentRule argumentRun literal zerosFrom ruleOf nodeRule height heightRule nodeRules check numberOf packed flat placed encoded insertNew below joined inText texts number valueNames memberNames pointNames nodeNames marked names renamed table tables parts finished allMarked noneMarked entityMarks pointMarks argumentMarks marksOf nodeMarks over makeRefusal laterRefusal writeRefusal outputAfter someBelow pointStrings stringsOf usedAsString pointOthers othersOf usedOtherwise readMarks oneWay wanted got unsorted told wrote
 all = refl

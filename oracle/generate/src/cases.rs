@@ -1,5 +1,6 @@
 //! Random cases that pass the check: every node and value kind, nested and shared.
 
+mod dots;
 mod logs;
 mod sharing;
 mod towers;
@@ -34,6 +35,8 @@ pub enum Leaning {
     Hundreds,
     /// Points that a scan passes over.
     Scans,
+    /// Names with dots in context, attributes and logged fields.
+    Dots,
 }
 
 impl Profile {
@@ -55,6 +58,11 @@ impl Profile {
     /// Enough points for hundreds of rows without pairs.
     pub const LONG: Profile =
         Profile { most_points: 1_100, most_rules: 2, most_nesting: 1, rare: 5, leaning: Leaning::Hundreds };
+    /// Small enough for the list of answers, and for a claim over the definition.
+    pub const FEW_DOTS: Profile =
+        Profile { most_points: 3, most_rules: 1, most_nesting: 2, rare: 10, leaning: Leaning::Dots };
+    pub const DOTS: Profile =
+        Profile { most_points: 5, most_rules: 4, most_nesting: 3, rare: 30, leaning: Leaning::Dots };
     pub const SCANS: Profile =
         Profile { most_points: 120, most_rules: 3, most_nesting: 2, rare: 10, leaning: Leaning::Scans };
 }
@@ -106,6 +114,9 @@ pub fn random_case(random: &mut Random, profile: Profile) -> RandomCase {
         literals: Vec::new(),
         conditions: Vec::new(),
         measures: Vec::new(),
+        parts: &[],
+        joined: Vec::new(),
+        fork: None,
     };
     making.values();
     making.log();
@@ -147,6 +158,11 @@ struct Making<'a> {
     conditions: Vec<u32>,
     /// Of each node made so far, up to the last that was measured.
     measures: Vec<sharing::Measure>,
+    /// What names with dots are joined of, and the objects that have them.
+    parts: &'static [&'static str],
+    joined: Vec<dots::Joined>,
+    /// A key that leads back from the longest name to a shorter one.
+    fork: Option<String>,
 }
 
 impl Making<'_> {
@@ -181,6 +197,7 @@ impl Making<'_> {
         }
         match self.profile.leaning {
             Leaning::Values => self.shared_values(),
+            Leaning::Dots => self.dotted_values(),
             Leaning::Rows | Leaning::Hundreds => {
                 if self.random.percent(10) {
                     self.shared_values();
@@ -239,6 +256,14 @@ impl Making<'_> {
         self.builder.object(&members)
     }
 
+    /// Logged fields, context or attributes.
+    fn record_of(&mut self, names: &[&'static str], least: usize) -> u32 {
+        match self.dotted_record() {
+            Some(object) => object,
+            None => self.object(names, least),
+        }
+    }
+
     /// Mostly one of the first few, so that fields and terms meet.
     fn common_value(&mut self) -> u32 {
         let few = if self.random.percent(75) { self.common.len().min(3) } else { self.common.len() };
@@ -255,10 +280,9 @@ impl Making<'_> {
         };
         let namespace = self.namespace();
         let (action, kind) = self.action();
-        // A dot may stand in a logged name but in no context name.
         let logged_names = if self.random.percent(5) { ["a", "b", "k", "m", "x.y"] } else { NAMES };
-        let logged = self.object(&logged_names, 2);
-        let context = self.object(&NAMES, 0);
+        let logged = self.record_of(&logged_names, 2);
+        let context = self.record_of(&NAMES, 0);
         let (principal, resource) = (self.root(), self.root());
         let entities = self.entities();
         self.builder.point(Point { time, namespace, action, kind, logged, context, principal, resource, entities });
@@ -289,8 +313,9 @@ impl Making<'_> {
     /// Records of some of the scope's entities and of others.
     fn entities(&mut self) -> Run {
         let mut items: Vec<(&str, &str, u32)> = Vec::new();
+        let often = if self.profile.leaning == Leaning::Dots { 60 } else { self.profile.rare };
         for _ in 0..3 {
-            if !self.random.percent(self.profile.rare) {
+            if !self.random.percent(often) {
                 continue;
             }
             let (ty, id) = if self.random.percent(70) {
@@ -300,7 +325,7 @@ impl Making<'_> {
                 (self.random.pick(&TYPES), self.random.pick(&TEXTS))
             };
             if !items.iter().any(|item| item.0 == ty && item.1 == id) {
-                items.push((ty, id, self.object(&ATTRIBUTES, 0)));
+                items.push((ty, id, self.record_of(&ATTRIBUTES, 0)));
             }
         }
         self.builder.entities(&items)
@@ -323,6 +348,9 @@ impl Making<'_> {
     }
 
     fn path(&mut self, names: &[&str]) -> Run {
+        if let Some(path) = self.dotted_path() {
+            return path;
+        }
         let length = if self.random.percent(93) { 1 } else { 2 };
         let path: Vec<&str> = (0..length)
             .map(|_| if self.random.percent(90) { self.random.pick(&names[..2]) } else { self.random.pick(names) })
@@ -427,6 +455,7 @@ impl Making<'_> {
             Leaning::Rows if self.random.percent(75) => Some(self.many_rows(nesting)),
             Leaning::Hundreds if self.random.percent(85) => Some(self.hundreds()),
             Leaning::Scans if self.random.percent(50) => Some(self.scan()),
+            Leaning::Dots if self.random.percent(75) => Some(self.dotted_condition()),
             _ => None,
         }
     }

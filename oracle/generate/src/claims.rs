@@ -30,6 +30,10 @@ given r = (r .said, r .workspace, r .output)
 ";
 }
 
+/// The list of modules, the laws, the examples, and what theorems alone speak of.
+const BESIDES: [&str; 10] =
+    ["Lib", "Laws", "Examples", "CarriedExamples", "Written", "Single", "Demands", "Calls01", "Readings", "Undotted"];
+
 const NAMES: &str = "-- Claims over the definition: what the model says, by computation
 use mathlib.Core.Path.{_≡_, refl}
 use mathlib.Core.Bool.{Bool, true, false}
@@ -41,7 +45,7 @@ use Rattle.meaning.specs.Calls.{Call, Said, gives, refuses, Result, verdict, nu
 ";
 
 impl Definitions {
-    /// Reads every file of the folder but the list of modules, the laws and the examples.
+    /// Reads every file of the folder but those besides the definition.
     pub fn read(folder: &Path) -> Result<Definitions> {
         let mut paths: Vec<_> = fs::read_dir(folder)?.map(|entry| entry.map(|e| e.path())).collect::<Result<_>>()?;
         paths.retain(|path| path.extension().is_some_and(|extension| extension == "antt"));
@@ -49,8 +53,7 @@ impl Definitions {
         let mut files = Vec::new();
         for path in paths {
             let name = path.file_stem().unwrap_or_default().to_string_lossy().into_owned();
-            let besides = ["Lib", "Laws", "Examples", "CarriedExamples", "Written", "Single", "Demands"];
-            if !besides.contains(&name.as_str()) {
+            if !BESIDES.contains(&name.as_str()) {
                 files.push((name, unfoldable(&fs::read_to_string(&path)?)));
             }
         }

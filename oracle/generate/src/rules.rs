@@ -1,7 +1,7 @@
 //! Case files that break each rule of the check singly, and the neighbours that just pass.
 //! What the check must say stands here by construction, not by any model.
 
-use casefile::{Tables, NONE};
+use casefile::{Builder, Point, Run, Tables, NONE};
 
 use crate::rules_base::*;
 
@@ -368,6 +368,7 @@ impl RuleList {
         self.change(0, "a value's type with a quotation mark", |t| t.values[ENTITY][1] = QUOTED);
     }
 
+    /// Names may hold dots (document 02, #103), a path's names may not.
     fn dots(&mut self) {
         let holders = [
             (DOTTED_OBJECT, "a dotted name"),
@@ -375,8 +376,8 @@ impl RuleList {
             (DOTTED_UNDER_ARRAY, "a dotted name under an array"),
         ];
         for (value, holds) in holders {
-            self.change(5, &format!("context holds {holds}"), |t| t.points[0][7] = value as u32);
-            self.change(5, &format!("attributes hold {holds}"), |t| t.lists[ENTITIES + 2] = value as u32);
+            self.change(0, &format!("context holds {holds}"), |t| t.points[0][7] = value as u32);
+            self.change(0, &format!("attributes hold {holds}"), |t| t.lists[ENTITIES + 2] = value as u32);
             self.change(0, &format!("logged holds {holds}"), |t| t.points[0][6] = value as u32);
             self.change(0, &format!("principal holds {holds}"), |t| t.points[0][8] = value as u32);
         }
@@ -384,6 +385,15 @@ impl RuleList {
         self.change(0, "an action with a dot", |t| t.points[0][4] = DOTTED);
         self.change(6, "a path name with a dot", |t| t.lists[PATH] = DOTTED);
         self.change(0, "a predicate's action with a dot", |t| t.nodes[PREDICATE][3] = DOTTED);
+        self.change(6, "context holds a dotted name, and a node is broken", |t| {
+            t.points[0][7] = DOTTED_OBJECT as u32;
+            t.nodes[TP][0] = 11;
+        });
+        self.change(5, "attributes hold a dotted name, and their type a quotation mark", |t| {
+            t.lists[ENTITIES + 5] = DOTTED_OBJECT as u32;
+            t.lists[ENTITIES + 3] = QUOTED;
+        });
+        self.add(0, "context and attributes with names of dots alone", &dots_alone());
     }
 
     fn node_words(&mut self) {
@@ -572,6 +582,24 @@ impl RuleList {
         bytes.push(0);
         self.add_bytes(1, "17 variables in a file with a byte too many", bytes);
     }
+}
+
+/// A point whose context and attributes have names that are dots, or begin or end with one, inside an
+/// array, too.
+fn dots_alone() -> Tables {
+    let mut builder = Builder::new(0);
+    let one = builder.int(1);
+    let mut object = builder.object(&[]);
+    for name in ["", ".", "..", ".q", "e.", "uart.0"] {
+        let items = builder.array(&[object]);
+        object = builder.object(&[(name, one), ("..a", items), ("a.", object)]);
+    }
+    let entities = builder.entities(&[("T", "i", object)]);
+    let (action, kind) = (builder.string("A"), builder.string("request"));
+    let (namespace, context) = (Run::default(), object);
+    let (principal, resource) = (None, None);
+    builder.point(Point { time: 0, namespace, action, kind, logged: object, context, principal, resource, entities });
+    builder.finish()
 }
 
 /// Strings, values and list words of the base case.

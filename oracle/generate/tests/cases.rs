@@ -4,7 +4,7 @@ use generate::cases::random_case;
 use generate::{Profile, Random};
 use model::Model;
 
-const PROFILES: [Profile; 9] = [
+const PROFILES: [Profile; 11] = [
     Profile::TINY,
     Profile::SMALL,
     Profile::USUAL,
@@ -14,6 +14,8 @@ const PROFILES: [Profile; 9] = [
     Profile::PAIRS,
     Profile::LONG,
     Profile::SCANS,
+    Profile::FEW_DOTS,
+    Profile::DOTS,
 ];
 
 #[test]

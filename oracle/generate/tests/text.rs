@@ -10,7 +10,7 @@ use model::Model;
 fn text_and_back_means_the_same() {
     let mut random = Random::new(7);
     for _ in 0..3_000 {
-        let profile = if random.percent(50) { Profile::SMALL } else { Profile::USUAL };
+        let profile = random.pick(&[Profile::SMALL, Profile::USUAL, Profile::DOTS]);
         let case = random_case(&mut random, profile);
         let text = unpack(&case.tables).expect("a checked case has a text");
         let packed = pack(&text).unwrap_or_else(|fault| panic!("{fault}\n{text}"));

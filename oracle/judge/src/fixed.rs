@@ -2,6 +2,7 @@
 //! hardly hit on.
 
 use casefile::{Builder, Node, Point, Run, Tables, Within};
+use generate::examples::examples;
 use generate::{Call, Kind};
 
 /// A case and the calls on it.
@@ -19,6 +20,33 @@ const DAY: Within = Within { amount: 1, unit: 3 };
 /// The cases, each named by the slip that its calls catch.
 pub fn fixed() -> Vec<Fixed> {
     vec![add_and_sub_exchanged(), leaf_at_the_point_examined(), right_side_resolved(), own_part_under_a_path()]
+}
+
+/// Document 02's example on names with dots and its neighbours, as `examples/expected.txt` has them, and
+/// which of two equal texts a variable is bound to.
+pub fn dots() -> Result<Vec<Fixed>, String> {
+    let examples = examples()?;
+    let calls: Vec<Call> =
+        examples.expected.iter().filter(|example| example.file == "dots").map(|example| example.call.clone()).collect();
+    let tables = examples.cases.get("dots").ok_or("there are no examples on dots")?.tables.clone();
+    Ok(vec![Fixed { tables, calls }, cell_of_the_last_written()])
+}
+
+/// `x == context.a.b` over {a: {b: "one"}, "a.b": "one"}: the cell has the second one's number.
+fn cell_of_the_last_written() -> Fixed {
+    let mut made = Making::new(1);
+    let [first, second] = ["one", "one"].map(|text| made.builder.text(text));
+    let below = made.builder.object(&[("b", first)]);
+    let context = made.builder.object(&[("a", below), ("a.b", second)]);
+    let empty = made.builder.object(&[]);
+    made.point(empty, context, None);
+    let variable = made.builder.node(Node::Variable { variable: 0 });
+    let path = made.builder.names(&["a", "b"]);
+    let found = made.builder.node(Node::Context { path });
+    let node = made.equal(variable, found);
+    let call =
+        Call { room: 1, workspace: 2, binders: vec![0], output: 3, start: vec![0, 0], ..asked(Kind::Rows, 0, node) };
+    made.done(vec![call])
 }
 
 /// Two reviews, n 1 and n 2, and what they find for one variable: `formerly within 1d Review(n: x)`.

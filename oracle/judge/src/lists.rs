@@ -13,7 +13,7 @@ use model::{Model, Outcome};
 
 use crate::compare::{compare, Found};
 use crate::convert::Converter;
-use crate::fixed::{fixed, two_rows, Fixed};
+use crate::fixed::{dots, fixed, two_rows, Fixed};
 use crate::rust::RustCase;
 
 /// A list's file name, its bytes, and what it holds.
@@ -39,6 +39,8 @@ pub fn lists() -> Result<Vec<List>, String> {
 const CASES: usize = 300;
 /// After so many cases comes a damaged copy of the last.
 const DAMAGED_EVERY: usize = 6;
+/// Cases whose names have dots, after the others, so that those stay as they are.
+const DOTTED_CASES: usize = 60;
 const LIMIT: u64 = 3_000;
 const ROOM: u64 = 24;
 /// Larger workspaces and outputs are left out of the list, so that a replay needs little memory.
@@ -87,15 +89,23 @@ fn answers(seed: u64) -> Result<List, String> {
             calls += chosen.len();
         }
     }
-    for case in fixed() {
-        agreed(&case)?;
+    let mut random = Random::new(seed + 103);
+    for _ in 0..DOTTED_CASES {
+        let case = random_case(&mut random, Profile::FEW_DOTS);
+        let chosen = answered_calls(&mut random, &case);
+        push_case(&mut list, &case.bytes, &chosen, &mut refused);
+        calls += chosen.len();
+    }
+    let by_hand: Vec<Fixed> = fixed().into_iter().chain(dots()?).collect();
+    for case in &by_hand {
+        agreed(case)?;
         push_case(&mut list, &case.tables.encode(), &case.calls, &mut refused);
         calls += case.calls.len();
     }
     let wrong = wrong_entries();
     push_entries(&mut list, &two_rows().tables.encode(), &wrong);
     calls += wrong.len();
-    let cases = CASES + CASES / DAMAGED_EVERY + fixed().len() + 1;
+    let cases = CASES + CASES / DAMAGED_EVERY + DOTTED_CASES + by_hand.len() + 1;
     let mut bytes = Vec::new();
     for word in [cases as u32, calls as u32, MOST_CELLS as u32] {
         push(&mut bytes, word);

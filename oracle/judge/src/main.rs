@@ -6,14 +6,16 @@ use std::time::Instant;
 use generate::Random;
 use judge::examples::ask_examples;
 use judge::lists::{folder, lists};
+use judge::mix::Mix;
 use judge::run::Report;
 use judge::variants::caught;
 use model::{Model, Variant};
 
 const USAGE: &str = "usage: oracle compare N SEED    put N questions to the model and to the Rust
+       oracle compare N SEED dots   the same, of cases with dots in their names alone
        oracle carried N SEED     the same of request #106, beside single verdicts of the Rust
        oracle written N SEED     N inputs put to the model's writer of request #101
-       oracle examples           ask E1 to E12, the sample and the counted examples of both
+       oracle examples           ask E1 to E13, the sample and the counted examples of both
        oracle variants SEED [X]  catch every wrong variant of the model whose name begins with X
        oracle lists              write data/*.bin again, byte for byte";
 
@@ -22,7 +24,8 @@ fn main() -> ExitCode {
     let arguments: Vec<&str> = arguments.iter().map(String::as_str).collect();
     let number = |text: &str| text.parse::<u64>().map_err(|_| format!("`{text}` is no number"));
     let done = match arguments[..] {
-        ["compare", questions, seed] => number(questions).and_then(|n| compare(n, number(seed)?)),
+        ["compare", questions, seed] => number(questions).and_then(|n| compare(n, number(seed)?, None)),
+        ["compare", questions, seed, mix] => number(questions).and_then(|n| compare(n, number(seed)?, Some(mix))),
         ["carried", questions, seed] => number(questions).and_then(|n| carried(n, number(seed)?)),
         ["written", inputs, seed] => number(inputs).and_then(|n| written(n, number(seed)?)),
         ["examples"] => examples(),
@@ -42,9 +45,10 @@ fn main() -> ExitCode {
 }
 
 /// Puts questions to the model and to the Rust and prints counts by kind and all differences.
-fn compare(questions: u64, seed: u64) -> Result<bool, String> {
+fn compare(questions: u64, seed: u64, mix: Option<&str>) -> Result<bool, String> {
     let begun = Instant::now();
     let mut report = Report::new(Model::document());
+    report.mix = Mix::named(mix)?;
     report.run(&mut Random::new(seed), questions, 10);
     println!("seed {seed}: {} questions put to both in {:.1} s", report.to_both, begun.elapsed().as_secs_f64());
     for (kind, count) in &report.counts {

@@ -6,7 +6,7 @@ use generate::{Profile, Random};
 #[derive(Clone, Copy)]
 pub struct Part {
     pub profile: Profile,
-    /// How many of a thousand cases.
+    /// How many of 1,300 cases, where all parts are there.
     pub often: usize,
     /// Ample for most of its questions; the others are refused 11 or 12 by both.
     pub limit: u64,
@@ -21,21 +21,41 @@ pub struct Part {
 pub const PLAIN: Part =
     Part { profile: Profile::USUAL, often: 290, limit: 5_000, room: 60, questions: 12, limited: 0, unbound: 0 };
 
-const MIX: [Part; 8] = [
-    PLAIN,
-    Part { profile: Profile::SMALL, often: 130, ..PLAIN },
-    Part { profile: Profile::TERMS, often: 190, limit: 1_500, ..PLAIN },
-    Part { profile: Profile::VALUES, often: 110, limit: 1_500, ..PLAIN },
-    Part { profile: Profile::ROWS, often: 110, limit: 2_500, room: 200, questions: 8, unbound: 80, ..PLAIN },
-    Part { profile: Profile::SCANS, often: 140, limit: 1_500, questions: 5, limited: 2, unbound: 50, ..PLAIN },
-    Part { profile: Profile::PAIRS, often: 26, limit: 4_000, room: 2_000, questions: 3, unbound: 90, ..PLAIN },
-    Part { profile: Profile::LONG, often: 4, limit: 8_000, room: 2_000, questions: 2, unbound: 90, ..PLAIN },
-];
+const DOTS: Part = Part { profile: Profile::DOTS, often: 300, limit: 1_500, unbound: 50, ..PLAIN };
 
-impl Part {
-    pub fn random(random: &mut Random) -> Part {
-        let mut at = random.below(MIX.iter().map(|part| part.often).sum());
-        for part in MIX {
+/// The parts that a run makes its cases of.
+#[derive(Clone, Copy)]
+pub struct Mix(&'static [Part]);
+
+impl Mix {
+    pub const ALL: Mix = Mix(&[
+        PLAIN,
+        Part { profile: Profile::SMALL, often: 130, ..PLAIN },
+        Part { profile: Profile::TERMS, often: 190, limit: 1_500, ..PLAIN },
+        Part { profile: Profile::VALUES, often: 110, limit: 1_500, ..PLAIN },
+        Part { profile: Profile::ROWS, often: 110, limit: 2_500, room: 200, questions: 8, unbound: 80, ..PLAIN },
+        Part { profile: Profile::SCANS, often: 140, limit: 1_500, questions: 5, limited: 2, unbound: 50, ..PLAIN },
+        DOTS,
+        Part { profile: Profile::PAIRS, often: 26, limit: 4_000, room: 2_000, questions: 3, unbound: 90, ..PLAIN },
+        Part { profile: Profile::LONG, often: 4, limit: 8_000, room: 2_000, questions: 2, unbound: 90, ..PLAIN },
+    ]);
+
+    /// Cases whose names have dots, and no others.
+    pub const DOTS: Mix = Mix(&[DOTS, Part { profile: Profile::FEW_DOTS, often: 200, ..DOTS }]);
+
+    /// The mix that a word on the command line names.
+    pub fn named(word: Option<&str>) -> Result<Mix, String> {
+        match word {
+            None => Ok(Mix::ALL),
+            Some("dots") => Ok(Mix::DOTS),
+            Some(other) => Err(format!("`{other}` is no mix of cases: leave it out, or say dots")),
+        }
+    }
+
+    pub fn part(self, random: &mut Random) -> Part {
+        let Mix(parts) = self;
+        let mut at = random.below(parts.iter().map(|part| part.often).sum());
+        for &part in parts {
             if at < part.often {
                 return part;
             }

@@ -10,7 +10,7 @@ use generate::{Call, Kind, Profile, Random, RandomCase};
 use model::{Model, Outcome, Variant};
 
 use crate::compare::{compare, Found};
-use crate::mix::{Part, PLAIN};
+use crate::mix::{Mix, Part, PLAIN};
 use crate::reach::Reach;
 use crate::rust::RustCase;
 
@@ -20,6 +20,7 @@ pub type Beside = fn(&Call, &[u8], &Done) -> Result<(), String>;
 /// What was put to whom, and what differed.
 pub struct Report {
     pub model: Model,
+    pub mix: Mix,
     /// Asked every call that the model is asked.
     pub beside: Vec<Beside>,
     /// Questions answered by the model and by the Rust.
@@ -37,13 +38,20 @@ struct Asked<'a> {
 
 impl Report {
     pub fn new(model: Model) -> Report {
-        Report { model, beside: Vec::new(), to_both: 0, counts: BTreeMap::new(), differences: Vec::new() }
+        Report {
+            model,
+            mix: Mix::ALL,
+            beside: Vec::new(),
+            to_both: 0,
+            counts: BTreeMap::new(),
+            differences: Vec::new(),
+        }
     }
 
     /// Random cases and questions until this many were put to both, or this many differences found.
     pub fn run(&mut self, random: &mut Random, questions: u64, most_differences: usize) {
         while self.to_both < questions && self.differences.len() < most_differences {
-            let part = Part::random(random);
+            let part = self.mix.part(random);
             let case = random_case(random, part.profile);
             self.count("random cases");
             let refusal = self.done(&Call::check(), &case.bytes).outcome.refusal;
@@ -59,8 +67,9 @@ impl Report {
     pub fn damage(&mut self, random: &mut Random, copies: u64, most_differences: usize) {
         let mut made = 0;
         while made < copies && self.differences.len() < most_differences {
-            let small = Part { profile: Profile::SMALL, ..PLAIN };
-            let part = if random.percent(60) { small } else { Part::random(random) };
+            // Small ones, since a wound in a large table mostly does no harm.
+            let profile = random.pick(&[Profile::SMALL, Profile::SMALL, Profile::FEW_DOTS]);
+            let part = if random.percent(60) { Part { profile, ..PLAIN } } else { self.mix.part(random) };
             let case = random_case(random, part.profile);
             for _ in 0..10.min(copies - made) {
                 self.damaged_copy(random, &case, part);

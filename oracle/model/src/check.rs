@@ -153,8 +153,10 @@ impl Check<'_> {
     }
 
     fn points(&self) -> bool {
-        let dotless = self.dotless_values();
-        (0..self.file.count(Table::Points)).all(|k| self.point(k, &dotless))
+        let dotless = if self.is(Variant::DotsRefused) { self.dotless_values() } else { Vec::new() };
+        // #103 dropped document 01's rule on dots; the variant keeps it.
+        let may_be_looked_up = |value: u32| self.is_object(value) && dotless.get(value as usize) != Some(&false);
+        (0..self.file.count(Table::Points)).all(|k| self.point(k, &may_be_looked_up))
     }
 
     /// For every value whether no name inside it, at any depth, holds a dot.
@@ -164,9 +166,7 @@ impl Check<'_> {
             let [kind, first, count, _] = self.file.value(number);
             let names =
                 kind != 7 || count == 0 || self.file.members(first, count).iter().all(|[name, _]| !self.has_dot(*name));
-            let below = (kind == 6 && self.is(Variant::DotUnderArray))
-                || self.children(number).iter().all(|&child| dotless[child as usize]);
-            dotless.push(names && below);
+            dotless.push(names && self.children(number).iter().all(|&child| dotless[child as usize]));
         }
         dotless
     }
@@ -175,7 +175,7 @@ impl Check<'_> {
         self.file.string(string).contains(&b'.')
     }
 
-    fn point(&self, number: usize, dotless: &[bool]) -> bool {
+    fn point(&self, number: usize, may_be_looked_up: &dyn Fn(u32) -> bool) -> bool {
         let [_, _, namespace, names, action, kind, logged, context, principal, resource, entities, count] =
             self.file.point(number);
         let optional = |value: u32| value == NONE || self.file.has(Table::Values, value);
@@ -183,12 +183,11 @@ impl Check<'_> {
             && self.is_string(action)
             && self.is_string(kind)
             && self.is_object(logged)
-            && self.is_object(context)
-            && dotless[context as usize]
+            && may_be_looked_up(context)
             && optional(principal)
             && optional(resource)
             && self.run_in(Table::Lists, entities, count, 3)
-            && self.entities(entities, count, dotless)
+            && self.entities(entities, count, may_be_looked_up)
     }
 
     fn string_run(&self, first: u32, count: u32) -> bool {
@@ -200,15 +199,14 @@ impl Check<'_> {
         self.file.has(Table::Values, value) && self.file.value(value)[0] == 7
     }
 
-    /// Entities rise strictly by (type, id); types hold no quotation mark; attributes no dots.
-    fn entities(&self, first: u32, count: u32, dotless: &[bool]) -> bool {
+    /// Entities rise strictly by (type, id); types hold no quotation mark.
+    fn entities(&self, first: u32, count: u32, may_be_looked_up: &dyn Fn(u32) -> bool) -> bool {
         let words = if count == 0 { Vec::new() } else { self.file.list(first, 3 * count as usize) };
         let entities: Vec<&[u32]> = words.chunks(3).collect();
         let each = entities.iter().all(|entity| {
             self.is_string(entity[0])
                 && self.is_string(entity[1])
-                && self.is_object(entity[2])
-                && dotless[entity[2] as usize]
+                && may_be_looked_up(entity[2])
                 && (self.is(Variant::QuotedTypePasses) || !self.file.string(entity[0]).contains(&b'"'))
         });
         let rising = entities.windows(2).all(|pair| {
@@ -272,7 +270,9 @@ impl Check<'_> {
 
     fn path(&self, first: u32, count: u32) -> bool {
         self.string_run(first, count)
-            && (count == 0 || self.file.list(first, count as usize).iter().all(|&name| !self.has_dot(name)))
+            && (count == 0
+                || self.is(Variant::DottedPathPasses)
+                || self.file.list(first, count as usize).iter().all(|&name| !self.has_dot(name)))
     }
 
     fn binders(&self, first: u32, count: u32) -> bool {

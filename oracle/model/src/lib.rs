@@ -1,4 +1,4 @@
-//! A model of document 01, written from that document and its readings alone:
+//! A model of documents 01 and 02 (#103 to #106), written from them and their readings alone:
 //! literal and slow. `Model::document()` is the document; every other variant
 //! has one rule changed and exists to be caught.
 
@@ -7,6 +7,7 @@ mod carried;
 mod check;
 mod equality;
 mod file;
+mod lookup;
 mod utf8;
 mod variant;
 mod walk;

@@ -15,7 +15,18 @@ fn faults_have_line_and_column() {
     );
     assert_eq!(fault("variables x\nrule r = y == 1"), "2:10: `y` is no variable; `variables` at the top declares them");
     assert_eq!(fault("point 5 A\n  logged {a: 1, a: 2}"), "2:17: the name \"a\" is in this object twice");
-    assert_eq!(fault("point 5 A\n  context {\"a.b\": 1}"), "2:3: a name inside this context holds a dot");
+    assert_eq!(
+        fault("rule r = context.\"uart.0\" == 1"),
+        "1:18: a name in a path holds no dot: write uart.0, which finds \"uart.0\""
+    );
+    assert_eq!(
+        fault("rule r = resource.\".q x\" == 1"),
+        "1:19: a name in a path holds no dot: write \"\".\"q x\", which finds \".q x\""
+    );
+    assert_eq!(
+        fault("rule r = A(\"uart.0\": 1)"),
+        "1:12: a name in a path holds no dot, and a logged field whose name holds one is reached by no path"
+    );
     assert_eq!(
         fault("point 5 A\n  entity T::\"x\" {}\n  entity T::\"x\" {}"),
         "3:3: this entity has its record twice at this point"
@@ -143,4 +154,29 @@ fn the_text_has_the_names_that_are_given() {
     // Names that cannot be written are made up instead.
     let wrong = Given { variables: vec!["rule".to_string()], rules: Vec::new() };
     assert_eq!(unpack_named(&packed.tables, wrong), unpack(&packed.tables));
+}
+
+/// Names with dots, of dots alone and empty ones, in values and along paths: the text reads back as it was.
+#[test]
+fn names_with_dots_go_both_ways() {
+    let text =
+        "point 5 A\n  logged {\"\": 1, \".\": 2, \"uart.0\": 3}\n  context {\".q\": {\"e.\": [{\"a.b\": 1}]}}\n  \
+                principal T::\"x\"\n  entity T::\"x\" {\"id.a\": 4, \"t y\": 5}\n\
+                rule r0 = A(a.0.00: *, \"0\".b: *, \"\": *)\n\
+                rule r1 = (context.uart.0 == context.0x1._.\"\") or (principal.id.a == resource.\"t y\".\"\".\"é\")\n";
+    let packed = pack(text).expect("it packs");
+    let names = |node: usize, at: usize| {
+        let [first, count] = [packed.tables.nodes[node][at], packed.tables.nodes[node][at + 1]];
+        let run = &packed.tables.lists[first as usize..(first + count) as usize];
+        let name = |&name: &u32| String::from_utf8(packed.tables.string(name).to_vec()).expect("it is UTF-8");
+        run.iter().map(name).collect::<Vec<String>>()
+    };
+    let context: Vec<usize> = (0..packed.tables.nodes.len()).filter(|&k| packed.tables.nodes[k][0] == 21).collect();
+    assert_eq!(names(context[0], 1), ["uart", "0"]);
+    assert_eq!(names(context[1], 1), ["0x1", "_", ""]);
+    let again = unpack(&packed.tables).expect("it has a text");
+    assert_eq!(pack(&again).expect("it packs").tables, packed.tables, "{again}");
+    let wanted = "(context.uart.0 == context.0x1._.\"\") or (principal.id.a == resource.\"t y\".\"\".\"é\")";
+    assert!(again.contains(wanted), "{again}");
+    assert!(again.contains("A(a.0.00: *, \"0\".b: *, \"\": *)"), "{again}");
 }

@@ -4,6 +4,7 @@ use std::collections::BTreeMap;
 use std::time::Instant;
 
 use generate::Random;
+use judge::mix::Mix;
 use judge::run::Report;
 use model::Model;
 
@@ -13,9 +14,10 @@ use crate::{carried, written};
 /// More differences than this end the run.
 const MOST_DIFFERENCES: usize = 10;
 
-pub fn run(questions: u64, copies: u64, seed: u64) -> Result<bool, String> {
+pub fn run(questions: u64, copies: u64, seed: u64, mix: Option<&str>) -> Result<bool, String> {
     let begun = Instant::now();
     let mut report = Report::new(Model::document());
+    report.mix = Mix::named(mix)?;
     report.beside = vec![unchecked, checked, by_crate];
     let mut random = Random::new(seed);
     report.run(&mut random, questions, MOST_DIFFERENCES);

@@ -4,6 +4,7 @@ mod archive;
 mod carried;
 mod checking;
 mod compare;
+mod dots;
 mod lookups;
 mod shapes;
 mod speed;
@@ -15,12 +16,14 @@ use std::process::ExitCode;
 
 const USAGE: &str = "usage: figures speed                        time a question, ours and the Rust's, on every shape
        figures check                        the check's throughput beside a plain pass
-       figures compare N DAMAGED SEED       N questions and DAMAGED damaged files, put to all
+       figures compare N DAMAGED SEED [dots]   N questions and DAMAGED damaged files, put to all;
+                                            `dots`: of cases with dots in their names alone
        figures carried N DAMAGED SEED       the same of request #106; `compare` asks a tenth as many, too
        figures write N DAMAGED SEED         the writer of request #101 beside the model; likewise
        figures writing                      time the writer beside Rust's sort and dedup
        figures write-once SHAPE TIMES       one shape of it (0 to 7) so often, to be profiled
        figures once SHAPE TIMES ours|rust   ask one shape so often, to be profiled
+       figures dots [K]                     time one lookup in files of shared names, in all or in file K
        figures lookups                      time a name's lookup in records of 4 to 16,384 members
        figures lookup MEMBERS first|last|miss TIMES ours|rust   one of them so often, to be profiled";
 
@@ -32,7 +35,10 @@ fn main() -> ExitCode {
         ["speed"] => speed::print_tables(),
         ["check"] => checking::print_table(),
         ["compare", questions, copies, seed] => {
-            number(questions).and_then(|n| compare::run(n, number(copies)?, number(seed)?))
+            number(questions).and_then(|n| compare::run(n, number(copies)?, number(seed)?, None))
+        }
+        ["compare", questions, copies, seed, mix] => {
+            number(questions).and_then(|n| compare::run(n, number(copies)?, number(seed)?, Some(mix)))
         }
         ["carried", questions, copies, seed] => {
             number(questions).and_then(|n| compare::carried(n, number(copies)?, number(seed)?))
@@ -44,6 +50,8 @@ fn main() -> ExitCode {
         ["write-once", shape, times] => number(shape).and_then(|k| writing::once(k as usize, number(times)?)),
         ["once", shape, times, who] => number(times).and_then(|n| speed::once(shape, n, who == "rust")),
         ["lookups"] => lookups::print_table(),
+        ["dots"] => dots::print_table(None),
+        ["dots", file] => number(file).and_then(|file| dots::print_table(Some(file as usize))),
         ["lookup", members, name, times, who] => {
             number(members).and_then(|m| lookups::once(m as usize, name, number(times)?, who == "rust"))
         }

@@ -52,6 +52,8 @@ pub const SHAPES: &[Shape] = &[
     shape("count at each point", 125, count_each),
     shape("And/Or 40 deep, at each point", 250, deep_tree),
     shape("context of 400 members", 1_000, wide_context),
+    shape("context of 400 members, two names", 1_000, wide_context_below),
+    shape("context of 400 members with dots", 1_000, wide_context_dotted),
     shape("logged record of 400 fields", 1_000, wide_logged),
     shape("correlated exists", 125, correlated),
     shape("flat arrays", 1_000, flat_arrays),
@@ -148,6 +150,23 @@ fn wide_context(points: usize) -> String {
     let log = log(points, |k| format!("Flash logged @o{} context @wide", k % 8));
     let rule = "rule asked = formerly within 9d Flash(board: context.m399)";
     format!("{}value wide = {}\n{log}{rule}", objects(8), wide_object())
+}
+
+/// A path of two names through the last of 400 members; no name of the file holds a dot.
+fn wide_context_below(points: usize) -> String {
+    let log = log(points, |k| format!("Flash logged @o{} context @wide", k % 8));
+    let members: Vec<String> = (0..WIDE).map(|k| format!("m{k}: @below")).collect();
+    let rule = "rule asked = formerly within 9d Flash(board: context.m399.board)";
+    let wide = members.join(", ");
+    format!("{}value below = {{board: \"b9\"}}\nvalue wide = {{{wide}}}\n{log}{rule}", objects(8))
+}
+
+/// The same of 400 members with a dot each.
+fn wide_context_dotted(points: usize) -> String {
+    let log = log(points, |k| format!("Flash logged @o{} context @wide", k % 8));
+    let members: Vec<String> = (0..WIDE).map(|k| format!("\"uart.{k}\": \"b9\"")).collect();
+    let rule = "rule asked = formerly within 9d Flash(board: context.uart.399)";
+    format!("{}value wide = {{{}}}\n{log}{rule}", objects(8), members.join(", "))
 }
 
 fn wide_logged(points: usize) -> String {

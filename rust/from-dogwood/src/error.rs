@@ -22,7 +22,7 @@ pub enum Error {
     EntityType(String),
     /// Context and scope in the environment are not those of the point asked about.
     OtherEnvironment,
-    /// The case is refused: it is too large, too deep, or a name inside a context holds a dot.
+    /// The case is refused: it is too large or too deep.
     Case(Refusal),
     /// The question is refused.
     Question(Refused),

@@ -128,7 +128,7 @@ fn random_questions_are_answered_alike() {
     let mut random = Random::new(22);
     let (mut answered, mut too_large) = (0, 0);
     while answered < 2_000 {
-        let profile = if random.percent(50) { Profile::SMALL } else { Profile::USUAL };
+        let profile = random.pick(&[Profile::SMALL, Profile::USUAL, Profile::DOTS]);
         let case = random_case(&mut random, profile);
         let converter = Converter { tables: &case.tables };
         let (trace, rust) = (converter.trace(), RustCase::new(&case.tables));
@@ -177,11 +177,23 @@ fn what_a_case_cannot_hold_is_an_error() {
     let arguments = arguments.iter().map(|name| (name.as_str(), Term::Var(name.clone()))).collect();
     assert_eq!(error(&predicate("A", arguments), &trace), Error::TooManyVariables);
 
-    let dotted = Event::builder("A", "request").request_context_field("a.b", Value::Int(1)).build();
-    assert_eq!(error(&equal(context("a")), &Trace { points: vec![dotted] }), Error::Case(Refusal::BadPoints));
     let quoted = Event::builder("A", "request").principal_for("U\"", "ann").build();
     let said = error(&equal(context("a")), &Trace { points: vec![quoted] });
     assert_eq!(said, Error::EntityType("U\"".to_string()));
+}
+
+/// What is written last under a key stands, however the rule's path is cut into names.
+#[test]
+fn names_with_dots_are_answered_alike() {
+    let nested = Value::Object([("b".to_string(), Value::Int(2))].into());
+    let event = Event::builder("A", "request").request_context_field("a", nested);
+    let trace = Trace { points: vec![event.request_context_field("a.b", Value::Int(1)).build()] };
+    let env = eval::request_env(&trace, 0);
+    for (path, yes) in [(&["a.b"][..], true), (&["a", "b"], true), (&["a"], false), (&["b"], false), (&[""], false)] {
+        let rule = equal(Term::ContextField(path.iter().map(|name| name.to_string()).collect()));
+        assert_eq!(eval::eval_condition(&trace, 0, &env, &rule), yes, "{path:?}");
+        assert_eq!(from_dogwood::eval_condition(&trace, 0, &env, &rule), Ok(yes), "{path:?}");
+    }
 }
 
 #[test]

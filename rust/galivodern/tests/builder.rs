@@ -228,14 +228,6 @@ fn what_the_writer_refuses_is_explained() {
         builder.point(NewPoint::at(0, "A").entity("q\"", "i", none));
     });
     says(quoted, Refusal::BadPoints, "the type of an entity of point 0 holds a quotation mark: q\"");
-    let dotted = refused(|builder| {
-        let one = builder.int(1);
-        let object = builder.object(&[("a.b", one)]);
-        let array = builder.array(&[object.into()]);
-        let context = builder.object(&[("a", array)]);
-        builder.point(NewPoint::at(0, "A").context(context));
-    });
-    says(dotted, Refusal::BadPoints, "a name in the context of point 0 holds a dot");
 }
 
 #[test]

@@ -76,49 +76,49 @@ returns : tie.Need-returns
 returns c = refused _ _ (one _ (denied _ _ (c .before .check-bodies .ensures) (c .if1 .taken)))
 
 check-mosts-requires : tie.Need-check-mosts-requires
-check-mosts-requires c κs = (said _ _ (c .before .check-bodies .ensures) (c .if1 .left))
+check-mosts-requires c κs = search (said, needs)
 
 returns-2 : tie.Need-returns-2
-returns-2 c = refused _ _ (two _ (said _ _ (c .before .before .before .check-bodies .ensures) (c .before .before .if1 .left)) (denied _ _ (c .before .check-mosts .ensures) (c .if2 .taken)))
+returns-2 c = search (refused, two, said, denied, needs)
 
 check-strings-requires : tie.Need-check-strings-requires
-check-strings-requires c κs = (said _ _ (c .before .before .before .check-bodies .ensures) (c .before .before .if1 .left))
+check-strings-requires c κs = search (said, needs)
 
 returns-3 : tie.Need-returns-3
-returns-3 c = refused _ _ (three _ (said _ _ (c .before .before .before .before .before .check-bodies .ensures) (c .before .before .before .before .if1 .left)) (said _ _ (c .before .before .before .check-mosts .ensures) (c .before .before .if2 .left)) (denied _ _ (c .before .check-strings .ensures) (c .if3 .taken)))
+returns-3 c = search (refused, three, said, denied, needs)
 
 check-values-requires : tie.Need-check-values-requires
 check-values-requires c κs = ((said _ _ (c .before .before .before .before .before .check-bodies .ensures) (c .before .before .before .before .if1 .left)), (said _ _ (c .before .before .before .check-mosts .ensures) (c .before .before .if2 .left)))
 
 returns-4 : tie.Need-returns-4
-returns-4 c = refused _ _ (four _ (said _ _ (c .before .before .before .before .before .before .before .check-bodies .ensures) (c .before .before .before .before .before .before .if1 .left)) (said _ _ (c .before .before .before .before .before .check-mosts .ensures) (c .before .before .before .before .if2 .left)) (said _ _ (c .before .before .before .check-strings .ensures) (c .before .before .if3 .left)) (denied _ _ (c .before .check-values .ensures) (c .if4 .taken)))
+returns-4 c = search (refused, four, said, denied, needs)
 
 list-tops-requires : tie.Need-list-tops-requires
 list-tops-requires c κs = ((said _ _ (c .before .before .before .before .before .before .before .check-bodies .ensures) (c .before .before .before .before .before .before .if1 .left)), (said _ _ (c .before .before .before .before .before .check-mosts .ensures) (c .before .before .before .before .if2 .left)))
 
-free-strings-requires : tie.Need-free-strings-requires
-free-strings-requires c κs = ((said _ _ (c .before .before .before .before .before .before .before .before .check-bodies .ensures) (c .before .before .before .before .before .before .before .if1 .left)), ((said _ _ (c .before .before .before .before .before .before .check-mosts .ensures) (c .before .before .before .before .before .if2 .left)), placed _ (said _ _ (c .before .before .before .before .check-strings .ensures) (c .before .before .before .if3 .left))))
-
 check-points-requires : tie.Need-check-points-requires
-check-points-requires c κs = ((said _ _ (c .before .before .before .before .before .before .before .before .before .before .before .check-bodies .ensures) (c .before .before .before .before .before .before .before .before .before .before .if1 .left)), ((said _ _ (c .before .before .before .before .before .before .before .before .before .check-mosts .ensures) (c .before .before .before .before .before .before .before .before .if2 .left)), (placed _ (said _ _ (c .before .before .before .before .before .before .before .check-strings .ensures) (c .before .before .before .before .before .before .if3 .left)), (each _ (said _ _ (c .before .before .before .before .before .check-values .ensures) (c .before .before .before .before .if4 .left)), (c .before .before .before .list-tops .ensures, c .before .before .free-strings .ensures)))))
+check-points-requires c κs = (said _ _ (c .before .before .before .before .before .before .before .before .before .check-bodies .ensures) (c .before .before .before .before .before .before .before .before .if1 .left), (said _ _ (c .before .before .before .before .before .before .before .check-mosts .ensures) (c .before .before .before .before .before .before .if2 .left), (placed _ (said _ _ (c .before .before .before .before .before .check-strings .ensures) (c .before .before .before .before .if3 .left)), (c .before .list-tops .ensures))))
 
 returns-5 : tie.Need-returns-5
-returns-5 c = refused _ _ (five _ (said _ _ (c .before .before .before .before .before .before .before .before .before .before .before .before .before .check-bodies .ensures) (c .before .before .before .before .before .before .before .before .before .before .before .before .if1 .left)) (said _ _ (c .before .before .before .before .before .before .before .before .before .before .before .check-mosts .ensures) (c .before .before .before .before .before .before .before .before .before .before .if2 .left)) (said _ _ (c .before .before .before .before .before .before .before .before .before .check-strings .ensures) (c .before .before .before .before .before .before .before .before .if3 .left)) (said _ _ (c .before .before .before .before .before .before .before .check-values .ensures) (c .before .before .before .before .before .before .if4 .left)) (denied _ _ (c .before .check-points .ensures) (c .if5 .taken)))
+returns-5 c = search (refused, five, said, denied, needs)
+
+free-strings-requires : tie.Need-free-strings-requires
+free-strings-requires c κs = (said _ _ (c .before .before .before .before .before .before .before .before .before .before .before .check-bodies .ensures) (c .before .before .before .before .before .before .before .before .before .before .if1 .left), (said _ _ (c .before .before .before .before .before .before .before .before .before .check-mosts .ensures) (c .before .before .before .before .before .before .before .before .if2 .left), placed _ (said _ _ (c .before .before .before .before .before .before .before .check-strings .ensures) (c .before .before .before .before .before .before .if3 .left))))
 
 path-blocks-requires : tie.Need-path-blocks-requires
-path-blocks-requires c κs = ((said _ _ (c .before .before .before .before .before .before .before .before .before .before .before .before .before .before .check-bodies .ensures) (c .before .before .before .before .before .before .before .before .before .before .before .before .before .if1 .left)), ((said _ _ (c .before .before .before .before .before .before .before .before .before .before .before .before .check-mosts .ensures) (c .before .before .before .before .before .before .before .before .before .before .before .if2 .left)), c .before .before .before .before .before .free-strings .ensures))
+path-blocks-requires c κs = search (said, needs)
 
 check-nodes-requires : tie.Need-check-nodes-requires
-check-nodes-requires c κs = ((said _ _ (c .before .before .before .before .before .before .before .before .before .before .before .before .before .before .before .before .before .before .check-bodies .ensures) (c .before .before .before .before .before .before .before .before .before .before .before .before .before .before .before .before .before .if1 .left)), ((said _ _ (c .before .before .before .before .before .before .before .before .before .before .before .before .before .before .before .before .check-mosts .ensures) (c .before .before .before .before .before .before .before .before .before .before .before .before .before .before .before .if2 .left)), (each _ (said _ _ (c .before .before .before .before .before .before .before .before .before .before .before .before .check-values .ensures) (c .before .before .before .before .before .before .before .before .before .before .before .if4 .left)), (c .before .before .before .before .before .before .before .before .before .before .list-tops .ensures, (c .before .before .before .before .before .before .before .before .before .free-strings .ensures, c .before .before .before .path-blocks .ensures)))))
+check-nodes-requires c κs = (said _ _ (c .before .before .before .before .before .before .before .before .before .before .before .before .before .before .before .before .before .check-bodies .ensures) (c .before .before .before .before .before .before .before .before .before .before .before .before .before .before .before .before .if1 .left), (said _ _ (c .before .before .before .before .before .before .before .before .before .before .before .before .before .before .before .check-mosts .ensures) (c .before .before .before .before .before .before .before .before .before .before .before .before .before .before .if2 .left), (each _ (said _ _ (c .before .before .before .before .before .before .before .before .before .before .before .check-values .ensures) (c .before .before .before .before .before .before .before .before .before .before .if4 .left)), ((c .before .before .before .before .before .before .before .before .before .list-tops .ensures), ((c .before .before .before .before .before .free-strings .ensures), (c .before .before .before .path-blocks .ensures))))))
 
 returns-6 : tie.Need-returns-6
-returns-6 c = refused _ _ (six _ (said _ _ (c .before .before .before .before .before .before .before .before .before .before .before .before .before .before .before .before .before .before .before .before .check-bodies .ensures) (c .before .before .before .before .before .before .before .before .before .before .before .before .before .before .before .before .before .before .before .if1 .left)) (said _ _ (c .before .before .before .before .before .before .before .before .before .before .before .before .before .before .before .before .before .before .check-mosts .ensures) (c .before .before .before .before .before .before .before .before .before .before .before .before .before .before .before .before .before .if2 .left)) (said _ _ (c .before .before .before .before .before .before .before .before .before .before .before .before .before .before .before .before .check-strings .ensures) (c .before .before .before .before .before .before .before .before .before .before .before .before .before .before .before .if3 .left)) (said _ _ (c .before .before .before .before .before .before .before .before .before .before .before .before .before .before .check-values .ensures) (c .before .before .before .before .before .before .before .before .before .before .before .before .before .if4 .left)) (said _ _ (c .before .before .before .before .before .before .before .before .check-points .ensures) (c .before .before .before .before .before .before .before .if5 .left)) (denied _ _ (c .before .check-nodes .ensures) (c .if6 .taken)))
+returns-6 c = search (refused, six, said, denied, needs)
 
 contents-of-requires : tie.Need-contents-of-requires
-contents-of-requires c κs = (said _ _ (c .before .before .before .before .before .before .before .before .before .before .before .before .before .before .before .before .before .before .before .before .check-bodies .ensures) (c .before .before .before .before .before .before .before .before .before .before .before .before .before .before .before .before .before .before .before .if1 .left))
+contents-of-requires c κs = search (said, needs)
 
 returns-7 : tie.Need-returns-7
-returns-7 c = passes _ _ (seven _ (said _ _ (c .before .before .before .before .before .before .before .before .before .before .before .before .before .before .before .before .before .before .before .before .before .check-bodies .ensures) (c .before .before .before .before .before .before .before .before .before .before .before .before .before .before .before .before .before .before .before .before .if1 .left)) (said _ _ (c .before .before .before .before .before .before .before .before .before .before .before .before .before .before .before .before .before .before .before .check-mosts .ensures) (c .before .before .before .before .before .before .before .before .before .before .before .before .before .before .before .before .before .before .if2 .left)) (said _ _ (c .before .before .before .before .before .before .before .before .before .before .before .before .before .before .before .before .before .check-strings .ensures) (c .before .before .before .before .before .before .before .before .before .before .before .before .before .before .before .before .if3 .left)) (said _ _ (c .before .before .before .before .before .before .before .before .before .before .before .before .before .before .before .check-values .ensures) (c .before .before .before .before .before .before .before .before .before .before .before .before .before .before .if4 .left)) (said _ _ (c .before .before .before .before .before .before .before .before .before .check-points .ensures) (c .before .before .before .before .before .before .before .before .if5 .left)) (said _ _ (c .before .before .check-nodes .ensures) (c .before .if6 .left))) (c .contents-of .ensures)
+returns-7 c = search (passes, seven, said, needs)
 
 pub check-spec : {M : Type 1} → statement M
 check-spec =
@@ -133,9 +133,9 @@ check-spec =
     check-values-requires
     returns-4
     list-tops-requires
-    free-strings-requires
     check-points-requires
     returns-5
+    free-strings-requires
     path-blocks-requires
     check-nodes-requires
     returns-6

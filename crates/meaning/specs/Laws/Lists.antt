@@ -1,6 +1,6 @@
 -- Something of every entry of a list, and entries by their place
 use mathlib.Core.Path.{_≡_}
-use mathlib.Core.List.{List, [], _∷_}
+use mathlib.Core.List.{List, [], _∷_, map}
 use Prim.Native.Nat.{ℕ, zero, suc, _+_, _*_, _<_}
 use native.Mathlib.Omega.{arith}
 use native.Mathlib.Nat.{mul-zero, mul-suc}
@@ -14,6 +14,10 @@ module _ {A : Type 0} where
   pub every-map : {P Q : A → Type 0} (xs : List A) → ((x : A) → P x → Q x) → Every P xs → Every Q xs
   every-map [] f e = tt
   every-map (x ∷ xs) f e = (f x (e .0), every-map xs f (e .1))
+
+pub every-of : {A B : Type 0} (P : B → Type 0) (f : A → B) (xs : List A) → Every (λ x. P (f x)) xs → Every P (map f xs)
+every-of P f [] e = tt
+every-of P f (x ∷ xs) e = (e .0, every-of P f xs (e .1))
 
 -- what holds of each item of a run holds of every entry of its list
 pub every-place : (P : ℕ → Type 0) (first width count : ℕ) → ((i : ℕ) → i < count → P (first + width * i)) → Every P (places first width count)

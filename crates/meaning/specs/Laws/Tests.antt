@@ -30,7 +30,7 @@ unfolding _and_
 and-true true = refl
 and-true false = refl
 
-and-assoc : (a b c : Bool) → ((a and b) and c) ≡ (a and b and c)
+pub and-assoc : (a b c : Bool) → ((a and b) and c) ≡ (a and b and c)
 unfolding _and_
 and-assoc true b c = refl
 and-assoc false b c = refl

@@ -1,4 +1,4 @@
--- What passed value rules say: runs lie in their table, parts have lower numbers; depth, plain, literal and equality by parts
+-- What passed value rules say: runs lie in their table, parts have lower numbers; depth, literal and equality by parts
 use mathlib.Core.Path.{_≡_, refl, ap, fun-ext}
 use mathlib.Core.Bool.{Bool, true, false, not}
 use mathlib.Core.List.{List, [], _∷_, map}
@@ -8,7 +8,7 @@ use lib.Dec.{ltb, leb, eqb, lit<}
 use borrow.Author.Tests.{leb-true, leb-false, ltb-true, ltb-false, le-leb, lt-leb}
 use Rattle.meaning.specs.Tests.{_and_, _or_, choose, within, allBelow, pick, greatest}
 use Rattle.meaning.specs.Case.{Part, Null, values, members, valueWord, memberWord, partAt, valueAt, valueFrom, places, caseOf}
-use Rattle.meaning.specs.Check.{bodies, valueRule, arrayItem, objectItem, partCount, partValue, depth, plain, plainNames, literal, nullRule, boolRule, intRule, textRule, entityValueRule, arrayRule, objectRule, noKind}
+use Rattle.meaning.specs.Check.{bodies, valueRule, arrayItem, objectItem, partCount, partValue, depth, literal, nullRule, boolRule, intRule, textRule, entityValueRule, arrayRule, objectRule, noKind}
 use Rattle.meaning.specs.Equal.{see, seen, alike, sameParts, sameValue}
 use Rattle.meaning.specs.Laws.Below.{made-is}
 use Rattle.meaning.specs.Laws.Tests.{both, stop, skip, pass, yes, no, all-at, levels-is, throughout-is}
@@ -90,10 +90,6 @@ module _ (s : List ℕ) (v : ℕ) where
 pub depth-is : (s : List ℕ) → allBelow (values s) (valueRule s) ≡ true → (k : ℕ) → k < values s → depth s k ≡ suc (greatest (partCount s k) (λ i. depth s (partValue s k i)))
 unfolding depth
 depth-is s h k hk = levels-is (partCount s) (partValue s) (values s) (λ m hm i hi. runs s m hm (all-at _ _ m h hm) .lower i hi) k hk
-
-pub plain-is : (s : List ℕ) → allBelow (values s) (valueRule s) ≡ true → (k : ℕ) → k < values s → plain s k ≡ (plainNames s k and allBelow (partCount s k) (λ i. plain s (partValue s k i)))
-unfolding plain
-plain-is s h k hk = throughout-is (partCount s) (partValue s) (values s) (λ m hm i hi. runs s m hm (all-at _ _ m h hm) .lower i hi) (plainNames s) k hk
 
 pub literal-is : (s : List ℕ) → allBelow (values s) (valueRule s) ≡ true → (k : ℕ) → k < values s → literal s k ≡ (not (eqb (valueWord s k 0) 0 or eqb (valueWord s k 0) 7) and allBelow (partCount s k) (λ i. literal s (partValue s k i)))
 unfolding literal

@@ -4,41 +4,38 @@ use mathlib.Core.Bool.{true}
 use mathlib.Core.Path.{_≡_, refl}
 use native.Mathlib.Omega.{arith}
 use Rattle.meaning.specs.Case.{points}
-use Rattle.meaning.specs.Check.{plain, pointRule, pointRules}
+use Rattle.meaning.specs.Check.{pointRule, pointRules}
 use Rattle.meaning.specs.Laws.Tests.{all-end, record-no, record-yes}
 use Rattle.meaning.specs.Tests.{allBelow}
 use Rattle.meaning.specs.Text.{before}
-use Rattle.pointcheck.specs.Blocks.{Entities, Plain, Unquoted}
+use Rattle.pointcheck.specs.Blocks.{Entities, Unquoted}
 use Rattle.pointcheck.proofs.check_points.Statement.{statement}
 use Rattle.pointcheck.proofs.check_points.Tie as tie
 
 abbrev Inv-loop : tie.InvT-loop
-Inv-loop s tops undotted unquoted plain blocks n p₀ p = (p ≤ n) × (n ≡ points s) × (allBelow p (pointRule s) ≡ true) × Unquoted s unquoted × Plain s plain × Entities s blocks
+Inv-loop s tops unquoted blocks n p₀ p = (p ≤ n) × (n ≡ points s) × (allBelow p (pointRule s) ≡ true) × Unquoted s unquoted × Entities s blocks
 
 abbrev μ-loop : tie.MeasureT-loop
-μ-loop s tops undotted unquoted plain blocks n p₀ p = n - p
+μ-loop s tops unquoted blocks n p₀ p = n - p
 
 free-strings-requires : tie.Need-free-strings-requires Inv-loop μ-loop
-free-strings-requires c κs = let p = c .before .pre in (p .0, (p .1 .0, p .1 .1 .0))
-
-plain-values-requires : tie.Need-plain-values-requires Inv-loop μ-loop
-plain-values-requires c κs = let p = c .before .before .pre in (p .0, (p .1 .0, (p .1 .1 .1 .0, p .1 .1 .1 .1 .1)))
+free-strings-requires c κs = search needs
 
 entity-blocks-requires : tie.Need-entity-blocks-requires Inv-loop μ-loop
-entity-blocks-requires c κs = let p = c .before .before .before .before .before .pre in (p .0, (p .1 .0, (c .before .before .before .free-strings .ensures, c .before .before .plain-values .ensures)))
+entity-blocks-requires c κs = search needs
 
 point-count-requires : tie.Need-point-count-requires Inv-loop μ-loop
-point-count-requires c κs = c .before .before .before .before .before .before .pre .0
+point-count-requires c κs = search needs
 
 wide-requires : tie.Need-wide-requires Inv-loop μ-loop
 wide-requires c κs = search needs
 
 loop-holds : tie.Need-loop-holds Inv-loop μ-loop
 unfolding allBelow
-loop-holds c = (search needs, search needs, refl, c .before .before .before .before .before .before .free-strings .ensures, c .before .before .before .before .before .plain-values .ensures, c .before .before .entity-blocks .ensures)
+loop-holds c = (search needs, search needs, refl, search needs, search needs)
 
 point-rule-requires : tie.Need-point-rule-requires Inv-loop μ-loop
-point-rule-requires c κs = let p = c .before .before .before .before .before .before .before .before .before .before .before .before .before .pre in let i = c .before .before .before .before .loop .inv in (p .0, (p .1 .0, (p .1 .1 .1 .1 .0, (i .3, (i .4, i .5)))))
+point-rule-requires c κs = let p = c .before .before .before .before .before .before .before .before .before .before .pre in let i = c .before .before .before .loop .inv in (p .0, (p .1 .0, (p .1 .1 .1, (i .3, i .4))))
 
 returns : tie.Need-returns Inv-loop μ-loop
 unfolding pointRules
@@ -51,7 +48,7 @@ loop-less : tie.Need-loop-less Inv-loop μ-loop
 loop-less c = search needs
 
 loop-again : tie.Need-loop-again Inv-loop μ-loop
-loop-again c = let i = c .before .before .before .before .before .before .loop .inv in (search needs, i .1, record-yes _ _ _ (c .if1 .left) (c .before .point-rule .ensures) (i .2), i .3, i .4, i .5)
+loop-again c = let i = c .before .before .before .before .before .loop .inv in (search needs, i .1, record-yes _ _ _ (c .if1 .left) (c .before .point-rule .ensures) (i .2), i .3, i .4)
 
 returns-2 : tie.Need-returns-2 Inv-loop μ-loop
 unfolding pointRules
@@ -64,7 +61,6 @@ check-points-spec =
     Inv-loop
     μ-loop
     free-strings-requires
-    plain-values-requires
     entity-blocks-requires
     point-count-requires
     wide-requires

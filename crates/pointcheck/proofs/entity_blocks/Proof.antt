@@ -6,7 +6,7 @@ use mathlib.Core.List.{List}
 use mathlib.Core.Path.{_≡_, refl}
 use native.Mathlib.Omega.{arith}
 use Rattle.meaning.specs.Case.{lists}
-use Rattle.meaning.specs.Check.{bodies, entityItem, mosts, plain}
+use Rattle.meaning.specs.Check.{bodies, entityItem, mosts}
 use Rattle.meaning.specs.Laws.Tests.{Filled, filled-none}
 use Rattle.meaning.specs.Tests.{allBelow}
 use Rattle.meaning.specs.Text.{before}
@@ -20,10 +20,10 @@ few : (s : List ℕ) (n m : ℕ) → bodies s ≡ true → mosts s ≡ true → 
 few s n m b h e f = (omega arith, omega (arith, list-most s h b))
 
 abbrev Inv-loop : tie.InvT-loop
-Inv-loop s unquoted plain n blocks₀ k₀ blocks k = (k ≤ n) × ((n ≡ 3 * (lists s / 1536)) × (n ≤ 2052)) × (length blocks ≡ 2052) × Filled false (λ k. allBelow 512 (entityItem s (blockStart k))) blocks k
+Inv-loop s unquoted n blocks₀ k₀ blocks k = (k ≤ n) × ((n ≡ 3 * (lists s / 1536)) × (n ≤ 2052)) × (length blocks ≡ 2052) × Filled false (λ k. allBelow 512 (entityItem s (blockStart k))) blocks k
 
 abbrev μ-loop : tie.MeasureT-loop
-μ-loop s unquoted plain n blocks₀ k₀ blocks k = n - k
+μ-loop s unquoted n blocks₀ k₀ blocks k = n - k
 
 list-count-requires : tie.Need-list-count-requires Inv-loop μ-loop
 list-count-requires c κs = c .before .pre .0
@@ -44,7 +44,7 @@ add-entity-items : tie.Need-add-entity-items Inv-loop μ-loop
 add-entity-items c = search needs
 
 entity-items-requires : tie.Need-entity-items-requires Inv-loop μ-loop
-entity-items-requires c κs = let p = c .before .before .before .before .before .pre in (p .0, (p .1 .0, (p .1 .1 .0, (p .1 .1 .1, omega (arith, c .before .before .loop .inv .1 .1)))))
+entity-items-requires c κs = let p = c .before .before .before .before .before .pre in (p .0, (p .1 .0, (p .1 .1, omega (arith, c .before .before .loop .inv .1 .1))))
 
 array-write-blocks : tie.Need-array-write-blocks Inv-loop μ-loop
 array-write-blocks c = search needs

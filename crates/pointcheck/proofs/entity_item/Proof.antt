@@ -45,7 +45,7 @@ add-at : tie.Need-add-at
 add-at c = search needs
 
 entity-rule-requires : tie.Need-entity-rule-requires
-entity-rule-requires c κs = let p = c .before .before .before .pre in (p .0, (p .1 .0, (p .1 .1 .0, (p .1 .1 .1 .0, omega arith))))
+entity-rule-requires c κs = let p = c .before .before .before .pre in (p .0, (p .1 .0, (p .1 .1 .0, omega arith)))
 
 returns : tie.Need-returns
 returns c = refused _ _ _ _ _ _ (c .before .before .before .wide .ensures) (c .before .before .wide2 .ensures) (c .before .entity-rule .ensures) (c .if1 .taken)

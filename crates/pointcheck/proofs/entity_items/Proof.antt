@@ -3,7 +3,7 @@ use borrow.Author.Needs.{needs}
 use mathlib.Core.Bool.{true}
 use mathlib.Core.Path.{_≡_}
 use native.Mathlib.Omega.{arith}
-use Rattle.meaning.specs.Check.{entityItem, plain}
+use Rattle.meaning.specs.Check.{entityItem}
 use Rattle.meaning.specs.Laws.Tests.{all-end, record-no, record-yes}
 use Rattle.meaning.specs.Tests.{allBelow}
 use Rattle.meaning.specs.Text.{before}
@@ -11,17 +11,17 @@ use Rattle.pointcheck.proofs.entity_items.Statement.{statement}
 use Rattle.pointcheck.proofs.entity_items.Tie as tie
 
 abbrev Inv-loop : tie.InvT-loop
-Inv-loop s unquoted plain first items i₀ i = (i ≤ items) × (allBelow i (entityItem s first) ≡ true)
+Inv-loop s unquoted first items i₀ i = (i ≤ items) × (allBelow i (entityItem s first) ≡ true)
 
 abbrev μ-loop : tie.MeasureT-loop
-μ-loop s unquoted plain first items i₀ i = items - i
+μ-loop s unquoted first items i₀ i = items - i
 
 loop-holds : tie.Need-loop-holds Inv-loop μ-loop
 unfolding allBelow
 loop-holds c = search needs
 
 entity-item-requires : tie.Need-entity-item-requires Inv-loop μ-loop
-entity-item-requires c κs = let p = c .before .before .before .pre in (p .0, (p .1 .0, (p .1 .1 .0, (p .1 .1 .1 .0, omega (arith, p .1 .1 .1 .1)))))
+entity-item-requires c κs = let p = c .before .before .before .pre in (p .0, (p .1 .0, (p .1 .1 .0, omega (arith, p .1 .1 .1))))
 
 returns : tie.Need-returns Inv-loop μ-loop
 returns c = record-no _ _ _ _ (c .if1 .taken) (c .before .entity-item .ensures) (c .before .before .loop-test .taken)

@@ -5,14 +5,14 @@ use mathlib.Core.Bool.{Bool}
 use mathlib.Core.List.{List}
 use mathlib.Core.Path.{_∙_, _≡_, refl}
 use Rattle.meaning.specs.Case.{list, strings, text}
-use Rattle.meaning.specs.Check.{entityRule, isString, plainObject}
+use Rattle.meaning.specs.Check.{entityRule, isObject, isString}
 use Rattle.meaning.specs.Laws.Tests.{both}
 use Rattle.meaning.specs.Tests.{_and_}
 use Rattle.meaning.specs.Text.{before, free}
 use Rattle.pointcheck.proofs.entity_rule.Statement.{statement}
 use Rattle.pointcheck.proofs.entity_rule.Tie as tie
 
-is : (s : List ℕ) (i a b d n : ℕ) (x y z r : Bool) → a ≡ list s i → b ≡ list s (i + 1) → d ≡ list s (i + 2) → n ≡ strings s → x ≡ (isString s a and free 34 (text s a)) → y ≡ plainObject s d → z ≡ (ltb b n and y) → r ≡ (x and z) → r ≡ entityRule s i
+is : (s : List ℕ) (i a b d n : ℕ) (x y z r : Bool) → a ≡ list s i → b ≡ list s (i + 1) → d ≡ list s (i + 2) → n ≡ strings s → x ≡ (isString s a and free 34 (text s a)) → y ≡ isObject s d → z ≡ (ltb b n and y) → r ≡ (x and z) → r ≡ entityRule s i
 unfolding entityRule
 is s i a b d n x y z r p q u v e f g h = h ∙ rw (e, g, f, p, q, u, v) refl
 
@@ -37,8 +37,8 @@ add-list-at-2 c = search needs
 list-at-requires-3 : tie.Need-list-at-requires-3
 list-at-requires-3 c κs = search needs
 
-plain-object-requires : tie.Need-plain-object-requires
-plain-object-requires c κs = search needs
+is-object-requires : tie.Need-is-object-requires
+is-object-requires c κs = search needs
 
 both-requires : tie.Need-both-requires
 both-requires c κs = search needs
@@ -47,7 +47,7 @@ both-requires-2 : tie.Need-both-requires-2
 both-requires-2 c κs = search needs
 
 returns : tie.Need-returns
-returns c = is _ _ _ _ _ _ _ _ _ _ (c .before .before .before .before .before .before .before .list-at .ensures) (c .before .before .before .before .before .list-at2 .ensures) (c .before .before .before .list-at3 .ensures) (c .before .before .before .before .string-count .ensures) (c .before .before .before .before .before .before .entity-type .ensures) (c .before .before .plain-object .ensures) (c .before .both .ensures) (c .both2 .ensures)
+returns c = is _ _ _ _ _ _ _ _ _ _ (c .before .before .before .before .before .before .before .list-at .ensures) (c .before .before .before .before .before .list-at2 .ensures) (c .before .before .before .list-at3 .ensures) (c .before .before .before .before .string-count .ensures) (c .before .before .before .before .before .before .entity-type .ensures) (c .before .before .is-object .ensures) (c .before .both .ensures) (c .both2 .ensures)
 
 pub entity-rule-spec : {M : Type 1} → statement M
 entity-rule-spec =
@@ -60,7 +60,7 @@ entity-rule-spec =
     string-count-requires
     add-list-at-2
     list-at-requires-3
-    plain-object-requires
+    is-object-requires
     both-requires
     both-requires-2
     returns)

@@ -8,7 +8,7 @@ use mathlib.Core.List.{List}
 use mathlib.Core.Path.{_∙_, _≡_, ap, refl, sym}
 use native.Mathlib.Omega.{arith}
 use Rattle.meaning.specs.Case.{lists}
-use Rattle.meaning.specs.Check.{entityItem, entityRun, plain}
+use Rattle.meaning.specs.Check.{entityItem, entityRun}
 use Rattle.meaning.specs.Laws.Tests.{all-end, pass, record-no, record-yes, skip, stop}
 use Rattle.meaning.specs.Tests.{allBelow}
 use Rattle.meaning.specs.Text.{before}
@@ -50,10 +50,10 @@ in-blocks : (s : List ℕ) (first items i f j : ℕ) → lists s ≤ 1048576 →
 in-blocks s first items i f j m l ef ej a w h = omega (arith, ltb-false (items - i) 512 w)
 
 abbrev Inv-loop : tie.InvT-loop
-Inv-loop s unquoted plain blocks first items i₀ i = (i ≤ items) × (allBelow i (entityItem s first) ≡ true) × (first + 3 * items ≤ lists s) × (lists s ≤ 1048576)
+Inv-loop s unquoted blocks first items i₀ i = (i ≤ items) × (allBelow i (entityItem s first) ≡ true) × (first + 3 * items ≤ lists s) × (lists s ≤ 1048576)
 
 abbrev μ-loop : tie.MeasureT-loop
-μ-loop s unquoted plain blocks first items i₀ i = items - i
+μ-loop s unquoted blocks first items i₀ i = items - i
 
 list-count-requires : tie.Need-list-count-requires Inv-loop μ-loop
 list-count-requires c κs = c .before .pre .0
@@ -81,7 +81,7 @@ unfolding allBelow
 loop-holds c = (search needs, refl, omega arith, list-most _ (c .before .before .before .before .before .before .pre .1 .0) (c .before .before .before .before .before .before .pre .0))
 
 entity-item-requires : tie.Need-entity-item-requires Inv-loop μ-loop
-entity-item-requires c κs = let p = c .before .before .before .before .before .before .before .before .pre in (p .0, (p .1 .0, (p .1 .1 .0, (p .1 .1 .1 .0, omega arith))))
+entity-item-requires c κs = let p = c .before .before .before .before .before .before .before .before .pre in (p .0, (p .1 .0, (p .1 .1 .0, omega arith)))
 
 returns-2 : tie.Need-returns-2 Inv-loop μ-loop
 unfolding entityRun
@@ -121,16 +121,16 @@ element-copy-out-if5 : tie.Need-element-copy-out-if5 Inv-loop μ-loop
 element-copy-out-if5 c = let i = c .before .before .before .before .before .before .before .loop .inv in in-blocks _ _ _ _ _ _ (i .3) (i .2) (c .before .before .before .wide4 .ensures) (c .before .before .wide5 .ensures) (c .before .if3 .left) (c .if4 .left) (c .before .before .before .before .before .before .loop-test .taken)
 
 returns-3 : tie.Need-returns-3 Inv-loop μ-loop
-returns-3 c = let i = c .before .before .before .before .before .before .before .before .before .loop .inv in over _ _ _ _ _ _ _ (c .before .before .before .before .before .before .before .before .before .before .before .before .before .before .before .before .pre .1 .1 .1 .1) (i .2) (c .before .before .before .before .before .wide4 .ensures) (c .before .before .before .before .wide5 .ensures) (c .before .before .before .if3 .left) (c .before .before .if4 .left) (c .before .before .before .before .before .before .before .before .loop-test .taken) (c .if5 .taken)
+returns-3 c = let i = c .before .before .before .before .before .before .before .before .before .loop .inv in over _ _ _ _ _ _ _ (c .before .before .before .before .before .before .before .before .before .before .before .before .before .before .before .before .pre .1 .1 .1) (i .2) (c .before .before .before .before .before .wide4 .ensures) (c .before .before .before .before .wide5 .ensures) (c .before .before .before .if3 .left) (c .before .before .if4 .left) (c .before .before .before .before .before .before .before .before .loop-test .taken) (c .if5 .taken)
 
 add-i-2 : tie.Need-add-i-2 Inv-loop μ-loop
-add-i-2 c = let n = next-fits _ _ _ _ _ _ _ (c .before .before .before .before .before .before .before .before .before .before .before .before .before .before .before .before .pre .1 .1 .1 .1) (c .before .before .before .before .before .before .before .before .before .loop .inv .2) (c .before .before .before .before .before .wide4 .ensures) (c .before .before .before .before .wide5 .ensures) (c .before .before .before .if3 .left) (c .before .before .if4 .left) (c .before .before .before .before .before .before .before .before .loop-test .taken) in omega arith
+add-i-2 c = let n = next-fits _ _ _ _ _ _ _ (c .before .before .before .before .before .before .before .before .before .before .before .before .before .before .before .before .pre .1 .1 .1) (c .before .before .before .before .before .before .before .before .before .loop .inv .2) (c .before .before .before .before .before .wide4 .ensures) (c .before .before .before .before .wide5 .ensures) (c .before .before .before .if3 .left) (c .before .before .if4 .left) (c .before .before .before .before .before .before .before .before .loop-test .taken) in omega arith
 
 loop-less-2 : tie.Need-loop-less-2 Inv-loop μ-loop
 loop-less-2 c = search needs
 
 loop-again-2 : tie.Need-loop-again-2 Inv-loop μ-loop
-loop-again-2 c = let i = c .before .before .before .before .before .before .before .before .before .loop .inv in (next-fits _ _ _ _ _ _ _ (c .before .before .before .before .before .before .before .before .before .before .before .before .before .before .before .before .pre .1 .1 .1 .1) (i .2) (c .before .before .before .before .before .wide4 .ensures) (c .before .before .before .before .wide5 .ensures) (c .before .before .before .if3 .left) (c .before .before .if4 .left) (c .before .before .before .before .before .before .before .before .loop-test .taken), under _ _ _ _ _ _ _ (c .before .before .before .before .before .before .before .before .before .before .before .before .before .before .before .before .pre .1 .1 .1 .1) (i .2) (c .before .before .before .before .before .wide4 .ensures) (c .before .before .before .before .wide5 .ensures) (c .before .before .before .if3 .left) (c .before .before .if4 .left) (c .before .before .before .before .before .before .before .before .loop-test .taken) _ (c .before .before .before .before .before .before .if2 .left) (c .before .before .before .before .before .before .before .entity-item .ensures) (c .if5 .left) (i .1), i .2, i .3)
+loop-again-2 c = let i = c .before .before .before .before .before .before .before .before .before .loop .inv in (next-fits _ _ _ _ _ _ _ (c .before .before .before .before .before .before .before .before .before .before .before .before .before .before .before .before .pre .1 .1 .1) (i .2) (c .before .before .before .before .before .wide4 .ensures) (c .before .before .before .before .wide5 .ensures) (c .before .before .before .if3 .left) (c .before .before .if4 .left) (c .before .before .before .before .before .before .before .before .loop-test .taken), under _ _ _ _ _ _ _ (c .before .before .before .before .before .before .before .before .before .before .before .before .before .before .before .before .pre .1 .1 .1) (i .2) (c .before .before .before .before .before .wide4 .ensures) (c .before .before .before .before .wide5 .ensures) (c .before .before .before .if3 .left) (c .before .before .if4 .left) (c .before .before .before .before .before .before .before .before .loop-test .taken) _ (c .before .before .before .before .before .before .if2 .left) (c .before .before .before .before .before .before .before .entity-item .ensures) (c .if5 .left) (i .1), i .2, i .3)
 
 returns-4 : tie.Need-returns-4 Inv-loop μ-loop
 returns-4 c = let i = c .before .loop .inv in all-of _ _ _ _ (i .2) (c .loop-test .left) (i .0) (i .1)

@@ -117,7 +117,8 @@ fn most_visits(tables: &Tables) -> u64 {
 fn questions(random: &mut Random, count: usize) -> Vec<Claim> {
     let mut claims = Vec::new();
     while claims.len() < count {
-        let profile = if random.percent(60) { Profile::TINY } else { Profile::SMALL };
+        let profile =
+            random.pick(&[Profile::TINY, Profile::TINY, Profile::SMALL, Profile::FEW_DOTS, Profile::FEW_DOTS]);
         let case = random_case(random, profile);
         if !small(&case.bytes) {
             continue;

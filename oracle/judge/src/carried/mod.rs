@@ -14,7 +14,7 @@ use generate::{Call, Random, RandomCase};
 use model::{Model, Outcome, Variant};
 
 use crate::compare::Found;
-use crate::mix::Part;
+use crate::mix::{Mix, Part};
 use crate::run::{hex, lent_kept};
 use crate::rust::RustCase;
 use single::{Single, TooLong};
@@ -43,7 +43,7 @@ impl Report {
     /// Random cases and questions until so many were put to both and so many copies were damaged.
     pub fn run(&mut self, random: &mut Random, questions: u64, copies: u64, most_differences: usize) {
         while (self.to_both < questions || self.damaged < copies) && self.differences.len() < most_differences {
-            let part = Part::random(random);
+            let part = Mix::ALL.part(random);
             let made = random_case(random, part.profile);
             let case = with_scans(random, made);
             if self.to_both < questions {

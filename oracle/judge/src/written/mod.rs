@@ -15,7 +15,7 @@ use generate::unsorted::{
 use generate::{Profile, Random, RandomCase};
 use model::{marks_of_reading, Model, Variant};
 
-use crate::mix::Part;
+use crate::mix::{Mix, Part};
 use crate::run::hex;
 
 pub use huge::huge;
@@ -44,8 +44,8 @@ impl Report {
     /// So many inputs, so many of them damaged copies, or until so many differences are found.
     pub fn run(&mut self, random: &mut Random, inputs: u64, copies: u64, most_differences: usize) {
         while (self.inputs < inputs || self.damaged < copies) && self.differences.len() < most_differences {
-            let small = Part { profile: Profile::SMALL, ..Part::random(random) };
-            let part = if random.percent(50) { small } else { Part::random(random) };
+            let small = Part { profile: Profile::SMALL, ..Mix::ALL.part(random) };
+            let part = if random.percent(50) { small } else { Mix::ALL.part(random) };
             let case = random_case(random, part.profile);
             self.read_and_written(random, &case);
             if used_both_ways(&case.bytes) {

@@ -72,6 +72,31 @@ impl Fields {
         Ok(kinds)
     }
 
+    /// The kinds at a path whose names, joined by dots, are the key of a chain of members: those of all such
+    /// chains, since each point has its own. An error has the names that are known where none goes on.
+    pub fn joined(&self, path: &[String]) -> Result<Kinds, (usize, Vec<&str>)> {
+        let mut found = Kinds::default();
+        let mut unknown = (0, self.0.keys().map(String::as_str).collect());
+        for count in 1..=path.len() {
+            let Some((kinds, inside)) = self.0.get(&path[..count].join(".")) else { continue };
+            if count == path.len() {
+                found = found.or(*kinds);
+                continue;
+            }
+            match inside.joined(&path[count..]) {
+                Ok(kinds) => found = found.or(kinds),
+                // What may be anything may hold any name.
+                Err(_) if *kinds == Kinds::ALL => return Ok(Kinds::ALL),
+                Err((at, names)) if count + at >= unknown.0 => unknown = (count + at, names),
+                Err(_) => {}
+            }
+        }
+        if found.none() {
+            return Err(unknown);
+        }
+        Ok(found)
+    }
+
     /// Adds the members of an object. Shared objects could be followed on so many ways that it ends somewhere.
     fn add(&mut self, tables: &Tables, object: u32, depth: usize) {
         let Some(Value::Object(run)) = Value::read(tables.values[object as usize]) else { return };

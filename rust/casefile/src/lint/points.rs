@@ -4,6 +4,7 @@ use super::known::{event, Fields, Kinds, Known};
 use super::{About, Warning};
 use crate::records::{Point, Value};
 use crate::tables::{Tables, NONE};
+use crate::text::behind_dot;
 
 /// What the points have that a schema does not.
 pub fn points(tables: &Tables, known: &Known) -> Vec<Warning> {
@@ -30,14 +31,15 @@ fn unfit(tables: &Tables, object: u32, fields: &Fields, before: &str) -> Vec<Str
     let mut told = Vec::new();
     for [name, value] in tables.members[run.places()].iter().filter(|[name, _]| *name != NONE) {
         let name = String::from_utf8_lossy(tables.string(*name)).into_owned();
+        let field = format!("{before}{}", behind_dot(&[&name]));
         let kinds = Kinds::of(tables.values[*value as usize]);
         match fields.0.get(&name) {
-            None => told.push(format!("the schema has no field `{before}{name}`")),
+            None => told.push(format!("the schema has no field `{field}`")),
             Some((wanted, _)) if !wanted.meets(kinds) => {
-                told.push(format!("`{before}{name}` is {wanted} in the schema, and {kinds} here"));
+                told.push(format!("`{field}` is {wanted} in the schema, and {kinds} here"));
             }
             Some((wanted, inside)) if *wanted == Kinds::OBJECT => {
-                told.extend(unfit(tables, *value, inside, &format!("{before}{name}.")));
+                told.extend(unfit(tables, *value, inside, &format!("{field}.")));
             }
             Some(_) => {}
         }

@@ -5,6 +5,7 @@ use super::{About, Warning};
 use crate::near::near_or_all;
 use crate::records::{Node, Run, Within};
 use crate::tables::Tables;
+use crate::text::behind_dot;
 
 const ROOTS: [&str; 2] = ["principal", "resource"];
 /// Document 01's numbers of `==` and `!=`; lower ones are orderings.
@@ -66,9 +67,10 @@ impl Look<'_> {
             Node::Context { path } => {
                 let path = self.names(path);
                 let context = &self.known.context;
-                if let Err((k, known)) = context.at(&path) {
+                if let Err((k, known)) = context.joined(&path) {
                     let near = near_or_all(&path[k], known);
-                    self.tell(about, format!("{} `context.{}`{near}", self.known.source(), path[..=k].join(".")));
+                    let path = behind_dot(&path[..=k]);
+                    self.tell(about, format!("{} `context.{path}`{near}", self.known.source()));
                 }
             }
             Node::Scope { root, path } => self.scope(about, root as usize, path),
@@ -105,8 +107,11 @@ impl Look<'_> {
             let kinds = match fields.at(&path) {
                 Ok(kinds) => kinds,
                 Err((at, names)) => {
-                    let near = near_or_all(&path[at], names);
-                    self.tell(about, format!("{source} field `{}` in `{action}`{near}", path[..=at].join(".")));
+                    let near = match fields.joined(&path) {
+                        Ok(_) => "; one whose own name holds a dot is reached by no path".to_string(),
+                        Err(_) => near_or_all(&path[at], names),
+                    };
+                    self.tell(about, format!("{source} field `{}` in `{action}`{near}", behind_dot(&path[..=at])));
                     continue;
                 }
             };
@@ -164,9 +169,10 @@ impl Look<'_> {
             return self
                 .tell(about, format!("{} is no entity, so it has no attributes: compare it as it is", ROOTS[root]));
         }
-        if let Err((k, names)) = known.attributes.at(&path) {
+        if let Err((k, names)) = known.attributes.joined(&path) {
             let near = near_or_all(&path[k], names);
-            self.tell(about, format!("{} entity with the attribute `{}`{near}", known.source(), path[..=k].join(".")));
+            let path = behind_dot(&path[..=k]);
+            self.tell(about, format!("{} entity with the attribute `{path}`{near}", known.source()));
         }
     }
 }

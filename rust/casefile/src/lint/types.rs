@@ -42,12 +42,12 @@ impl Look<'_> {
     pub fn kinds(&self, term: Node) -> Kinds {
         match term {
             Node::Literal { value } => Kinds::of(self.tables.values[value as usize]),
-            Node::Context { path } => self.known.context.at(&self.names(path)).unwrap_or(Kinds::ALL),
+            Node::Context { path } => self.known.context.joined(&self.names(path)).unwrap_or(Kinds::ALL),
             Node::Scope { root, path } if path.count == 0 => self.known.roots[root as usize],
             Node::Scope { path, .. } => {
                 let path = self.names(path);
                 let own = if path == ["id"] || path == ["type"] { Kinds::STRING } else { Kinds::default() };
-                own.or(self.known.attributes.at(&path).unwrap_or(if own.none() { Kinds::ALL } else { own }))
+                own.or(self.known.attributes.joined(&path).unwrap_or(if own.none() { Kinds::ALL } else { own }))
             }
             Node::Variable { variable } => match self.variables[variable as usize] {
                 kinds if kinds.none() => Kinds::ALL,

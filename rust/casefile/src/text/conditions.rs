@@ -3,8 +3,33 @@
 use super::lexer::Token;
 use super::parser::{Named, Parsed, Parser};
 use super::plain::PlainNode;
-use super::{ARITHMETIC, COMPARISONS, KEYWORDS, UNITS};
+use super::{behind_dot, quoted, ARITHMETIC, COMPARISONS, KEYWORDS, UNITS};
 use crate::records::Within;
+
+/// How the members of an object are reached along a path.
+#[derive(Clone, Copy)]
+pub enum Reached {
+    /// Logged fields: a name of the path for each name of a member.
+    NameByName,
+    /// Context and attributes: the path's names joined by dots are the key of a member.
+    Joined,
+}
+
+impl Reached {
+    /// What is wrong with a path's name that holds a dot, and what to write instead.
+    fn told_of(self, name: &str) -> String {
+        let parts: Vec<&str> = name.split('.').collect();
+        match self {
+            Reached::NameByName => {
+                "a name in a path holds no dot, and a logged field whose name holds one is reached by no path"
+                    .to_string()
+            }
+            Reached::Joined => {
+                format!("a name in a path holds no dot: write {}, which finds {}", behind_dot(&parts), quoted(name))
+            }
+        }
+    }
+}
 
 impl Parser {
     pub fn condition(&mut self) -> Parsed<u32> {
@@ -145,7 +170,7 @@ impl Parser {
         let mut places = Vec::new();
         while !self.is_sign(")") {
             places.push(self.place());
-            let path = self.path()?;
+            let path = self.path(Reached::NameByName)?;
             self.expect_sign(":")?;
             arguments.push((path, self.simple_term()?));
             if !self.sign(",") {
@@ -171,13 +196,13 @@ impl Parser {
     }
 
     /// `name.name`, with no dot inside a name.
-    pub fn path(&mut self) -> Parsed<Vec<String>> {
+    pub fn path(&mut self, reached: Reached) -> Parsed<Vec<String>> {
         let mut path = Vec::new();
         loop {
             let place = self.place();
             let name = self.name("a name")?;
             if name.contains('.') {
-                return place.fault("a name in a path holds no dot");
+                return place.fault(reached.told_of(&name));
             }
             path.push(name);
             if !self.sign(".") {

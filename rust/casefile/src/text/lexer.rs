@@ -1,6 +1,6 @@
 //! Splits a text into tokens with their places.
 
-use super::Fault;
+use super::{is_of_word, Fault};
 use crate::time;
 
 #[derive(Clone, Debug, PartialEq, Eq)]
@@ -53,7 +53,8 @@ pub fn tokens(text: &str) -> (Vec<(Token, Place)>, Vec<Fault>) {
     loop {
         lexer.skip_blanks();
         let place = lexer.place;
-        let token = lexer.token().unwrap_or_else(|fault| {
+        let behind_dot = matches!(tokens.last(), Some((Token::Sign("."), _)));
+        let token = lexer.token(behind_dot).unwrap_or_else(|fault| {
             lexer.faults.push(fault);
             Token::Bad
         });
@@ -120,11 +121,13 @@ impl Lexer<'_> {
         }
     }
 
-    fn token(&mut self) -> Result<Token, Fault> {
+    /// The next token. Behind a dot stands a name, which may be a number or begin with a digit: `uart.0`.
+    fn token(&mut self, behind_dot: bool) -> Result<Token, Fault> {
         let place = self.place;
         match self.peek() {
             None => Ok(Token::End),
             Some('"') => self.quoted(),
+            Some(c) if c.is_ascii_digit() && behind_dot => Ok(Token::Word(self.take_while(is_of_word))),
             Some(c) if c.is_ascii_digit() && self.at_time() => {
                 let time = self.take_while(|c| c.is_ascii_alphanumeric() || "-+:.".contains(c));
                 time::seconds(&time).map(Token::Time).or_else(|why| place.fault(why))
@@ -133,9 +136,7 @@ impl Lexer<'_> {
                 let digits = self.take_while(|c| c.is_ascii_digit());
                 digits.parse().map(Token::Digits).or_else(|_| place.fault("this number does not fit 64 bits"))
             }
-            Some(c) if c.is_ascii_alphabetic() || c == '_' => {
-                Ok(Token::Word(self.take_while(|c| c.is_ascii_alphanumeric() || c == '_')))
-            }
+            Some(c) if is_of_word(c) => Ok(Token::Word(self.take_while(is_of_word))),
             Some(c) => match SIGNS.iter().find(|sign| self.rest.starts_with(**sign)) {
                 Some(sign) => {
                     for _ in 0..sign.len() {

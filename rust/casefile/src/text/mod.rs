@@ -24,6 +24,8 @@ pub use lexer::Place;
 pub(crate) use lexer::Token;
 pub use parser::{pack, pack_or_faults, pack_with};
 pub(crate) use parser::{Parsed, Parser};
+pub(crate) use printed::quoted;
+pub use printed::{behind_dot, word};
 pub use printer::{unpack, unpack_named, Given, NodeTexts};
 
 /// What is wrong with a text, and where: line and column count from 1.
@@ -161,6 +163,9 @@ const USUAL_KIND: &str = "request";
 
 fn is_identifier(text: &str) -> bool {
     let mut characters = text.chars();
-    characters.next().is_some_and(|c| c.is_ascii_alphabetic() || c == '_')
-        && characters.all(|c| c.is_ascii_alphanumeric() || c == '_')
+    characters.next().is_some_and(|c| c.is_ascii_alphabetic() || c == '_') && characters.all(is_of_word)
+}
+
+fn is_of_word(c: char) -> bool {
+    c.is_ascii_alphanumeric() || c == '_'
 }

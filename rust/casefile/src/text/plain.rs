@@ -27,8 +27,6 @@ pub struct PlainValues {
     pub depths: Vec<u32>,
     /// Whether a value may stand in a literal: no Null and no Object in it.
     pub literal: Vec<bool>,
-    /// Whether no name in it holds a dot.
-    pub dotless: Vec<bool>,
 }
 
 impl PlainValues {
@@ -37,16 +35,10 @@ impl PlainValues {
             return number;
         }
         let children = children(&value);
-        let all = |of: &[bool]| children.iter().all(|&child| of[child as usize]);
-        let names_dotless = match &value {
-            PlainValue::Object(members) => members.iter().all(|(name, _)| !name.contains('.')),
-            _ => true,
-        };
-        let literal = !matches!(value, PlainValue::Null | PlainValue::Object(_)) && all(&self.literal);
-        let dotless = names_dotless && all(&self.dotless);
+        let literal = !matches!(value, PlainValue::Null | PlainValue::Object(_))
+            && children.iter().all(|&child| self.literal[child as usize]);
         self.depths.push(1 + children.iter().map(|&child| self.depths[child as usize]).max().unwrap_or(0));
         self.literal.push(literal);
-        self.dotless.push(dotless);
         let number = self.values.len() as u32;
         self.values.push(value.clone());
         self.numbers.insert(value, number);

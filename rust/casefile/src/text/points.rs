@@ -42,9 +42,7 @@ impl Parser {
             point.logged = Some(self.object(place)?);
         } else if self.word("context") {
             once(point.context.is_some(), "context")?;
-            let context = self.object(place)?;
-            self.dotless(context, place, "context")?;
-            point.context = Some(context);
+            point.context = Some(self.object(place)?);
         } else if self.word("principal") {
             once(point.principal.is_some(), "principal")?;
             point.principal = Some(self.value()?);
@@ -67,13 +65,6 @@ impl Parser {
         }
     }
 
-    fn dotless(&self, value: u32, place: Place, what: &str) -> Parsed<()> {
-        if self.values.dotless[value as usize] {
-            return Ok(());
-        }
-        place.fault(format!("a name inside this {what} holds a dot"))
-    }
-
     fn entity_record(&mut self, point: &mut PlainPoint, place: Place) -> Parsed<()> {
         let (ty, id) = self.entity()?;
         if ty.contains('"') {
@@ -83,7 +74,6 @@ impl Parser {
             return place.fault("this entity has its record twice at this point");
         }
         let attributes = self.object(place)?;
-        self.dotless(attributes, place, "entity's attributes")?;
         point.entities.push((ty, id, attributes));
         Ok(())
     }

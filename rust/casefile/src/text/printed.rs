@@ -1,7 +1,7 @@
 //! What the text of a case has for points, values and nodes.
 
 use super::printer::{Printed, Printer};
-use super::{is_identifier, ARITHMETIC, COMPARISONS, KEYWORDS, ROOTS, UNITS, USUAL_KIND};
+use super::{is_identifier, is_of_word, ARITHMETIC, COMPARISONS, KEYWORDS, ROOTS, UNITS, USUAL_KIND};
 use crate::records::{Node, Point, Run, Value, Within};
 use crate::tables::NONE;
 use crate::time;
@@ -108,7 +108,7 @@ impl Printer<'_> {
             Node::Predicate { namespace, action, kind, arguments } => {
                 let mut inside = Vec::new();
                 for (path, term) in self.arguments(arguments)? {
-                    inside.push(format!("{}: {}", self.path(path)?, self.node(term)?));
+                    inside.push(format!("{}: {}", field(&self.names(path)?), self.node(term)?));
                 }
                 format!("{}({})", self.action(namespace, action, kind)?, inside.join(", "))
             }
@@ -118,9 +118,9 @@ impl Printer<'_> {
             Node::Exists { variable: v, body } => format!("exists {} {}", self.variable(v), self.node(body)?),
             Node::Tp { variable: v } => format!("tp {}", self.variable(v)),
             Node::Literal { value } => self.value(value)?,
-            Node::Context { path } => format!("context.{}", self.path(path)?),
+            Node::Context { path } => format!("context.{}", behind_dot(&self.names(path)?)),
             Node::Scope { root, path } if path.count == 0 => sign(&ROOTS, root)?.to_string(),
-            Node::Scope { root, path } => format!("{}.{}", sign(&ROOTS, root)?, self.path(path)?),
+            Node::Scope { root, path } => format!("{}.{}", sign(&ROOTS, root)?, behind_dot(&self.names(path)?)),
             Node::Variable { variable: v } => self.variable(v),
             Node::Wildcard => "*".to_string(),
             Node::Aggregate { aggregate } => self.node(aggregate)?,
@@ -132,11 +132,6 @@ impl Printer<'_> {
             }
             Node::Count { binders, body } => format!("count{} where {}", self.binders(binders)?, self.node(body)?),
         })
-    }
-
-    fn path(&self, run: Run) -> Printed<String> {
-        let names: Vec<String> = self.names(run)?.into_iter().map(word).collect();
-        Ok(names.join("."))
     }
 
     fn binders(&self, run: Run) -> Printed<String> {
@@ -154,11 +149,33 @@ fn sign(signs: &[&'static str], number: u32) -> Printed<&'static str> {
 }
 
 /// A name where keywords, too, may stand bare.
-fn word(name: &str) -> String {
+pub fn word(name: &str) -> String {
     if is_identifier(name) {
         name.to_string()
     } else {
         quoted(name)
+    }
+}
+
+/// The names of a path behind a dot, where a number, too, stands bare.
+pub fn behind_dot(names: &[impl AsRef<str>]) -> String {
+    let written = |name: &str| {
+        let bare = !name.is_empty() && name.chars().all(is_of_word);
+        if bare {
+            name.to_string()
+        } else {
+            quoted(name)
+        }
+    };
+    names.iter().map(|name| written(name.as_ref())).collect::<Vec<_>>().join(".")
+}
+
+/// The path of a predicate's field.
+fn field(names: &[&str]) -> String {
+    match names {
+        [] => String::new(),
+        [first] => word(first),
+        [first, rest @ ..] => format!("{}.{}", word(first), behind_dot(rest)),
     }
 }
 
@@ -171,7 +188,8 @@ fn plain(name: &str) -> String {
     }
 }
 
-fn quoted(text: &str) -> String {
+/// A text in quotation marks, as it is read again.
+pub fn quoted(text: &str) -> String {
     let mut out = String::from("\"");
     for c in text.chars() {
         match c {

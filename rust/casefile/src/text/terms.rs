@@ -1,5 +1,6 @@
 //! Reads terms and aggregates.
 
+use super::conditions::Reached;
 use super::lexer::{Place, Token};
 use super::parser::{Named, Parsed, Parser};
 use super::plain::PlainNode;
@@ -68,12 +69,12 @@ impl Parser {
         }
         if self.word("context") {
             self.expect_sign(".")?;
-            let path = self.path()?;
+            let path = self.path(Reached::Joined)?;
             return self.add(PlainNode::Context(path), place);
         }
         for (root, word) in ROOTS.iter().enumerate() {
             if self.word(word) {
-                let path = if self.sign(".") { self.path()? } else { Vec::new() };
+                let path = if self.sign(".") { self.path(Reached::Joined)? } else { Vec::new() };
                 return self.add(PlainNode::Scope(root as u32, path), place);
             }
         }

@@ -4,10 +4,11 @@
 use std::collections::BTreeSet;
 
 use super::timeline::{begins, seconds, Did, Line, Moment, Seen, Timeline};
-use super::told::{action, before, bound_words, clock, fields_words, name, window_words, yes_or_no, Told};
+use super::told::{action, before, bound_words, clock, fields_words, window_words, yes_or_no, Told};
 use super::words::{at, stretch, Edges};
 use crate::ask::Question;
 use crate::opened::Opened;
+use crate::show;
 
 /// The size of the font, and the width of its characters, a little more than fonts of even width have.
 const SIZE: f64 = 13.0;
@@ -78,7 +79,7 @@ fn rows(opened: &Opened, timeline: &Timeline) -> Vec<Row> {
         rows.push(match line {
             Line::One(moment) => {
                 let point = moment.point;
-                let event = cut(&action(opened, point, name), MOST_EVENT);
+                let event = cut(&action(opened, point, show::name), MOST_EVENT);
                 let fields = cut(&fields_words(opened, point), MOST_FIELDS);
                 let before = before(opened, timeline.asked, point);
                 let time = clock(opened.time(point).0);

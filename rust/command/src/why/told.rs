@@ -158,15 +158,6 @@ pub fn action(opened: &Opened, point: usize, told: fn(&str) -> String) -> String
     names.join("::") + &kind
 }
 
-/// A name as a case's text has it: a plain word, or quoted, so that it is taken for nothing else.
-pub fn name(name: &str) -> String {
-    if !name.is_empty() && name.chars().all(|c| c.is_alphanumeric() || c == '_') {
-        name.to_string()
-    } else {
-        format!("{name:?}")
-    }
-}
-
 /// The logged fields of a point, as names and values of the case.
 pub fn fields(opened: &Opened, point: usize) -> Vec<(String, u32)> {
     let logged = casefile::Point::read(opened.tables.points[point]).logged;
@@ -179,7 +170,7 @@ pub fn fields(opened: &Opened, point: usize) -> Vec<(String, u32)> {
 /// The logged fields in words, as `board: "b1", n: 3`.
 pub fn fields_words(opened: &Opened, point: usize) -> String {
     let word = |(field, value): &(String, u32)| {
-        format!("{}: {}", name(field), show::text(&opened.case, Some(Bound::Value(*value))))
+        format!("{}: {}", show::name(field), show::text(&opened.case, Some(Bound::Value(*value))))
     };
     fields(opened, point).iter().map(word).collect::<Vec<_>>().join(", ")
 }

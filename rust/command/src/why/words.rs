@@ -2,11 +2,12 @@
 
 use super::timeline::{begins, seconds, Did, Line, Moment, Seen, Timeline};
 use super::told::{
-    action, before, beginning, bound_words, clock, cut, fields_words, lasting, name, window_words, yes_or_no, Told,
+    action, before, beginning, bound_words, clock, cut, fields_words, lasting, window_words, yes_or_no, Told,
 };
 use crate::ask::Question;
 use crate::help::wrapped;
 use crate::opened::Opened;
+use crate::show;
 
 const MOST_FIELDS: usize = 60;
 
@@ -102,7 +103,7 @@ fn row(opened: &Opened, timeline: &Timeline, line: Line) -> Row {
             let point = moment.point;
             let fields = cut(&fields_words(opened, point), MOST_FIELDS);
             let time = clock(opened.time(point).0);
-            let event = action(opened, point, name);
+            let event = action(opened, point, show::name);
             let cells = [point.to_string(), time, before(opened, timeline.asked, point), event, fields];
             Row { mark: mark(moment), cells, says }
         }

@@ -72,27 +72,15 @@ fn anywhere(tables: &Tables, holds: impl Fn(u32) -> bool) -> Vec<bool> {
 
 fn bad_point(tables: &Tables) -> Option<String> {
     let text = |string: u32| String::from_utf8_lossy(tables.string(string)).into_owned();
-    let names_dot = |number: u32| {
-        let object = matches!(value(tables, number), Value::Object(_));
-        object && members(tables, number).iter().any(|[name, _]| tables.string(*name).contains(&b'.'))
-    };
-    let dotted = anywhere(tables, names_dot);
     tables.points.iter().enumerate().find_map(|(number, words)| {
         let point = Point::read(*words);
-        if dotted[point.context as usize] {
-            return Some(format!("a name in the context of point {number} holds a dot"));
-        }
         let first = point.entities.first as usize;
         let entities = tables.lists[first..first + 3 * point.entities.count as usize].chunks(3);
-        entities.into_iter().find_map(|entity| match entity {
-            [ty, ..] if tables.string(*ty).contains(&b'"') => {
-                Some(format!("the type of an entity of point {number} holds a quotation mark: {}", text(*ty)))
-            }
-            [_, _, attributes] if dotted[*attributes as usize] => {
-                Some(format!("a name in the attributes of an entity of point {number} holds a dot"))
-            }
-            _ => None,
-        })
+        entities
+            .into_iter()
+            .map(|entity| entity[0])
+            .find(|&ty| tables.string(ty).contains(&b'"'))
+            .map(|ty| format!("the type of an entity of point {number} holds a quotation mark: {}", text(ty)))
     })
 }
 

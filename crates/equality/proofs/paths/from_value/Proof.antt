@@ -11,16 +11,16 @@ returns : tie.Need-returns
 returns c = root-bare _ _ _ _ _ _ (c .before .if1 .taken) (c .binding-of .ensures)
 
 value-word-requires : tie.Need-value-word-requires
-value-word-requires c κs = checked-bodies (c .before .before .before .pre)
+value-word-requires c κs = search (checked-bodies, needs)
 
 returns-2 : tie.Need-returns-2
 returns-2 c = root-plain _ _ _ _ _ (c .before .before .if1 .left) (c .before .value-word .ensures) (c .if2 .taken)
 
 value-word-requires-2 : tie.Need-value-word-requires-2
-value-word-requires-2 c κs = checked-bodies (c .before .before .before .before .before .pre)
+value-word-requires-2 c κs = search (checked-bodies, needs)
 
 value-word-requires-3 : tie.Need-value-word-requires-3
-value-word-requires-3 c κs = checked-bodies (c .before .before .before .before .before .before .pre)
+value-word-requires-3 c κs = search (checked-bodies, needs)
 
 resolve-entity-attr-requires : tie.Need-resolve-entity-attr-requires
 resolve-entity-attr-requires c κs = search needs

@@ -5,7 +5,7 @@ use Rattle.equality.proofs.paths.scope_at.Statement.{statement}
 use Rattle.equality.proofs.paths.scope_at.Tie as tie
 
 root-word-requires : tie.Need-root-word-requires
-root-word-requires c κs = checked-bodies (c .before .pre)
+root-word-requires c κs = search (checked-bodies, needs)
 
 returns : tie.Need-returns
 returns c = scope-none _ _ _ _ _ (c .before .root-word .ensures) (c .if1 .taken)

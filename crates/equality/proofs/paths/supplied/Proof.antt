@@ -5,13 +5,13 @@ use Rattle.equality.proofs.paths.supplied.Statement.{statement}
 use Rattle.equality.proofs.paths.supplied.Tie as tie
 
 attributes-of-requires : tie.Need-attributes-of-requires
-attributes-of-requires c κs = checked-bodies (c .before .pre)
+attributes-of-requires c κs = search (checked-bodies, needs)
 
 enum-known-object : tie.Need-enum-known-object
 enum-known-object c = search needs
 
-path-descend-requires : tie.Need-path-descend-requires
-path-descend-requires c κs = search needs
+path-lookup-requires : tie.Need-path-lookup-requires
+path-lookup-requires c κs = search needs
 
 binding-found-requires : tie.Need-binding-found-requires
 binding-found-requires c κs = search needs
@@ -20,10 +20,10 @@ enum-told : tie.Need-enum-told
 enum-told c = search needs
 
 returns : tie.Need-returns
-returns c = supplied-found _ _ _ _ (c .before .before .before .before .before .attributes-of .ensures) _ _ _ _ (c .before .before .before .object .given .1) (c .before .path-descend .ensures) (c .binding-found .ensures)
+returns c = search (supplied-found, needs)
 
 returns-2 : tie.Need-returns-2
-returns-2 c = supplied-none _ _ _ _ (c .before .before .attributes-of .ensures) (c .enum-told .given .1)
+returns-2 c = search (supplied-none, needs)
 
 pub supplied-spec : {M : Type 1} → statement M
 supplied-spec =
@@ -31,7 +31,7 @@ supplied-spec =
     (tie.spec
     attributes-of-requires
     enum-known-object
-    path-descend-requires
+    path-lookup-requires
     binding-found-requires
     enum-told
     returns

@@ -1,3 +1,4 @@
+use Rattle.matching.proofs.Leaves.{stands}
 use Rattle.matching.proofs.Free.{left-falls, right-falls, tells-open, tells-leaf, tells-none, tells-both, tells-sides}
 use Rattle.meaning.specs.Laws.Checked.{checked-bodies}
 use borrow.Author.Needs.{needs}
@@ -83,7 +84,7 @@ calculated-arithmetic-requires : (t : ℕ) → calculated-lts.Need-arithmetic-re
 calculated-arithmetic-requires t c κs = search needs
 
 calculated-leaf-of-requires : (t : ℕ) → calculated-lts.Need-leaf-of-requires (calculated-claims t) (calculated-at t) calculated.Post
-calculated-leaf-of-requires t c κs = search needs
+calculated-leaf-of-requires t c κs = search (stands, needs)
 
 calculated-returns-5 : (t : ℕ) → calculated-lts.Need-returns-5 (calculated-claims t) (calculated-at t) calculated.Post
 calculated-returns-5 t c = search (tells-open, needs)

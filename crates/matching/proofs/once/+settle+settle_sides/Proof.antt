@@ -1,3 +1,4 @@
+use Rattle.matching.proofs.Leaves.{stands}
 use Rattle.matching.proofs.Free.{sides-fall, left-below, right-below, settles-open, open-after, settles-marked, settles-leaf, settles-none, settles-both, settles-sides, settles-kept}
 use Rattle.meaning.specs.Laws.Checked.{checked-bodies}
 use borrow.Author.Needs.{needs}
@@ -101,7 +102,7 @@ settle-returns-4 : (t : ℕ) → settle-lts.Need-returns-4 (settle-claims t) (se
 settle-returns-4 t c = search (settles-kept, needs)
 
 settle-leaf-of-requires : (t : ℕ) → settle-lts.Need-leaf-of-requires (settle-claims t) (settle-at t) settle.Post
-settle-leaf-of-requires t c κs = search needs
+settle-leaf-of-requires t c κs = search (stands, needs)
 
 settle-returns-5 : (t : ℕ) → settle-lts.Need-returns-5 (settle-claims t) (settle-at t) settle.Post
 settle-returns-5 t c = search (settles-open, needs)

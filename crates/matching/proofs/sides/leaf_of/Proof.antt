@@ -1,4 +1,4 @@
-use Rattle.matching.proofs.Leaves.{leaf-literal, leaf-context, leaf-scope, leaf-variable, leaf-other}
+use Rattle.matching.proofs.Leaves.{path-of-context, path-of-scope, leaf-literal, leaf-context, leaf-scope, leaf-variable, leaf-other}
 use borrow.Author.Needs.{needs}
 use Rattle.matching.proofs.sides.leaf_of.Statement.{statement}
 use Rattle.matching.proofs.sides.leaf_of.Tie as tie
@@ -13,13 +13,13 @@ enum-known-node-2 : tie.Need-enum-known-node-2
 enum-known-node-2 c = search needs
 
 context-at-requires : tie.Need-context-at-requires
-context-at-requires c κs = search needs
+context-at-requires c κs = search (path-of-context, needs)
 
 enum-known-node-3 : tie.Need-enum-known-node-3
 enum-known-node-3 c = search needs
 
 scope-at-requires : tie.Need-scope-at-requires
-scope-at-requires c κs = search needs
+scope-at-requires c κs = search (path-of-scope, needs)
 
 enum-known-node-4 : tie.Need-enum-known-node-4
 enum-known-node-4 c = search needs

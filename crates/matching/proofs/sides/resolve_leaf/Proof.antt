@@ -1,4 +1,4 @@
-use Rattle.matching.proofs.Leaves.{leaf-at}
+use Rattle.matching.proofs.Leaves.{stands, leaf-at}
 use Rattle.meaning.specs.Laws.Checked.{checked-bodies}
 use borrow.Author.Needs.{needs}
 use Rattle.matching.proofs.sides.resolve_leaf.Statement.{statement}
@@ -8,7 +8,7 @@ node-at-requires : tie.Need-node-at-requires
 node-at-requires c κs = search (checked-bodies, needs)
 
 leaf-of-requires : tie.Need-leaf-of-requires
-leaf-of-requires c κs = search needs
+leaf-of-requires c κs = search (stands, needs)
 
 returns : tie.Need-returns
 returns c = search (leaf-at, needs)

@@ -223,7 +223,7 @@ pub extern "C" fn galivodern_write(
 pub extern "C" fn galivodern_window(span: u64, from: u64, to: u64) -> u64
     ensures { λ r. ⌜ r ≡ windowNumber (window (toZ w64 span) (toZ w64 from) (toZ w64 to)) ⌝ }
 {
-    match equality::window(span, from, to) {
+    match numbers::window(span, from, to) {
         Window::Inside => 0,
         Window::TooOld => 1,
         Window::Later => 2,
@@ -234,5 +234,5 @@ pub extern "C" fn galivodern_window(span: u64, from: u64, to: u64) -> u64
 pub extern "C" fn galivodern_difference(from: u64, to: u64) -> u64
     ensures { λ r. ⌜ toZ w64 r ≡ calculate Sub (toZ w64 from) (toZ w64 to) ⌝ }
 {
-    equality::calculate(ArithOp::Sub, from, to)
+    numbers::calculate(ArithOp::Sub, from, to)
 }

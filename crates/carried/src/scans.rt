@@ -27,14 +27,14 @@ fn scan_down(s: &[u8], work: &mut [u64], call: Call, env: Env, look: Look, list:
 {
     let i = call.asked;
     let within = window_of(look);
-    let span = equality::seconds(within);
+    let span = numbers::seconds(within);
     let here = tables::time_at(s, i);
     let mut n = i + 1;
     let mut failed = 0;
     while 0 < n {
         let j = n - 1;
         let then = tables::time_at(s, j);
-        match equality::window(span, here, then) {
+        match numbers::window(span, here, then) {
             Window::Inside => match turn_at(s, work, call, env, look, j) {
                 Turn::Passes => {
                     n = j;

@@ -18,11 +18,10 @@ use Rattle.meaning.specs.Equal.{Bound, sameList, boundOf, part}
 use Rattle.meaning.specs.Look.{lookup, boundAt, attributesOf, ownPart, supplied, entityOf, attribute, fromRoot, rootOf, scopeAt}
 use Rattle.meaning.specs.Rows.{inCells}
 use Rattle.meaning.specs.Meaning.{names}
-use Rattle.meaning.specs.Laws.Tests.{stop, skip, after}
+use Rattle.meaning.specs.Laws.Tests.{stop, skip, after, and-true}
 use Rattle.equality.specs.declared.Found.{Found}
 use Rattle.equality.specs.declared.Found.the-variants.{At, Nothing}
 use Rattle.equality.specs.Paths.{foundAt}
-use Rattle.equality.proofs.Scaling.{and-true}
 use Rattle.equality.proofs.Steps.{open-place, shut-place}
 use Rattle.equality.proofs.Cells.{value-as}
 use Rattle.equality.proofs.Reach.{names-are}

@@ -19,7 +19,7 @@ use Rattle.meaning.specs.Equal.{sameList}
 use Rattle.meaning.specs.Look.{named, members, dotted, lookup}
 use Rattle.meaning.specs.Meaning.{names}
 use Rattle.meaning.specs.Laws.Tests.{both, stop, skip, pass, after, yes, no}
-use Rattle.meaning.specs.Laws.Lists.{Every}
+use Rattle.meaning.specs.Laws.Lists.{Every, open-at, shut-at}
 use Rattle.meaning.specs.Laws.Text.{same-list, not-equal, not-before}
 use Rattle.meaning.specs.Laws.Search.{Rising, joined, called, onward, longest, searchBy, search, taken, taken-none, longest-none, one-more}
 use Rattle.meaning.specs.Laws.Searched.{strings-rise, members-rise, lookup-is, search-is, called-number, called-nowhere, names-of, path-plain}
@@ -31,7 +31,6 @@ use Rattle.equality.specs.Paths.{foundAt}
 use Rattle.equality.specs.Dotted.{rest, begins, more, ahead, behindName, fromName, joins, counted, Behind, goesOn, mayJoin, keyOf, Failed, Sought}
 use Rattle.equality.proofs.Members.{part, no-members, members-are}
 use Rattle.equality.proofs.Reach.{names-are}
-use Rattle.equality.proofs.Reading.{open-at, shut-at}
 use Rattle.equality.proofs.Steps.{open-place, shut-place}
 
 -- ---- the names that are left

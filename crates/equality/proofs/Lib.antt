@@ -1,6 +1,3 @@
-pub mod Saturates
-pub mod Reading
-pub mod Scaling
 pub mod Steps
 pub mod Alike
 pub mod Joining

@@ -1,5 +1,3 @@
-pub mod Numbers
-pub mod Decimals
 pub mod Cells
 pub mod Paths
 pub mod Dotted

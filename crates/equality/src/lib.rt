@@ -1,20 +1,12 @@
-// Numbers and windows, decimals, equality of values, and what paths reach: what the evaluator asks of a checked case, each equal to its definition.
+// Equality of values, the number by which cells are found, and what paths reach: what the evaluator asks of a checked case, each equal to its definition.
 use meaning::ValNo;
 
-mod decimals;
 mod hashes;
-mod numbers;
 mod paths;
 mod values;
 
-pub use decimals::cedar_decimal_value;
-pub use decimals::decimal_eq;
 pub use hashes::binding_hash;
 pub use hashes::mix;
-pub use numbers::calculate;
-pub use numbers::ordered;
-pub use numbers::seconds;
-pub use numbers::window;
 pub use paths::context_at;
 pub use paths::field_at;
 pub use paths::path_descend;
@@ -23,12 +15,6 @@ pub use paths::scope_at;
 pub use values::binding_eq;
 pub use values::binding_of;
 pub use values::dom_eq;
-
-// what a text reads as: the 64 bits of the number scaled by 10,000
-pub enum Decimal {
-    Scaled(u64),
-    NotDecimal,
-}
 
 // a value that a path reaches
 pub enum Found {

@@ -1,8 +1,8 @@
 // The leaves at work: the Rust's list of decimals and equalities replayed, then windows, units, arithmetic and orderings.
 mod case;
-mod numbers;
 mod print;
 mod replay;
+mod turns;
 
 fn main() {
     let path = b"equalities.bin";
@@ -20,8 +20,8 @@ fn main() {
     }
     let n = io::count(got, &list);
     case::replay_case(&list[..n]);
-    numbers::windows();
-    numbers::units();
-    numbers::sums();
-    numbers::orders();
+    turns::windows();
+    turns::units();
+    turns::sums();
+    turns::orders();
 }

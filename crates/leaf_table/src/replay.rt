@@ -1,8 +1,8 @@
 // The Rust's list of readings and equalities (docs/JUDGE-LIST.md), replayed over its case.
 use crate::print::count;
-use equality::Decimal;
 use meaning::StrNo;
 use meaning::ValNo;
+use numbers::Decimal;
 use program_parts::byte;
 use program_parts::word;
 use tables::halves;
@@ -37,7 +37,7 @@ fn reading<'a>(s: &'a [u8], list: &'a [u8], at: usize, k: u32) -> bool
 {
     let reads = word(list, at);
     let number = halves(word(list, plus(at, 1)), word(list, plus(at, 2)));
-    let decimal = equality::cedar_decimal_value(tables::text_of(s, StrNo(k)));
+    let decimal = numbers::cedar_decimal_value(tables::text_of(s, StrNo(k)));
     match decimal {
         Decimal::Scaled(bits) => reads == 1 && bits == number,
         Decimal::NotDecimal => reads == 0,

@@ -22,7 +22,7 @@ use Rattle.meaning.specs.Case.{Case}
 use Rattle.meaning.specs.Equal.{Bound, int, integer}
 use Rattle.meaning.specs.Rows.{inCells, sameCell}
 use Rattle.meaning.specs.Meaning.{both, compared}
-use Rattle.equality.specs.Numbers.{orders}
+use Rattle.numbers.specs.Numbers.{orders}
 use Rattle.matching.specs.Asking.{integerIn, combined}
 
 -- ---- Ints

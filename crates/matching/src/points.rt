@@ -16,10 +16,10 @@ pub fn previous_point(s: &[u8], within: Interval, i: usize) -> Earlier
         return Earlier::Nowhere;
     }
     let j = i - 1;
-    let span = equality::seconds(within);
+    let span = numbers::seconds(within);
     let here = tables::time_at(s, i);
     let then = tables::time_at(s, j);
-    match equality::window(span, here, then) {
+    match numbers::window(span, here, then) {
         Window::Inside => Earlier::At(j),
         Window::TooOld => Earlier::Nowhere,
         Window::Later => Earlier::Nowhere,

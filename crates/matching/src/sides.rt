@@ -14,7 +14,7 @@ ghost use Rattle.meaning.specs.Check.{Checked};
 ghost use Rattle.meaning.specs.Case.{caseOf, nodeAt};
 ghost use Rattle.meaning.specs.Rows.{inCells};
 ghost use Rattle.meaning.specs.Meaning.{both, compared};
-ghost use Rattle.equality.specs.Numbers.{orders};
+ghost use Rattle.numbers.specs.Numbers.{orders};
 ghost use Rattle.rows.specs.Slots.{Sized};
 ghost use Rattle.matching.specs.Asking.{Standing, leafValue, unboundAt, variableOf, integerIn, combined};
 
@@ -78,7 +78,7 @@ pub fn arithmetic(op: ArithOp, a: Binding, b: Binding) -> Binding
 {
     if is_int(a) {
         if is_int(b) {
-            let bits = equality::calculate(op, a.bits, b.bits);
+            let bits = numbers::calculate(op, a.bits, b.bits);
             return Binding { tag: 1, bits };
         }
     }
@@ -91,7 +91,7 @@ fn ordered_ints(op: CmpOp, left: Binding, right: Binding) -> bool
 {
     if is_int(left) {
         if is_int(right) {
-            return equality::ordered(op, left.bits, right.bits);
+            return numbers::ordered(op, left.bits, right.bits);
         }
     }
     false

@@ -36,7 +36,7 @@ impl TimeUnit {
 
     pub const DAY: u64 = 86400;
 
-    // the unit's own seconds; an Interval's saturating product is `equality::seconds`
+    // the unit's own seconds; an Interval's saturating product is `numbers::seconds`
     pub fn seconds(self) -> u64
         ensures { λ r. ⌜ toZ w64 r ≡ secondsOf self ⌝ }
     {

@@ -29,6 +29,7 @@ use Rattle.meaning.specs.Laws.Meaning.{pasts, meaning-is, later-points, 
 use Rattle.meaning.specs.Carried.{Look, formerly, previous, since, lookOf, End, at, nowhere, stopped, Scan, ending, Turn, passes, carries, fails, halts, met, down, bodyTurn, leftTurn, leftFrom, anchorTurn, askedAt, seenFrom, turnAt, scanOf, carriedBy, Shown, shown, shownAt, Carried, Listed, listed}
 use Rattle.meaning.specs.Carried.{before as beforeScan}
 use Rattle.meaning.specs.Single.{anyBelow, allFrom, firstNot, justBefore, holdsAt, inView, rightOf, leftOf, failsOf, verdictOf, anchorsBelow, Greatest, Shows, Made}
+use Rattle.meaning.specs.Laws.Tests.{and-true}
 
 -- ---- answers without walks
 
@@ -309,11 +310,6 @@ module _ (within p : ℕ → Bool) where
   unfolding anchorsBelow choose
   no-anchor first zero h = refl
   no-anchor first (suc n) h = rw (h n (omega arith)) (no-anchor first n (λ k lt. h k (omega arith)))
-
-and-true : (b : Bool) → (b and true) ≡ b
-unfolding _and_
-and-true true = refl
-and-true false = refl
 
 greatest-same : (within p p′ : ℕ → Bool) → ((k : ℕ) → p k ≡ p′ k) → (n j : ℕ) → Greatest within p n j → Greatest within p′ n j
 greatest-same within p p′ e n j g = record {

@@ -1,10 +1,13 @@
 -- Something of every entry of a list, and entries by their place
-use mathlib.Core.Path.{_≡_}
+use mathlib.Core.Path.{_≡_, refl}
 use mathlib.Core.List.{List, [], _∷_, map}
-use Prim.Native.Nat.{ℕ, zero, suc, _+_, _*_, _<_}
+use Prim.Native.Nat.{ℕ, zero, suc, _+_, _*_, _<_, _≤_}
 use native.Mathlib.Omega.{arith}
 use native.Mathlib.Nat.{mul-zero, mul-suc}
 use Rattle.meaning.specs.Case.{places}
+use native.Mathlib.Numerals.{add-one}
+use lib.ListN.{length, getD, drop}
+use lib.Seq.{drop-cons}
 
 module _ {A : Type 0} where
   abbrev pub Every : (A → Type 0) → List A → Type 0
@@ -32,3 +35,13 @@ every-place P first width (suc count) f =
 
     next : (first width i : ℕ) → first + width * suc i ≡ first + width + width * i
     next first width i = omega (arith, mul-suc width i)
+
+-- what is left at a place before the end, and at the end
+pub open-at : (s : List ℕ) (i : ℕ) → i < length s → drop i s ≡ getD s i 0 ∷ drop (i + 1) s
+open-at s i h = rw (add-one i) (drop-cons s i 0 h)
+
+pub shut-at : (s : List ℕ) (i : ℕ) → length s ≤ i → drop i s ≡ []
+shut-at [] zero h = refl
+shut-at [] (suc i) h = refl
+shut-at (x ∷ s) zero h = absurd (omega arith)
+shut-at (x ∷ s) (suc i) h = shut-at s i (omega arith)

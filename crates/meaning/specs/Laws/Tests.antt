@@ -25,7 +25,7 @@ unfolding _and_
 and-false true = refl
 and-false false = refl
 
-and-true : (a : Bool) → (a and true) ≡ a
+pub and-true : (a : Bool) → (a and true) ≡ a
 unfolding _and_
 and-true true = refl
 and-true false = refl

@@ -27,6 +27,9 @@ unfolding sameList
 self-same [] = refl
 self-same (x ∷ l) = pass (eq-eqb x x refl) (self-same l)
 
+pub list-same : (l m : List ℕ) → l ≡ m → sameList l m ≡ true
+list-same l m e = rw (← e) (self-same l)
+
 pub not-same : (l m : List ℕ) → (l ≡ m → ⊥) → sameList l m ≡ false
 not-same l m ne = go (sameList l m) refl
   where

@@ -7,8 +7,8 @@ use Rattle.carried.proofs.scans.scan_down.Reads as reads
 use Rattle.carried.proofs.scans.scan_down.Lts as lts
 use Rattle.carried.proofs.list.put_two.Reads as put-two-reads
 use Rattle.carried.proofs.turns.turn_at.Reads as turn-at-reads
-use Rattle.equality.proofs.seconds.Reads as seconds-reads
-use Rattle.equality.proofs.window.Reads as window-reads
+use Rattle.numbers.proofs.seconds.Reads as seconds-reads
+use Rattle.numbers.proofs.window.Reads as window-reads
 use Rattle.tables.proofs.time_at.Reads as time-at-reads
 
 abbrev Inv-loop : tie.InvT-loop

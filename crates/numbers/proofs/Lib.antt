@@ -1,0 +1,3 @@
+pub mod Saturates
+pub mod Reading
+pub mod Scaling

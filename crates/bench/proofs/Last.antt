@@ -1,8 +1,8 @@
 -- Which kinds of nodes are answered, and how far a number is from 0
-use mathlib.Core.Path.{_≡_, refl, sym, _∙_}
+use mathlib.Core.Path.{_≡_, refl}
 use mathlib.Core.Bool.{Bool, true, false}
 use mathlib.Core.List.{List}
-use Prim.Native.Nat.{ℕ, suc, _+_, _-_, _≤_, _<_}
+use Prim.Native.Nat.{ℕ, _+_, _-_, _≤_, _<_}
 use native.Mathlib.Omega.{arith}
 use borrow.Author.Tests.{lt-ltb, le-ltb}
 use mir.Val.{toZ, Fits}
@@ -10,7 +10,7 @@ use mir.Syntax.{w64}
 use Rattle.meaning.specs.Tests.{_or_, within}
 use Rattle.meaning.specs.Case.{nodeAt, nodeWord}
 use Rattle.meaning.specs.Calls.{isCondition, isAggregate, answerable}
-use Rattle.meaning.specs.Laws.Sorts.{condition-kinds, aggregate-kinds}
+use Rattle.laws.specs.Sorts.{condition-kinds, aggregate-kinds}
 use Rattle.bench.specs.Size.{sizeOf}
 
 module _ (s : List ℕ) (n : ℕ) {r : Bool} {kind : ℕ} (is : kind ≡ nodeWord s n 0) (e : r ≡ within 1 10 kind) where

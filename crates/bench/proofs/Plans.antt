@@ -11,8 +11,8 @@ use borrow.Author.Tests.{eq-eqb, ne-eqb, lt-ltb, le-ltb, not-true, not-false}
 use Rattle.meaning.specs.declared.Refusal.{Refusal}
 use Rattle.meaning.specs.declared.Refusal.the-variants.{TooLarge, NoSuchNode}
 use Rattle.meaning.specs.Tests.{choose}
-use Rattle.meaning.specs.Laws.Tests.{yes, no}
-use Rattle.meaning.specs.Laws.Checked.{vars-most}
+use Rattle.laws.specs.Tests.{yes, no}
+use Rattle.laws.specs.Checked.{vars-most}
 use Rattle.meaning.specs.Case.{nodes, vars, nodeAt}
 use Rattle.meaning.specs.Check.{check, Checked}
 use Rattle.meaning.specs.Calls.{answerable, askCall}

@@ -8,7 +8,7 @@ use Rattle.meaning.specs.declared.Meter.{Meter}
 use Rattle.meaning.specs.declared.Env.{Env}
 use Rattle.meaning.specs.Case.{vars}
 use Rattle.meaning.specs.Check.{Checked}
-use Rattle.meaning.specs.Laws.Checked.{vars-most}
+use Rattle.laws.specs.Checked.{vars-most}
 use Rattle.rows.specs.Slots.{Sized}
 use Rattle.casecheck.specs.declared.Contents.{Contents}
 use Rattle.casecheck.specs.declared.Checking.{Checking}

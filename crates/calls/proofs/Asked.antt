@@ -9,17 +9,16 @@ use lib.ListN.{length, take, drop, replicate, length-append}
 use lib.Seq.{length-take-le, drop-at}
 use Rattle.meaning.specs.declared.Env.{Env}
 use Rattle.meaning.specs.declared.Limits.{Limits}
-use Rattle.meaning.specs.declared.Meter.{Meter}
 use Rattle.meaning.specs.declared.Node.{Node}
 use Rattle.meaning.specs.declared.Refusal.{Refusal}
 use Rattle.meaning.specs.Tests.{choose}
-use Rattle.meaning.specs.Walk.{W, started, Outcome, outcome}
+use Rattle.meaning.specs.Walk.{W, started, outcome}
 use Rattle.meaning.specs.Case.{caseOf, nodeAt, vars}
 use Rattle.meaning.specs.Check.{Checked}
 use Rattle.meaning.specs.Meaning.{Meaning, Question, meaning, question}
-use Rattle.meaning.specs.Calls.{numberOf, Call, Said, refuses, isAggregate, against, walkOf, unlessRefused, unlessAgainst, told, cleared, workspaceAfter, result, Answer, verdict, number, saying, askCall}
+use Rattle.meaning.specs.Calls.{numberOf, Call, Said, refuses, isAggregate, against, walkOf, unlessRefused, unlessAgainst, told, cleared, workspaceAfter, result, Answer, verdict, saying, askCall}
 use Rattle.meaning.specs.Calls.{asking as askingOf}
-use Rattle.meaning.specs.Laws.Calls.{against-early, refused-early, walk-clears, saying-clears}
+use Rattle.laws.specs.Calls.{against-early, refused-early, walk-clears, saying-clears}
 use Rattle.matching.specs.Asking.{asking}
 use Rattle.evaluator.specs.declared.Call.{Call as WalkCall}
 use Rattle.evaluator.specs.declared.Verdict.{Verdict}

@@ -2,7 +2,7 @@
 use mathlib.Core.Path.{_≡_, refl, ap, sym, _∙_}
 use mathlib.Core.Bool.{Bool}
 use mathlib.Core.List.{List, _++_}
-use Prim.Native.Nat.{ℕ, _*_}
+use Prim.Native.Nat.{ℕ}
 use lib.ListN.{length, take, drop}
 use Rattle.meaning.specs.declared.Env.{Env}
 use Rattle.meaning.specs.declared.Limits.{Limits}
@@ -11,7 +11,7 @@ use Rattle.meaning.specs.Case.{caseOf, pointAt, nodeAt, vars}
 use Rattle.meaning.specs.Check.{Checked}
 use Rattle.meaning.specs.Rows.{Row, rowOf}
 use Rattle.meaning.specs.Calls.{Call, Said, Result, startRow, startOr, cleared, workspaceAfter, result}
-use Rattle.meaning.specs.Carried.{lookOf, looksBack, Shown, shownAt, Listed, listed, carriedCall}
+use Rattle.meaning.specs.Carried.{lookOf, Shown, shownAt, Listed, listed, carriedCall}
 use Rattle.meaning.specs.Carried.{Carried as CarriedOf}
 use Rattle.evaluator.specs.declared.Call.{Call as WalkCall}
 use Rattle.carried.specs.declared.Carried.{Carried}

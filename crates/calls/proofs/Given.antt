@@ -12,12 +12,12 @@ use borrow.Author.Tests.{ltb-true, leb-true, leb-false, eqb-true, eqb-false, not
 use Rattle.meaning.specs.declared.Meter.{Meter}
 use Rattle.meaning.specs.declared.Refusal.the-variants.{BadOutput}
 use Rattle.meaning.specs.Case.{caseOf}
-use Rattle.meaning.specs.Rows.{Row, onto, cells}
+use Rattle.meaning.specs.Rows.{Row, onto}
 use Rattle.meaning.specs.Calls.{gives, allUnder, cellsOf, filled}
-use Rattle.meaning.specs.Laws.Tests.{both, stop, skip, pass}
+use Rattle.laws.specs.Tests.{both, stop, skip, pass}
 use Rattle.rows.specs.declared.Shape.{Shape}
 use Rattle.rows.specs.Table.{Fit, rowsIn, Reduces, Variables}
-use Rattle.meaning.specs.Laws.Writing.{Writing}
+use Rattle.laws.specs.Writing.{Writing}
 use Rattle.rows.specs.Laws.{rows-many, top-is}
 use Rattle.rows.proofs.Out.{cellsOf-length}
 use Rattle.calls.specs.declared.SaidRows.the-variants.{Gives, Refuses}

@@ -30,9 +30,9 @@ use Rattle.meaning.specs.Walk.{started}
 use Rattle.meaning.specs.Check.{Checked, bodies}
 use Rattle.meaning.specs.Rows.{rowOf}
 use Rattle.meaning.specs.Calls.{Call, isCondition, isAggregate, answerable, against, startRow, startOr}
-use Rattle.meaning.specs.Laws.Tests.{both, yes, no}
-use Rattle.meaning.specs.Laws.Checked.{checked-bodies, points-most}
-use Rattle.meaning.specs.Laws.Nodes.{node-beyond}
+use Rattle.laws.specs.Tests.{both, yes, no}
+use Rattle.laws.specs.Checked.{checked-bodies, points-most}
+use Rattle.laws.specs.Nodes.{node-beyond}
 use Rattle.meaning.specs.Carried.{looksBack, lookOf}
 use Rattle.calls.specs.declared.opening.Wanted.{Wanted}
 use Rattle.calls.specs.declared.opening.Wanted.the-variants.{Answerable, Condition, LooksBack}

@@ -16,7 +16,7 @@ use Rattle.meaning.specs.Case.{vars}
 use Rattle.meaning.specs.Check.{Checked}
 use Rattle.meaning.specs.Rows.{Row}
 use Rattle.meaning.specs.Calls.{numberOf, Call, gives, refuses, told, cleared, workspaceAfter, result, filled, projected, outputFits, rowsGiven, rowsCall}
-use Rattle.meaning.specs.Laws.Calls.{walk-clears}
+use Rattle.laws.specs.Calls.{walk-clears}
 use Rattle.rows.specs.declared.Relation.{Relation}
 use Rattle.rows.specs.declared.Relation.the-variants.{Held, Refused}
 use Rattle.rows.specs.Table.{Fit, rowsIn}

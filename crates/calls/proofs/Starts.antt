@@ -19,7 +19,7 @@ use Rattle.meaning.specs.Check.{Checked}
 use Rattle.meaning.specs.Equal.{Bound, boundOf, integer}
 use Rattle.meaning.specs.Rows.{Row, inCells, rowOf}
 use Rattle.meaning.specs.Calls.{isInt, wellFormed, moreRow, startRow}
-use Rattle.meaning.specs.Laws.Checked.{vars-most}
+use Rattle.laws.specs.Checked.{vars-most}
 use Rattle.tables.proofs.Value.{the-type}
 use Rattle.tables.specs.declared.Value.{Value as Read}
 use Rattle.tables.specs.declared.Value.the-variants.{Null, Bool as Flag, Int, Decimal, Text, Entity, Array, Object}

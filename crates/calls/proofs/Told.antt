@@ -7,7 +7,7 @@ use mir.Facts.{ofZ-toZ}
 use mir.Syntax.{w64}
 use Rattle.meaning.specs.declared.Meter.{Meter}
 use Rattle.meaning.specs.declared.Refusal.{Refusal}
-use Rattle.meaning.specs.Calls.{gives, told, Answer, number, saying}
+use Rattle.meaning.specs.Calls.{gives, told, number, saying}
 use Rattle.evaluator.specs.declared.Verdict.{Verdict}
 use Rattle.evaluator.specs.declared.Verdict.the-variants as WalkVer
 use Rattle.evaluator.specs.declared.Number.{Number}

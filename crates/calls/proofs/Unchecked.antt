@@ -1,6 +1,6 @@
 -- The public calls: a case that passes the check is a checked one, and one that does not is refused before all else
 use mathlib.Core.Path.{_≡_, refl, ap, sym, _∙_}
-use mathlib.Core.Bool.{Bool, true, false}
+use mathlib.Core.Bool.{Bool}
 use mathlib.Core.List.{List, []}
 use mathlib.Core.Option.{Option, none, some}
 use Prim.Native.Nat.{ℕ}
@@ -13,7 +13,7 @@ use Rattle.meaning.specs.Case.{nodeAt}
 use Rattle.meaning.specs.Check.{Checked, check}
 use Rattle.meaning.specs.Meaning.{Meaning, Question}
 use Rattle.meaning.specs.Calls.{numberOf, Said, refuses, unlessRefused, isCondition, isAggregate, answerable, unlessAgainst, asking, result, Answer, askCall, rowsGiven, rowsCall}
-use Rattle.meaning.specs.Laws.Calls.{check-early, refused-early}
+use Rattle.laws.specs.Calls.{check-early, refused-early}
 use Rattle.casecheck.specs.declared.Contents.{Contents}
 use Rattle.casecheck.specs.declared.Checking.{Checking}
 use Rattle.casecheck.specs.declared.Checking.the-variants.{Passes, Refused}

@@ -10,16 +10,15 @@ use Rattle.meaning.specs.Walk.{W, spent, most}
 use Rattle.meaning.specs.Case.{vars, pointAt, nodeAt, caseOf}
 use Rattle.meaning.specs.Check.{Checked}
 use Rattle.meaning.specs.Rows.{Row}
-use Rattle.meaning.specs.Meaning.{question}
 use Rattle.meaning.specs.Calls.{numberOf, Call, Said, gives, refuses, Result, startRow, startOr, walkOf, unlessRefused, unlessAgainst, result}
 use Rattle.meaning.specs.Demands.{Askable, SameUpTo, ofFile}
 use Rattle.meaning.specs.Carried.{Look, lookOf, looksBack, Shown, shown, shownAt, scanOf, Listed, listed, carriedCall}
 use Rattle.meaning.specs.Carried.{Carried as CarriedOf}
-use Rattle.meaning.specs.Single.{verdictOf, Made}
-use Rattle.meaning.specs.Laws.Calls.{nothing-against, one-refusal}
-use Rattle.meaning.specs.Laws.Walk.{answers}
-use Rattle.meaning.specs.Laws.Carried.{look-answer, shown-made, Fills, listed-fills, made-verdict}
-use Rattle.meaning.specs.Laws.Later.{later-points-change-nothing}
+use Rattle.meaning.specs.Single.{Made}
+use Rattle.laws.specs.Calls.{nothing-against, one-refusal}
+use Rattle.laws.specs.Walk.{answers}
+use Rattle.laws.specs.Carried.{look-answer, shown-made, Fills, listed-fills, made-verdict}
+use Rattle.laws.specs.Later.{later-points-change-nothing}
 use Rattle.carried.specs.When.{look-goes, answered-goes, shown-goes, listed-short}
 use Rattle.calls.specs.declared.SaidCarried.{SaidCarried}
 use Rattle.calls.specs.declared.SaidCarried.the-variants as Car

@@ -16,10 +16,10 @@ use Rattle.meaning.specs.Walk.{W, spent, most}
 use Rattle.meaning.specs.Case.{vars, strings, values, points, nodes}
 use Rattle.meaning.specs.Check.{check, Checked}
 use Rattle.meaning.specs.Rows.{Row}
-use Rattle.meaning.specs.Calls.{numberOf, Call, Said, gives, refuses, Result, isCondition, isAggregate, answerable, walkOf, unlessRefused, asking, result, checkCall, Answer, verdict, number, saying, askCall, filled, projected, outputFits, rowsGiven, rowsCall}
+use Rattle.meaning.specs.Calls.{numberOf, Call, Said, gives, refuses, Result, isCondition, isAggregate, answerable, walkOf, unlessRefused, asking, result, checkCall, Answer, verdict, number, saying, filled, projected, outputFits, rowsGiven, rowsCall}
 use Rattle.meaning.specs.Demands.{Askable, Exhausted, Tells, SameUpTo, ofFile}
-use Rattle.meaning.specs.Laws.Calls.{answers-when, answers-only-when, condition-asked, aggregate-asked, rows-when, one-refusal}
-use Rattle.meaning.specs.Laws.Later.{later-points-change-nothing}
+use Rattle.laws.specs.Calls.{answers-when, answers-only-when, condition-asked, aggregate-asked, rows-when, one-refusal}
+use Rattle.laws.specs.Later.{later-points-change-nothing}
 use Rattle.casecheck.specs.declared.Contents.{Contents}
 use Rattle.casecheck.specs.declared.Checking.{Checking}
 use Rattle.casecheck.specs.declared.Checking.the-variants as Che

@@ -5,7 +5,7 @@ use Prim.Native.Nat.{ℕ, _<_, _≤_}
 use lib.ListN.{length, drop}
 use borrow.Author.Tests.{lt-ltb, le-ltb}
 use Rattle.meaning.specs.declared.Refusal.{Refusal}
-use Rattle.meaning.specs.Laws.Tests.{yes, no}
+use Rattle.laws.specs.Tests.{yes, no}
 use Rattle.meaning.specs.Calls.{numberOf, Call, Said, Result, askCall, rowsCall}
 use Rattle.casecheck.specs.declared.Contents.{Contents}
 use Rattle.casecheck.specs.declared.Checking.the-variants.{Passes, Refused}
@@ -18,7 +18,7 @@ use Rattle.calls.specs.Promises.{Answers, Rowed, Carrying, asCheck, asAnswer, a
 use Rattle.calls.specs.Promises.{Checks as CheckSays}
 use Rattle.capi.specs.declared.telling.Telling.{Telling as Told}
 use Rattle.capi.specs.Telling.{cellsOf, Telling}
-use Rattle.capi.specs.Seen.{tooFew, contentsAfter, checkSeen, CheckSeen, Checks, saidNumber, toldCells, seen, askSeen, Tells, answerCell, sortCell, countCell, noCell, carriedCell, filledCell}
+use Rattle.capi.specs.Seen.{tooFew, contentsAfter, checkSeen, CheckSeen, Checks, saidNumber, seen, askSeen, Tells, answerCell, sortCell, countCell, noCell, carriedCell, filledCell}
 
 -- ---- asking, whatever the call
 

@@ -7,7 +7,7 @@ use native.Mathlib.Omega.{arith}
 use lib.ListN.{length, drop, set}
 use borrow.Author.Tests.{lt-ltb, le-ltb}
 use Rattle.meaning.specs.declared.Refusal.{Refusal}
-use Rattle.meaning.specs.Laws.Tests.{yes, no}
+use Rattle.laws.specs.Tests.{yes, no}
 use Rattle.meaning.specs.Calls.{numberOf}
 use Rattle.encode.specs.Unsorted.{finished}
 use Rattle.encode.specs.Write.{writeRefusal}

@@ -13,7 +13,7 @@ use Rattle.meaning.specs.declared.Interval.{Interval}
 use Rattle.meaning.specs.declared.NodeNo.{NodeNo}
 use Rattle.meaning.specs.Tests.{choose}
 use Rattle.meaning.specs.Check.{bodies}
-use Rattle.meaning.specs.Laws.Checked.{checked-bodies}
+use Rattle.laws.specs.Checked.{checked-bodies}
 use Rattle.meaning.specs.Walk.{started, Outcome}
 use Rattle.meaning.specs.Meaning.{earlier, question}
 use Rattle.meaning.specs.Carried.{bodyTurn, leftTurn, leftFrom, anchorTurn, askedAt, turnAt}

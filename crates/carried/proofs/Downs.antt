@@ -3,7 +3,7 @@ use Prim.Native.Nat.{ℕ, zero, suc, _+_, _-_, _*_, _≤_, _<_}
 use mathlib.Core.Path.{_≡_, refl, ap, sym, subst, _∙_}
 use mathlib.Core.Bool.{Bool, true, false}
 use mathlib.Core.List.{List, [], _∷_, _++_, append-assoc, append-nil}
-use mathlib.Core.Option.{Option, none, some}
+use mathlib.Core.Option.{some}
 use native.Mathlib.Omega.{arith}
 use native.Mathlib.Numerals.{add-one}
 use lib.ListN.{length, take, drop, set, length-set, length-append}
@@ -22,9 +22,9 @@ use Rattle.meaning.specs.declared.Window.the-variants.{Inside, TooOld, Later}
 use Rattle.meaning.specs.Tests.{choose}
 use Rattle.meaning.specs.Walk.{started, Outcome}
 use Rattle.meaning.specs.Number.{seconds, inWindow, window}
-use Rattle.meaning.specs.Laws.Window.{isInside, inside-is}
+use Rattle.laws.specs.Window.{isInside, inside-is}
 use Rattle.meaning.specs.Case.{pointAt}
-use Rattle.meaning.specs.Carried.{at, nowhere, stopped, ending, passes, carries, fails, halts, met, down, before, bodyTurn, previous, askedAt, seenFrom, turnAt, scanOf}
+use Rattle.meaning.specs.Carried.{at, nowhere, stopped, ending, passes, met, down, before, bodyTurn, previous, seenFrom, turnAt, scanOf}
 use Rattle.meaning.specs.Carried.{Look as LookBack, End as ScanEnd, Scan as ScanOf, Turn as TurnOf}
 use Rattle.matching.specs.declared.Earlier.{Earlier}
 use Rattle.matching.specs.declared.Earlier.the-variants as Ear

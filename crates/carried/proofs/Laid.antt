@@ -12,7 +12,6 @@ use borrow.Author.Tests.{le-leb, lt-leb}
 use Rattle.meaning.specs.declared.Refusal.the-variants.{ListTooShort}
 use Rattle.meaning.specs.Tests.{choose}
 use Rattle.meaning.specs.Case.{places}
-use Rattle.meaning.specs.Calls.{numberOf, gives}
 use Rattle.meaning.specs.Carried.{listed}
 use Rattle.carried.specs.declared.Carried.the-variants as Car
 use Rattle.carried.specs.Shows.{asCarried, laid, PutTwo, Lists}

@@ -1,6 +1,6 @@
 -- A rule for each way out of the answer
 use Prim.Native.Nat.{ℕ, zero, suc, _+_, _-_, _≤_, _<_}
-use mathlib.Core.Path.{_≡_, refl, ap, sym, subst, _∙_}
+use mathlib.Core.Path.{_≡_, refl, ap, sym, _∙_}
 use mathlib.Core.Bool.{Bool, true, false}
 use mathlib.Core.List.{List, [], _∷_, _++_}
 use mathlib.Core.Option.{Option, none, some}
@@ -17,7 +17,7 @@ use Rattle.meaning.specs.Tests.{choose}
 use Rattle.meaning.specs.Case.{places, pointAt, nodeAt, caseOf}
 use Rattle.meaning.specs.Rows.{rowOf}
 use Rattle.meaning.specs.Calls.{numberOf, Said, gives, refuses}
-use Rattle.meaning.specs.Carried.{formerly, previous, since, lookOf, at, nowhere, stopped, ending, passes, carries, fails, halts, met, down, before, scanOf, Shown, shown, shownAt, Listed, listed}
+use Rattle.meaning.specs.Carried.{formerly, previous, since, lookOf, at, nowhere, stopped, ending, passes, carries, fails, halts, met, down, before, scanOf, Shown, shown, shownAt, listed}
 use Rattle.meaning.specs.Carried.{Look as LookBack, End as ScanEnd, Scan as ScanOf, Turn as TurnOf}
 use Rattle.evaluator.specs.declared.Call.{Call}
 use Rattle.carried.specs.declared.Look.{Look}

@@ -1,5 +1,5 @@
 -- A scan is stopped by 11 or 12 alone, so that after every outcome of one the workspace is cleared
-use mathlib.Core.Path.{_≡_, refl, ap, sym, _∙_}
+use mathlib.Core.Path.{_≡_, refl}
 use mathlib.Core.Bool.{Bool, true, false}
 use mathlib.Core.List.{List}
 use mathlib.Core.Option.{Option, none, some}
@@ -14,7 +14,7 @@ use Rattle.meaning.specs.Case.{Case, Point, vars}
 use Rattle.meaning.specs.Rows.{Row}
 use Rattle.meaning.specs.Calls.{numberOf, Call, Said, gives, refuses, cleared, workspaceAfter}
 use Rattle.meaning.specs.Demands.{steps-out, room-out}
-use Rattle.meaning.specs.Laws.Walk.{Told, tells}
+use Rattle.laws.specs.Walk.{Told, tells}
 use Rattle.meaning.specs.Carried.{Look, formerly, previous, since, End, at, nowhere, stopped, Scan, ending, Turn, passes, carries, fails, halts, met, down, before, bodyTurn, leftTurn, leftFrom, anchorTurn, askedAt, turnAt, scanOf, Shown, shown, shownAt, Carried, Listed, listed}
 
 abbrev OutLate : Outcome Bool → Type 0

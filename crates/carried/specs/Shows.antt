@@ -12,7 +12,7 @@ use Rattle.meaning.specs.Walk.{Outcome}
 use Rattle.meaning.specs.Case.{places, pointAt, nodeAt, caseOf}
 use Rattle.meaning.specs.Rows.{rowOf}
 use Rattle.meaning.specs.Calls.{numberOf, Said, gives, refuses}
-use Rattle.meaning.specs.Carried.{formerly, previous, since, lookOf, at, nowhere, stopped, ending, passes, carries, fails, halts, down, before, bodyTurn, leftFrom, anchorTurn, askedAt, seenFrom, turnAt, scanOf, carriedBy, Listed, listed, shownAt}
+use Rattle.meaning.specs.Carried.{formerly, previous, since, lookOf, at, nowhere, stopped, ending, passes, carries, fails, halts, down, bodyTurn, leftFrom, anchorTurn, askedAt, seenFrom, turnAt, scanOf, carriedBy, Listed, listed, shownAt}
 use Rattle.meaning.specs.Carried.{Look as LookBack, End as ScanEnd, Scan as ScanOf, Turn as TurnOf, Carried as CarriedOf}
 use Rattle.evaluator.specs.declared.Call.{Call}
 use Rattle.evaluator.specs.declared.Verdict.{Verdict}

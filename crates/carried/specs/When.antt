@@ -3,7 +3,7 @@ use mathlib.Core.Path.{_≡_, refl, sym, _∙_, ap}
 use mathlib.Core.Bool.{Bool, true, false}
 use mathlib.Core.List.{List, [], _∷_, _++_}
 use mathlib.Core.Option.{none, some}
-use Prim.Native.Nat.{ℕ, zero, suc, _+_, _-_, _≤_, _<_}
+use Prim.Native.Nat.{ℕ, zero, suc, _+_, _-_, _≤_}
 use native.Mathlib.Omega.{arith}
 use lib.Dec.{ltb, leb}
 use lib.ListN.{length}
@@ -23,12 +23,12 @@ use Rattle.meaning.specs.Number.{seconds, inWindow}
 use Rattle.meaning.specs.Rows.{Row}
 use Rattle.meaning.specs.Meaning.{Past, Question, meaning, earlier, firsts, question, ifYes, unlessYes, ifInside, inside, time, downward, every, before, isThere, previously, formerlyVerdict, sinceVerdict, condition, meaningOf}
 use Rattle.meaning.specs.Calls.{numberOf, Said, gives, refuses}
-use Rattle.meaning.specs.Laws.Walk.{and-then, outcome-bind}
-use Rattle.meaning.specs.Laws.Meaning.{pasts, meaning-is}
+use Rattle.laws.specs.Walk.{and-then, outcome-bind}
+use Rattle.laws.specs.Meaning.{pasts, meaning-is}
 use Rattle.meaning.specs.Carried.{Look, formerly, previous, since, lookOf, End, at, nowhere, stopped, Scan, ending, Turn, passes, carries, fails, halts, met, down, bodyTurn, leftTurn, leftFrom, anchorTurn, askedAt, seenFrom, turnAt, scanOf, carriedBy, Shown, shown, Carried, Listed, listed}
 use Rattle.meaning.specs.Carried.{before as beforeScan}
 use Rattle.meaning.specs.Single.{allFrom, holdsAt, rightOf, leftOf, failsOf}
-use Rattle.meaning.specs.Laws.Carried.{OutTells, TurnTells, out-tells, turn-tells}
+use Rattle.laws.specs.Carried.{OutTells, TurnTells, out-tells, turn-tells}
 
 -- ---- a walk that is whole from some meter is whole from the start
 

@@ -15,7 +15,7 @@ use Rattle.meaning.specs.Tests.{_and_, choose, orElse, firstBroken, allBelow}
 use Rattle.meaning.specs.Case.{strings, lists, points, nodes}
 use Rattle.meaning.specs.Check.{bodies, mosts, stringRules, valueRules, pointRules, nodeRules, check}
 use Rattle.meaning.specs.Calls.{numberOf}
-use Rattle.meaning.specs.Laws.Tests.{both, stop, after, yes, no, unbroken}
+use Rattle.laws.specs.Tests.{both, stop, after, yes, no, unbroken}
 use Rattle.encode.specs.Unsorted.{inText, finished}
 use Rattle.encode.specs.Write.{pointMarks, nodeMarks, makeRefusal, roomAfter, laterRefusal, writeRefusal, outputAfter, over}
 use Rattle.encode.specs.Laws.Unsorted.{finished-bodies}

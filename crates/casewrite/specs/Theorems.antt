@@ -12,7 +12,7 @@ use Rattle.meaning.specs.declared.Refusal.{Refusal}
 use Rattle.meaning.specs.declared.Refusal.the-variants.{BadContents, TooLarge, BadStrings, BadValues, BadPoints, BadNodes, BadLimits, OutputTooShort}
 use Rattle.meaning.specs.Tests.{choose, orElse, firstBroken}
 use Rattle.meaning.specs.Calls.{numberOf}
-use Rattle.meaning.specs.Laws.Tests.{no}
+use Rattle.laws.specs.Tests.{no}
 use Rattle.encode.specs.Unsorted.{finished}
 use Rattle.encode.specs.Write.{makeRefusal, laterRefusal, writeRefusal, outputAfter, over}
 use Rattle.casewrite.specs.declared.Written.{Written}

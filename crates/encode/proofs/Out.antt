@@ -1,12 +1,12 @@
 -- Bytes written one after another: a word's four, and a piece byte by byte
 use Prim.Native.Nat.{ℕ, suc, _+_, _/_, _%_, _≤_, _<_}
 use mathlib.Core.Path.{_≡_, refl, ap, sym, _∙_, subst}
-use mathlib.Core.List.{List, [], _∷_, _++_}
+use mathlib.Core.List.{List, [], _∷_}
 use native.Mathlib.Omega.{arith}
 use native.Mathlib.Numerals.{add-one}
-use lib.ListN.{length, take, drop, set, getD, length-set}
+use lib.ListN.{length, take, set, getD, length-set}
 use lib.Seq.{take-all, take-suc, length-take-le, sets-eq}
-use Rattle.meaning.specs.Laws.Writing.{Writing, write-none, write-more}
+use Rattle.laws.specs.Writing.{Writing, write-none, write-more}
 use Rattle.encode.specs.Words.{packed}
 
 pub word-written : {d : List ℕ} {at : ℕ} (w a b e f : ℕ) → at + 4 ≤ length d → a ≡ w % 256 → b ≡ w / 256 % 256 → e ≡ w / 65536 % 256 → f ≡ w / 16777216 → Writing d (set (set (set (set d at a) (at + 1) b) (at + 2) e) (at + 3) f) at (packed (w ∷ []))

@@ -13,8 +13,8 @@ use Rattle.meaning.specs.declared.Refusal.the-variants.{BadStrings, BadValues, 
 use Rattle.meaning.specs.Tests.{_and_, choose, onlyIf, orElse, firstBroken, allBelow}
 use Rattle.meaning.specs.Case.{size, bodyWord, text, vars, strings, points, nodes, lists}
 use Rattle.meaning.specs.Check.{check, Checked, bodies, mosts, stringRules, valueRules, pointRules, nodeRules}
-use Rattle.meaning.specs.Laws.Tests.{both, pass, after, yes, unbroken}
-use Rattle.meaning.specs.Laws.Checked.{rules, checked-bodies}
+use Rattle.laws.specs.Tests.{both, pass, after, yes, unbroken}
+use Rattle.laws.specs.Checked.{rules, checked-bodies}
 use Rattle.encode.specs.Unsorted.{inText, names, number, renamed, finished}
 use Rattle.encode.specs.Write.{pointMarks, nodeMarks, over, makeRefusal, laterRefusal, writeRefusal, outputAfter}
 use Rattle.encode.specs.Read.{readMarks, oneWay}

@@ -1,5 +1,5 @@
 -- The writer: from an unsorted case and its marks the finished case, or a refusal; what is said, and what the room and the output hold after it, for every input
-use mathlib.Core.Bool.{Bool, true, false, not}
+use mathlib.Core.Bool.{Bool, true, not}
 use mathlib.Core.List.{List, [], _∷_, _++_}
 use mathlib.Core.Option.{Option, none, some}
 use Prim.Native.Nat.{ℕ, _+_, _*_}

@@ -3,7 +3,7 @@ ghost use mathlib.Core.Path.{_≡_};
 ghost use Prim.Native.Nat.{_+_, _≤_};
 ghost use mathlib.Core.List.{[], _∷_};
 ghost use lib.ListN.{length};
-ghost use Rattle.meaning.specs.Laws.Writing.{Writing};
+ghost use Rattle.laws.specs.Writing.{Writing};
 ghost use Rattle.encode.specs.Words.{packed};
 
 fn byte(x: u32) -> u8

@@ -14,19 +14,19 @@ use Rattle.meaning.specs.Tests.{_and_, pick}
 use Rattle.meaning.specs.Case.{Case, Part, values, valueWord, memberWord, partAt, valueAt, valueFrom, signed, places, caseOf}
 use Rattle.meaning.specs.Check.{Checked, partValue}
 use Rattle.meaning.specs.Equal.{see, seen, alike, sameList, sameParts, sameValue, decimalKey}
-use Rattle.meaning.specs.Laws.Tests.{stop, skip, pass, after, all-at, and-true}
-use Rattle.meaning.specs.Laws.Lists.{Every, every-map}
-use Rattle.meaning.specs.Laws.Bodies.{wholes, body-beyond}
-use Rattle.meaning.specs.Laws.Values.{held, holder}
-use Rattle.meaning.specs.Laws.Values as Values
-use Rattle.meaning.specs.Laws.Checked.{checked-bodies, checked-values, values-most, lower-parts, sameValue-is}
+use Rattle.laws.specs.Tests.{stop, skip, pass, after, all-at, and-true}
+use Rattle.laws.specs.Lists.{Every, every-map}
+use Rattle.laws.specs.Bodies.{wholes, body-beyond}
+use Rattle.laws.specs.Values.{held, holder}
+use Rattle.laws.specs.Values as Values
+use Rattle.laws.specs.Checked.{checked-bodies, checked-values, values-most, lower-parts, sameValue-is}
 use Rattle.equality.specs.declared.Heads.{Heads}
 use Rattle.equality.specs.declared.Pair.{Pair}
 use Rattle.equality.specs.declared.Seen.{Seen}
 use Rattle.equality.specs.declared.Seen.the-variants.{Same, Differ, Open}
 use Rattle.equality.specs.Joined.{Holders, Headed, Told, Paired, Glanced, Looked}
 use Rattle.equality.proofs.Steps.{open-place, shut-place}
-use Rattle.meaning.specs.Laws.Text.{list-same}
+use Rattle.laws.specs.Text.{list-same}
 
 true-false : true ≡ false → ⊥
 true-false e = let z : _≡_ {A = ℕ} 0 1 = cc in omega arith

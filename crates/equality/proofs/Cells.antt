@@ -15,9 +15,9 @@ use Rattle.meaning.specs.Case.{Case, Value, Part, Int, Text, valueWord, valueAt
 use Rattle.meaning.specs.Check.{Checked}
 use Rattle.meaning.specs.Equal.{Bound, int, value, boundOf, asValue, see, seen, alike, same, sameValue, sameList}
 use Rattle.meaning.specs.Rows.{inCells, sameCell}
-use Rattle.meaning.specs.Laws.Tests.{stop}
-use Rattle.meaning.specs.Laws.Values.{value-beyond}
-use Rattle.meaning.specs.Laws.Checked.{checked-bodies, checked-values, values-most, sameValue-is}
+use Rattle.laws.specs.Tests.{stop}
+use Rattle.laws.specs.Values.{value-beyond}
+use Rattle.laws.specs.Checked.{checked-bodies, checked-values, values-most, sameValue-is}
 use Rattle.equality.specs.Cells.{valueIn, Settled}
 use Rattle.equality.proofs.Alike.{kind-is, alike-leaf, one-same}
 

@@ -11,10 +11,10 @@ use borrow.Author.Tests.{eqb-true, eqb-false}
 use Rattle.meaning.specs.Case.{Part, valueAt, caseOf}
 use Rattle.meaning.specs.Check.{Checked}
 use Rattle.meaning.specs.Equal.{see, alike, sameList, sameParts, sameValue}
-use Rattle.meaning.specs.Laws.Tests.{both}
-use Rattle.meaning.specs.Laws.Lists.{Every, every-map}
-use Rattle.meaning.specs.Laws.Values.{held}
-use Rattle.meaning.specs.Laws.Checked.{lower-parts, sameValue-is}
+use Rattle.laws.specs.Tests.{both}
+use Rattle.laws.specs.Lists.{Every, every-map}
+use Rattle.laws.specs.Values.{held}
+use Rattle.laws.specs.Checked.{lower-parts, sameValue-is}
 use Rattle.equality.specs.declared.Ends.{Ends}
 use Rattle.equality.specs.declared.Heads.{Heads}
 use Rattle.equality.specs.declared.Pair.{Pair}

@@ -13,10 +13,10 @@ use Rattle.meaning.specs.Tests.{pick}
 use Rattle.meaning.specs.Case.{Part, words, offset, values, valueWord, memberWord, valueAt, valueFrom, partAt, places, members as memberCount}
 use Rattle.meaning.specs.Check.{Checked, valueRule, objectItem, objectRule}
 use Rattle.meaning.specs.Look.{named, members}
-use Rattle.meaning.specs.Laws.Tests.{both, all-at}
-use Rattle.meaning.specs.Laws.Bodies.{body-word, body-beyond, body-ends, wholes}
-use Rattle.meaning.specs.Laws.Values.{runs}
-use Rattle.meaning.specs.Laws.Checked.{checked-bodies, checked-values}
+use Rattle.laws.specs.Tests.{both, all-at}
+use Rattle.laws.specs.Bodies.{body-word, body-beyond, body-ends, wholes}
+use Rattle.laws.specs.Values.{runs}
+use Rattle.laws.specs.Checked.{checked-bodies, checked-values}
 use Rattle.equality.specs.declared.Found.the-variants.{At, Nothing}
 use Rattle.equality.specs.Paths.{foundAt}
 use Rattle.equality.proofs.Cells.{value-as}

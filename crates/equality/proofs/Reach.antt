@@ -15,7 +15,7 @@ use Rattle.meaning.specs.Equal.{sameList, boundOf}
 use Rattle.meaning.specs.Look.{named, members, descend, lookup, boundAt, fieldAt, contextAt}
 use Rattle.meaning.specs.Rows.{inCells}
 use Rattle.meaning.specs.Meaning.{names, sameEvent}
-use Rattle.meaning.specs.Laws.Tests.{stop, skip, pass, after, and-true}
+use Rattle.laws.specs.Tests.{stop, skip, pass, after, and-true}
 use Rattle.equality.specs.declared.Found.{Found}
 use Rattle.equality.specs.declared.Found.the-variants.{At, Nothing}
 use Rattle.equality.specs.Paths.{foundAt}

@@ -11,7 +11,7 @@ use Rattle.meaning.specs.Tests.{_and_, choose}
 use Rattle.meaning.specs.Case.{Case, strings, list, text, places, partAt, valueAt, caseOf}
 use Rattle.meaning.specs.Check.{Checked}
 use Rattle.meaning.specs.Look.{members}
-use Rattle.meaning.specs.Laws.Search.{search}
+use Rattle.laws.specs.Search.{search}
 use Rattle.equality.specs.declared.After.{After}
 use Rattle.equality.specs.declared.After.the-variants.{End, Dot, Other}
 use Rattle.equality.specs.declared.Found.{Found}

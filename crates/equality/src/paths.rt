@@ -31,7 +31,7 @@ ghost use Rattle.meaning.specs.Equal.{sameList};
 ghost use Rattle.meaning.specs.Look.{named, members, descend, lookup, boundAt, attributesOf, ownPart, supplied as suppliedAt, fromRoot, rootOf, fieldAt, contextAt, scopeAt};
 ghost use Rattle.meaning.specs.Rows.{inCells};
 ghost use Rattle.meaning.specs.Meaning.{names, sameEvent};
-ghost use Rattle.meaning.specs.Laws.Search.{search};
+ghost use Rattle.laws.specs.Search.{search};
 ghost use Rattle.equality.specs.Paths.{foundAt};
 ghost use Rattle.equality.specs.Dotted.{rest, begins, joins, Behind, goesOn, mayJoin, keyOf, Failed, Ready, Spans, Sought, Missed};
 

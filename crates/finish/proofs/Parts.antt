@@ -5,18 +5,18 @@ use mathlib.Core.List.{List, [], _∷_, _++_, map}
 use Prim.Native.Nat.{ℕ, zero, suc, _+_, _*_, _/_, _<_, _≤_}
 use native.Mathlib.Omega.{arith}
 use native.Mathlib.Numerals.{add-one}
-use lib.ListN.{length, take, drop, getD}
+use lib.ListN.{length, take, getD}
 use lib.Seq.{take-all, take-suc, length-take-le}
 use Rattle.meaning.specs.Tests.{choose}
-use Rattle.meaning.specs.Case.{size, bodyWord, text, places}
-use Rattle.meaning.specs.Laws.Writing.{Writing, write-none, write-more}
+use Rattle.meaning.specs.Case.{size, bodyWord, places}
+use Rattle.laws.specs.Writing.{Writing, write-none, write-more}
 use Rattle.encode.specs.Words.{packed}
 use Rattle.encode.specs.Encode.{flat, placed}
 use Rattle.encode.specs.Unsorted.{texts, number, names, renamed, table}
 use Rattle.encode.specs.Laws.Words.{packed-long, packed-append}
 use Rattle.encode.specs.Laws.Encode.{flat-step, step-long, flat-most, placed-more, placed-long}
 use Rattle.encode.specs.Laws.Unsorted.{words-long}
-use Rattle.joining.specs.Order.{Cut, Sorted, listed}
+use Rattle.joining.specs.Order.{Cut, Sorted}
 use Rattle.joining.specs.Laws.{listed-long, listed-at}
 use Rattle.finish.specs.Sizes.{BodySize, TextBytes, Put}
 

@@ -1,20 +1,19 @@
 -- The whole file: each part's size, the contents, the tables, and all of it
 use mathlib.Core.Path.{_≡_, refl, sym, _∙_, ap, subst}
 use mathlib.Core.Bool.{true}
-use mathlib.Core.List.{List, [], _∷_, _++_, map, append-assoc}
+use mathlib.Core.List.{List, [], _∷_, _++_, append-assoc}
 use Prim.Native.Nat.{ℕ, zero, suc, _+_, _*_, _<_, _≤_}
 use native.Mathlib.Omega.{arith}
-use lib.ListN.{length, take, drop, getD, length-append}
+use lib.ListN.{length, take, getD, length-append}
 use Rattle.meaning.specs.Case.{size, vars}
 use Rattle.meaning.specs.Check.{bodies}
-use Rattle.meaning.specs.Laws.Writing.{Writing, write-more}
+use Rattle.laws.specs.Writing.{Writing, write-more}
 use Rattle.encode.specs.Words.{packed}
 use Rattle.encode.specs.Encode.{flat, placed, encoded}
 use Rattle.encode.specs.Unsorted.{texts, table, tables, parts, finished}
 use Rattle.encode.specs.Laws.Words.{packed-long, packed-append}
 use Rattle.encode.specs.Laws.Encode.{flat-more, placed-long}
 use Rattle.encode.specs.Laws.Unsorted.{seven, finished-long, strings-long, table-long, part-long}
-use Rattle.joining.specs.Order.{Sorted}
 use Rattle.finish.specs.Sizes.{BodySize, Table, Sized, PartSize, Fits, Room, Put}
 use Rattle.finish.proofs.Parts.{Placing, placing-none, placing-more, placing-all, Filling, filling-none, filling-more, filling-all}
 

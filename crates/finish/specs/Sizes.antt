@@ -4,7 +4,7 @@ use mathlib.Core.List.{List}
 use Prim.Native.Nat.{ℕ, _+_, _<_, _≤_}
 use lib.ListN.{length}
 use Rattle.meaning.specs.Case.{size}
-use Rattle.meaning.specs.Laws.Writing.{Writing}
+use Rattle.laws.specs.Writing.{Writing}
 use Rattle.encode.specs.Encode.{flat}
 use Rattle.encode.specs.Unsorted.{texts}
 

@@ -20,7 +20,7 @@ ghost use mathlib.Core.Bool.{Bool, true};
 ghost use mathlib.Core.List.{[], _∷_};
 ghost use Prim.Native.Nat.{_+_, _*_, _<_, _≤_};
 ghost use lib.ListN.{length, getD};
-ghost use Rattle.meaning.specs.Laws.Writing.{Writing};
+ghost use Rattle.laws.specs.Writing.{Writing};
 ghost use Rattle.meaning.specs.Case.{vars, size};
 ghost use Rattle.meaning.specs.Check.{bodies};
 ghost use Rattle.encode.specs.Words.{packed};

@@ -12,7 +12,7 @@ use Rattle.meaning.specs.Tests.{choose}
 use Rattle.meaning.specs.Case.{offset, size, body, stringWord, text}
 use Rattle.meaning.specs.Check.{bodies}
 use Rattle.joining.specs.Order.{Least, Cut}
-use Rattle.meaning.specs.Laws.Bodies.{cut, body-ends, body-length}
+use Rattle.laws.specs.Bodies.{cut, body-ends, body-length}
 
 pub least-first : {a b : ℕ} → a < b → Least a b a
 unfolding choose

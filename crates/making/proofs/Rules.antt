@@ -1,8 +1,8 @@
 -- The finished case made: its size, its mosts, and each way out
 use mathlib.Core.Path.{_≡_, refl, sym, _∙_, ap}
 use mathlib.Core.Bool.{Bool, true, false, not}
-use mathlib.Core.List.{List, [], _∷_, _++_}
-use mathlib.Core.Option.{Option, none, some}
+use mathlib.Core.List.{List, [], _++_}
+use mathlib.Core.Option.{none, some}
 use Prim.Native.Nat.{ℕ, _+_, _*_, _<_, _≤_}
 use native.Mathlib.Omega.{arith}
 use lib.Dec.{leb, eqb}
@@ -11,11 +11,11 @@ use lib.Seq.{take-all}
 use borrow.Author.Tests.{not-true, not-false, leb-true, lt-leb, le-leb}
 use Rattle.meaning.specs.declared.Refusal.{Refusal}
 use Rattle.meaning.specs.declared.Refusal.the-variants.{BadContents, TooLarge, BadLimits}
-use Rattle.meaning.specs.Tests.{_and_, choose, firstBroken}
+use Rattle.meaning.specs.Tests.{_and_}
 use Rattle.meaning.specs.Case.{lists, values, points, nodes, vars}
 use Rattle.meaning.specs.Check.{bodies, mosts}
-use Rattle.meaning.specs.Laws.Tests.{both, stop, skip, yes, no, after}
-use Rattle.meaning.specs.Laws.Writing.{Writing}
+use Rattle.laws.specs.Tests.{both, stop, skip, yes, no, after}
+use Rattle.laws.specs.Writing.{Writing}
 use Rattle.encode.specs.Encode.{flat}
 use Rattle.encode.specs.Unsorted.{texts, parts, finished}
 use Rattle.encode.specs.Write.{makeRefusal, roomAfter, over}
@@ -26,7 +26,6 @@ use Rattle.joining.specs.declared.Joined.the-variants as J
 use Rattle.joining.specs.Order.{Joins, Sorted}
 use Rattle.joining.specs.Laws.{listed-long}
 use Rattle.finish.specs.Sizes.{Sized, TextBytes, PartSize, Fits}
-use Rattle.making.specs.declared.Made.{Made}
 use Rattle.making.specs.declared.Made.the-variants.{Put, Refused}
 use Rattle.making.specs.Made.{FinishedSize, madeAs, Makes}
 

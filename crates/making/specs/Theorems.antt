@@ -9,7 +9,7 @@ use Rattle.meaning.specs.declared.Refusal.{Refusal}
 use Rattle.encode.specs.Unsorted.{finished}
 use Rattle.encode.specs.Write.{makeRefusal, roomAfter, over}
 use Rattle.making.specs.declared.Made.{Made}
-use Rattle.making.specs.declared.Made.the-variants.{Put, Refused}
+use Rattle.making.specs.declared.Made.the-variants.{Put}
 use Rattle.making.specs.Made.{madeAs, Makes}
 
 -- any two outcomes are equal

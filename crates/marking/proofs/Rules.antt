@@ -2,7 +2,7 @@
 use mathlib.Core.Path.{_≡_, refl, sym, _∙_, ap}
 use mathlib.Core.Bool.{Bool, true, false, not}
 use mathlib.Core.List.{List, [], _∷_}
-use Prim.Native.Nat.{ℕ, _+_, _*_, _<_, _≤_}
+use Prim.Native.Nat.{ℕ, _+_, _<_, _≤_}
 use native.Mathlib.Omega.{arith}
 use lib.Dec.{leb}
 use borrow.Author.Tests.{not-true, not-false}
@@ -13,7 +13,7 @@ use Rattle.meaning.specs.declared.Node.{Node}
 use Rattle.meaning.specs.declared.Node.the-variants.{And, Or, Not, Formerly, Previous, Since, Predicate, Comparison, Exists, Tp, Literal, Context, Scope, Variable, Wildcard, Aggregate, Arithmetic, Sum, Count, Broken}
 use Rattle.meaning.specs.Tests.{_and_, allBelow}
 use Rattle.meaning.specs.Case.{size, stringWord, pointWord, list, nodeAt}
-use Rattle.meaning.specs.Laws.Tests.{stop, after, record-no, record-yes, all-end}
+use Rattle.laws.specs.Tests.{stop, after, record-no, record-yes, all-end}
 use Rattle.encode.specs.Unsorted.{marked, inText}
 use Rattle.encode.specs.Write.{allMarked, noneMarked, entityMarks, pointMarks, argumentMarks, marksOf, nodeMarks}
 use Rattle.marking.specs.Runs.{word, ownWords, wordOf, item, itemOf}

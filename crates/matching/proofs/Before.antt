@@ -8,7 +8,7 @@ use mir.Val.{toZ}
 use mir.Syntax.{w64}
 use Rattle.meaning.specs.declared.Interval.{Interval}
 use Rattle.meaning.specs.Number.{seconds, inWindow, window}
-use Rattle.meaning.specs.Laws.Window.{isInside, inside-is}
+use Rattle.laws.specs.Window.{isInside, inside-is}
 use Rattle.meaning.specs.declared.Window.{Window}
 use Rattle.meaning.specs.declared.Window.the-variants.{Inside, TooOld, Later}
 use Rattle.meaning.specs.Case.{pointAt}

@@ -24,9 +24,9 @@ use Rattle.meaning.specs.Equal.{Bound, int, integer}
 use Rattle.meaning.specs.Rows.{inCells}
 use Rattle.meaning.specs.Walk.{W, give, _>>=_}
 use Rattle.meaning.specs.Meaning.{Meaning, Question, meaning, meaningOf, term as termMeaning, ifInt, arithmetic}
-use Rattle.meaning.specs.Laws.Walk.{give-bind}
-use Rattle.meaning.specs.Laws.Meaning.{meaning-is}
-use Rattle.meaning.specs.Laws.Checked.{lower-child}
+use Rattle.laws.specs.Walk.{give-bind}
+use Rattle.laws.specs.Meaning.{meaning-is}
+use Rattle.laws.specs.Checked.{lower-child}
 use Rattle.matching.specs.declared.Settled.{Settled}
 use Rattle.matching.specs.declared.Settled.the-variants.{Is, Open}
 use Rattle.matching.specs.Asking.{asking, leafValue, integerIn, combined, nodesMost, Sought, term, sides, soughtIn, Free, TellsOf, Tells, Known, Settles}

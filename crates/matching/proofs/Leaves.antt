@@ -22,7 +22,7 @@ use Rattle.meaning.specs.Rows.{at, rowOf, inCells}
 use Rattle.meaning.specs.Meaning.{Question, names, unbound}
 use Rattle.matching.specs.declared.Variable.the-variants.{Is, Not as NotAny}
 use Rattle.matching.specs.Asking.{Standing, asking, leafValue, shapeOf, unboundAt, variableOf}
-use Rattle.meaning.specs.Laws.Searched.{context-path, scope-path}
+use Rattle.laws.specs.Searched.{context-path, scope-path}
 use Rattle.matching.specs.Laws.{shape-is}
 
 -- a node of a checked case has a path without dots

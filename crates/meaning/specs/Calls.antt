@@ -5,7 +5,6 @@ use mathlib.Core.Option.{Option, none, some}
 use Prim.Native.Nat.{ℕ, zero, suc, _*_}
 use lib.Dec.{leb, ltb, eqb}
 use lib.ListN.{length, drop, replicate}
-use lib.IntN.{ℤ}
 use mir.Val.{ofZ}
 use mir.Syntax.{w64}
 use Rattle.meaning.specs.declared.Limits.{Limits}

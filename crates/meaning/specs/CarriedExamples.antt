@@ -5,13 +5,8 @@ use mathlib.Core.List.{List, [], _∷_, map}
 use mathlib.Core.Option.{none, some}
 use Prim.Native.Nat.{ℕ}
 use lib.IntN.{ℤ, pos}
-use Rattle.meaning.specs.declared.Limits.{Limits}
-use Rattle.meaning.specs.declared.Node.{Node}
 use Rattle.meaning.specs.declared.Node.the-variants.{Not, Formerly, Previous, Since, Predicate, Exists, Literal, Variable}
-use Rattle.meaning.specs.declared.NodeNo.{NodeNo}
-use Rattle.meaning.specs.declared.Run.{Run}
 use Rattle.meaning.specs.declared.Interval.{Interval}
-use Rattle.meaning.specs.declared.TimeUnit.{TimeUnit}
 use Rattle.meaning.specs.declared.TimeUnit.the-variants.{Seconds, Hours}
 use Rattle.meaning.specs.Below.{upto, made}
 use Rattle.meaning.specs.Tests.{_and_, choose, onlyIf, isSome, orElse, pick}
@@ -22,8 +17,8 @@ use Rattle.meaning.specs.Look.{named, members, descend, boundAt, fieldAt
 use Rattle.meaning.specs.Rows.{at, blank, with, without, withoutAll, over}
 use Rattle.meaning.specs.Walk.{give, visit, adding, dropping, _>>=_, started, after, run as run·Walk, ending, outcome}
 use Rattle.meaning.specs.Meaning.{earlier, unbinding, latest, now, lending, condition, term, ifYes, unlessYes, oneRow, notVerdict, existsVerdict, given, matchField, matchArguments, sameEvent, match, predicate, names, arguments, meaningOf, noMeaning, meaning, firsts, question}
-use Rattle.meaning.specs.Calls.{numberOf, Said, gives, refuses}
-use Rattle.meaning.specs.Carried.{Look, formerly, previous, since, lookOf, looksBack, met, down, before, bodyTurn, leftTurn, leftFrom, anchorTurn, askedAt, seenFrom, turnAt, scanOf, Carried, Listed, carriedBy, shown, listed}
+use Rattle.meaning.specs.Calls.{numberOf, gives, refuses}
+use Rattle.meaning.specs.Carried.{Look, formerly, previous, since, lookOf, looksBack, met, down, before, bodyTurn, leftTurn, leftFrom, anchorTurn, askedAt, seenFrom, turnAt, scanOf, Listed, carriedBy, shown, listed}
 
 -- ---- the bench: strings 3 Flash, 4 Review, 5 b1, 6 b2, 7 board, 8 n, 9 request
 

@@ -1,11 +1,11 @@
 -- E1 to E12, the sample table and the slips: one list with one claim, asked of the calls on the bytes of one case; then E13 on a case of its own, each refusal, later points, and parts that the case does not reach
 use mathlib.Core.Path.{_≡_, refl, _∙_}
-use mathlib.Core.Bool.{Bool, true, false}
+use mathlib.Core.Bool.{true, false}
 use mathlib.Core.List.{List, [], _∷_, _++_, map}
 use mathlib.Core.Option.{none, some}
 use Prim.Native.Nat.{ℕ}
 use lib.IntN.{ℤ, pos, negsuc}
-use lib.ListN.{length, set, replicate}
+use lib.ListN.{set, replicate}
 use mir.Val.{ofZ}
 use mir.Syntax.{w64}
 use Rattle.meaning.specs.declared.Limits.{Limits}

@@ -17,7 +17,6 @@ pub mod Readings
 pub mod Calls01
 pub mod Single
 pub mod Demands
-pub mod Laws
 pub mod Written
 pub mod Examples
 pub mod CarriedExamples

@@ -9,7 +9,7 @@ use Rattle.meaning.specs.Tests.{_and_, onlyIf, orElse}
 use Rattle.meaning.specs.Case.{Case, Value, Part, Point, Attributes, Null, Boolean, Int, Decimal, Text, Entity, Array, Object}
 use Rattle.meaning.specs.declared.Root.{Root}
 use Rattle.meaning.specs.declared.Root.the-variants.{Principal, Resource}
-use Rattle.meaning.specs.Equal.{Bound, value, part, boundOf, sameList}
+use Rattle.meaning.specs.Equal.{Bound, part, boundOf, sameList}
 
 unfoldable pub named : ℕ → List Part → Option ℕ
 named n [] = none

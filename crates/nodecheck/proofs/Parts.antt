@@ -8,7 +8,7 @@ use Rattle.meaning.specs.declared.Node.{Node}
 use Rattle.meaning.specs.Tests.{_and_, allBelow}
 use Rattle.meaning.specs.Case.{list, nodes, nodeAt, arity, child}
 use Rattle.meaning.specs.Check.{bodies, ruleOf, nodeRule}
-use Rattle.meaning.specs.Laws.Nodes.{lower-child}
+use Rattle.laws.specs.Nodes.{lower-child}
 
 pub and2 : {A B x y q : Bool} → q ≡ (x and y) → x ≡ A → y ≡ B → q ≡ (A and B)
 and2 e a b = e ∙ rw (a, b) refl

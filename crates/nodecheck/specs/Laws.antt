@@ -10,7 +10,7 @@ use borrow.Author.Tests.{lt-ltb, le-ltb}
 use Rattle.meaning.specs.Tests.{_and_, allBelow}
 use Rattle.meaning.specs.Case.{list}
 use Rattle.meaning.specs.Check.{argumentRule}
-use Rattle.meaning.specs.Laws.Tests.{Filled, pass, skip, shorter, all-add, all-same}
+use Rattle.laws.specs.Tests.{Filled, pass, skip, shorter, all-add, all-same}
 use Rattle.pointcheck.specs.Blocks.{blockStart}
 use Rattle.valuecheck.specs.Laws.{bound-is}
 use Rattle.nodecheck.specs.Terms.{argumentOwn, argumentTop}

@@ -6,7 +6,7 @@ use lib.Dec.{leb}
 use Rattle.meaning.specs.Tests.{_and_, choose, allBelow, within, greatest}
 use Rattle.meaning.specs.Case.{nothing, lists, list, nodeWord}
 use Rattle.meaning.specs.Check.{pathRun}
-use Rattle.meaning.specs.Laws.Tests.{Filled}
+use Rattle.laws.specs.Tests.{Filled}
 use Rattle.pointcheck.specs.Blocks.{blockStart}
 
 -- so many terms have numbers below n

@@ -10,11 +10,11 @@ use lib.ListN.{length, getD, drop}
 use lib.Seq.{drop-cons}
 use lib.Signed.{mag}
 use borrow.Author.Tests.{leb-true, lt-leb, le-leb, ltb-true, ltb-false, eq-eqb, ne-eqb, not-true, not-false}
-use Rattle.meaning.specs.Laws.Tests.{both, stop, after, yes, no}
+use Rattle.laws.specs.Tests.{both, stop, after, yes, no}
 use Rattle.meaning.specs.Equal.{isDigit, digits, natural}
 use Rattle.numbers.specs.Numbers.{signedBy}
 use Rattle.numbers.specs.Decimals.{pointIn, isMinus}
-use Rattle.meaning.specs.Laws.Lists.{open-at, shut-at}
+use Rattle.laws.specs.Lists.{open-at, shut-at}
 
 -- ---- digits
 

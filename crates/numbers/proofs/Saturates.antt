@@ -14,7 +14,7 @@ use mir.Syntax.{w64}
 use Rattle.meaning.specs.Number.{calculate, clamp, secondsOf, seconds}
 use Rattle.meaning.specs.declared.Interval.{Interval}
 use Rattle.meaning.specs.declared.ArithOp.{ArithOp}
-use Rattle.meaning.specs.Laws.Number.{bias, bias-clamp, bias-plus, bias-minus, bias-low, bias-high, bias-inj, bias-lt, bias-le, clamp-fits, toZ-fits}
+use Rattle.laws.specs.Number.{bias, bias-clamp, bias-plus, bias-minus, bias-low, bias-high, bias-inj, bias-lt, bias-le, clamp-fits, toZ-fits}
 use Rattle.meaning.specs.declared.ArithOp.the-variants.{Add, Sub, Mul}
 use Rattle.numbers.specs.Numbers.{isNegative, magnitudeOf, signedBy}
 

@@ -18,15 +18,15 @@ use borrow.Author.Tests.{leb-true, leb-false, lt-leb, le-leb, le-ltb, ltb-true, 
 use Rattle.meaning.specs.Tests.{_and_, onlyIf}
 use Rattle.meaning.specs.Number.{clamp}
 use Rattle.meaning.specs.Case.{caseOf, text}
-use Rattle.meaning.specs.Laws.Number.{bias-inj, bias-clamp, clamp-fits}
-use Rattle.meaning.specs.Laws.Tests.{both, stop, skip, pass, and-true}
+use Rattle.laws.specs.Number.{bias-inj, bias-clamp, clamp-fits}
+use Rattle.laws.specs.Tests.{both, stop, skip, pass, and-true}
 use Rattle.meaning.specs.Equal.{digits, natural, cut, unsigned, scaled, decimal, decimalKey, sameList}
 use Rattle.numbers.specs.declared.Decimal.{Decimal}
 use Rattle.numbers.specs.declared.Decimal.the-variants.{Scaled, NotDecimal}
 use Rattle.numbers.specs.Numbers.{signedBy}
 use Rattle.numbers.specs.Decimals.{decimalOf, pointIn, isMinus, unsignedOf}
 use Rattle.numbers.proofs.Reading.{digit-fits, point-here, point-later}
-use Rattle.meaning.specs.Laws.Text.{list-same}
+use Rattle.laws.specs.Text.{list-same}
 use Rattle.numbers.specs.Keys.{number-key, text-key, key-some, key-none}
 
 -- ---- the fraction: at most four digits

@@ -9,7 +9,7 @@ ghost use Prim.Native.Nat.{_+_, _*_, min};
 ghost use mir.Val.{toZ};
 ghost use mir.Syntax.{w64};
 ghost use Rattle.meaning.specs.Number.{calculate as calculated, clamp, seconds as secondsIn, window as windowed};
-ghost use Rattle.meaning.specs.Laws.Number.{bias};
+ghost use Rattle.laws.specs.Number.{bias};
 ghost use Rattle.meaning.specs.declared.ArithOp.the-variants.{Add, Sub, Mul};
 ghost use Rattle.numbers.specs.Numbers.{orders, isNegative, magnitudeOf, signedBy};
 

@@ -6,7 +6,7 @@ use Rattle.meaning.specs.Tests.{allBelow, greatest}
 use Rattle.meaning.specs.Text.{free}
 use Rattle.meaning.specs.Case.{strings, values, lists, list, text}
 use Rattle.meaning.specs.Check.{pathName, entityItem, literal}
-use Rattle.meaning.specs.Laws.Tests.{Filled}
+use Rattle.laws.specs.Tests.{Filled}
 
 -- the strings without a dot
 abbrev pub Undotted : List ℕ → List Bool → Type 0

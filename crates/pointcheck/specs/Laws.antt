@@ -8,7 +8,7 @@ use lib.Dec.{ltb}
 use borrow.Author.Tests.{ltb-true, ltb-false}
 use Rattle.meaning.specs.Tests.{_and_, allBelow, rises, greatest}
 use Rattle.meaning.specs.Check.{entityItem}
-use Rattle.meaning.specs.Laws.Tests.{both, pass, skip, shorter, all-add, all-same, all-at}
+use Rattle.laws.specs.Tests.{both, pass, skip, shorter, all-add, all-same, all-at}
 use Rattle.valuecheck.specs.Laws.{all-true, ltb-max}
 
 -- all words of a block are below a bound just if the greatest is

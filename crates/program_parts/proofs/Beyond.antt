@@ -5,7 +5,7 @@ use Prim.Native.Nat.{ℕ, _+_, _*_, _/_, _≤_}
 use native.Mathlib.Omega.{arith}
 use lib.ListN.{length, getD}
 use Rattle.meaning.specs.Case.{words}
-use Rattle.meaning.specs.Laws.Words.{words-beyond}
+use Rattle.laws.specs.Words.{words-beyond}
 
 pub no-word : (s : List ℕ) (i : ℕ) → length s / 4 ≤ i → 0 ≡ getD (words s) i 0
 no-word s i h = sym (words-beyond s i (omega arith))

@@ -11,7 +11,7 @@ ghost use lib.Seq.{slice};
 ghost use Rattle.meaning.specs.Rows.{inCells, cells};
 ghost use Rattle.meaning.specs.Calls.{cellsOf, filled, cleared};
 ghost use Rattle.rows.specs.Table.{Fit, rowsIn, rowIn, Variables};
-ghost use Rattle.meaning.specs.Laws.Writing.{Writing};
+ghost use Rattle.laws.specs.Writing.{Writing};
 
 // a binding as the output has it
 fn plain(b: Binding) -> Binding

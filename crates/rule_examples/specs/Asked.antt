@@ -1,10 +1,10 @@
 -- How the examples are asked: what the check and the calls say of a file's bytes
 use mathlib.Core.Path.{_≡_, refl}
 use mathlib.Core.Bool.{true}
-use mathlib.Core.List.{List, [], _∷_, map}
+use mathlib.Core.List.{List, map}
 use Prim.Native.Nat.{ℕ, _*_}
 use lib.ListN.{length, replicate}
-use Rattle.meaning.specs.Calls.{Call, Said, gives, refuses, Result, Answer}
+use Rattle.meaning.specs.Calls.{Call, Said, gives, refuses, Answer}
 use Rattle.meaning.specs.Below.{upto, made}
 use Rattle.meaning.specs.Tests.{_and_, _or_, choose, onlyIf, isSome, orElse, pick, allBelow, rises, greatest, levels, throughout}
 use Rattle.meaning.specs.Text.{before, free, first, follow, next, ended, utf8}

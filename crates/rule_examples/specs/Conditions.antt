@@ -1,12 +1,12 @@
 -- The conditions in verdict manner: each answer with its steps and the greatest number of rows held
 use mathlib.Core.Path.{_≡_, refl}
-use mathlib.Core.Bool.{Bool, true, false}
+use mathlib.Core.Bool.{true, false}
 use mathlib.Core.List.{List, [], _∷_, _++_}
 use Prim.Native.Nat.{ℕ, _+_, _-_}
 use lib.ListN.{length}
-use Rattle.meaning.specs.Calls.{Said, gives, refuses, Answer, verdict, number}
+use Rattle.meaning.specs.Calls.{Said, gives, refuses, Answer, verdict}
 use Rattle.meaning.specs.Written.{table, file}
-use Rattle.rule_examples.specs.Asked.{all, wanted, got, answer, rows}
+use Rattle.rule_examples.specs.Asked.{all, wanted, got, answer}
 
 -- every variable unbound
 free : List ℕ

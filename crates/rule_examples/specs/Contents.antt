@@ -1,10 +1,10 @@
 -- Refusals 1 and 2: contents, bodies without gaps, whole records, mosts; and that the lowest refusal is given
-use mathlib.Core.Path.{_≡_, refl, _∙_}
+use mathlib.Core.Path.{_≡_, refl}
 use mathlib.Core.Bool.{Bool, true, false}
 use mathlib.Core.List.{List, [], _∷_, _++_}
 use Prim.Native.Nat.{ℕ, _+_}
 use lib.ListN.{replicate, take}
-use Rattle.meaning.specs.Written.{packed, placed, table, file}
+use Rattle.meaning.specs.Written.{packed, placed, file}
 use Rattle.meaning.specs.Check.{mosts}
 use Rattle.rule_examples.specs.Asked.{all, wanted, got, checked}
 

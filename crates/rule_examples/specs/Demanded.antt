@@ -2,12 +2,12 @@
 use mathlib.Core.Path.{_≡_, refl}
 use mathlib.Core.Bool.{Bool, true}
 use mathlib.Core.List.{List, [], _∷_}
-use Prim.Native.Nat.{ℕ, _≤_, _<_}
+use Prim.Native.Nat.{ℕ}
 use native.Mathlib.Omega.{arith}
 use Rattle.meaning.specs.declared.Limits.{Limits}
 use Rattle.meaning.specs.Walk.{W, step, add, drop}
 use Rattle.meaning.specs.Calls.{Call, gives}
-use Rattle.meaning.specs.Demands.{Exhausted, steps-out, room-out, Tells, bytesUpTo, SameTables, SameUpTo, ofFile}
+use Rattle.meaning.specs.Demands.{Exhausted, steps-out, room-out, Tells, bytesUpTo, SameUpTo, ofFile}
 use Rattle.meaning.specs.Written.{table, file}
 use Rattle.rule_examples.specs.Asked.{all}
 

@@ -1,6 +1,6 @@
 -- Refusal 6: nodes, and height; Terms has those with values and paths. Each file with the check's refusal, 0 where it passes
 use mathlib.Core.Path.{_≡_, refl}
-use mathlib.Core.List.{List, [], _∷_, _++_, map}
+use mathlib.Core.List.{List, [], _∷_, map}
 use Prim.Native.Nat.{ℕ}
 use lib.ListN.{replicate}
 use Rattle.meaning.specs.Case.{places}

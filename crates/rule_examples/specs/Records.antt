@@ -1,10 +1,9 @@
 -- What the bytes hold: each kind of record with unlike words, so that each word shows where it goes
 use mathlib.Core.Path.{_≡_, refl}
 use mathlib.Core.List.{List, [], _∷_, map}
-use mathlib.Core.Option.{Option, none, some}
+use mathlib.Core.Option.{none, some}
 use Prim.Native.Nat.{ℕ}
 use lib.IntN.{pos, negsuc}
-use Rattle.meaning.specs.declared.Node.{Node}
 use Rattle.meaning.specs.declared.Node.the-variants.{And, Or, Not, Formerly, Previous, Since, Predicate, Comparison, Exists, Tp, Literal, Context, Scope, Variable, Wildcard, Aggregate, Arithmetic, Sum, Count, Broken}
 use Rattle.meaning.specs.declared.NodeNo.{NodeNo}
 use Rattle.meaning.specs.declared.Run.{Run}
@@ -14,7 +13,7 @@ use Rattle.meaning.specs.declared.TimeUnit.the-variants.{Seconds, Minutes, Hour
 use Rattle.meaning.specs.declared.CmpOp.the-variants.{Le, Lt, Ge, Gt, Eq, NotEq}
 use Rattle.meaning.specs.declared.ArithOp.the-variants.{Add, Sub, Mul}
 use Rattle.meaning.specs.declared.Root.the-variants.{Principal, Resource}
-use Rattle.meaning.specs.Case.{Value, Null, Boolean, Int, Decimal, Text, Entity, Array, Object, Part, Point, Attributes, Sort, conditions, terms, aggregates, broken, text, list, valueAt, pointAt, nodeAt, places, sortOf, isSort}
+use Rattle.meaning.specs.Case.{Null, Boolean, Int, Decimal, Text, Entity, Array, Object, Part, Attributes, conditions, terms, aggregates, broken, text, list, valueAt, pointAt, nodeAt, places, sortOf}
 use Rattle.meaning.specs.Written.{table, file}
 use Rattle.rule_examples.specs.Asked.{all}
 

@@ -9,8 +9,8 @@ use lib.ListN.{length}
 use borrow.Author.Tests.{leb-true}
 use Rattle.meaning.specs.Case.{strings, values, members, nodes, lists}
 use Rattle.meaning.specs.Check.{bodies, mosts}
-use Rattle.meaning.specs.Laws.Tests.{both}
-use Rattle.meaning.specs.Laws.Bodies.{body-ends}
+use Rattle.laws.specs.Tests.{both}
+use Rattle.laws.specs.Bodies.{body-ends}
 
 module _ (s : List ℕ) (h : mosts s ≡ true) where
   pub length-most : length s ≤ 4194304

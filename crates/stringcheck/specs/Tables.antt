@@ -9,8 +9,8 @@ use lib.ListN.{length, getD, set, replicate}
 use Rattle.meaning.specs.Tests.{pick}
 use Rattle.meaning.specs.Case.{strings, stringWord, text}
 use Rattle.meaning.specs.Check.{bodies}
-use Rattle.meaning.specs.Laws.Tests.{Filled, filled-more}
-use Rattle.meaning.specs.Laws.Bodies.{wholes, body-beyond}
+use Rattle.laws.specs.Tests.{Filled, filled-more}
+use Rattle.laws.specs.Bodies.{wholes, body-beyond}
 
 -- one more entry, where the code has its place as another number
 pub fill-at : {A : Type 0} {other : A} {f : ℕ → A} {table : List A} {k at : ℕ} (x : A) → at ≡ k → at < length table → Filled other f table k → x ≡ f k → Filled other f (set table at x) (k + 1)

@@ -14,7 +14,7 @@ ghost use Rattle.meaning.specs.Tests.{_and_, _or_, allBelow};
 ghost use Rattle.meaning.specs.Text.{before, free, utf8, first, follow, next, ended};
 ghost use Rattle.meaning.specs.Case.{strings, values, members, points, nodes, lists, vars, text};
 ghost use Rattle.meaning.specs.Check.{recordBytes, bodies, mosts, endToEnd, utf8Rule, orderRule, stringRules};
-ghost use Rattle.meaning.specs.Laws.Tests.{Filled};
+ghost use Rattle.laws.specs.Tests.{Filled};
 
 // ---- rules of several parts
 

@@ -13,8 +13,8 @@ use Rattle.meaning.specs.declared.Node.the-variants.{Broken}
 use Rattle.meaning.specs.Case.{words, offset, size, bodyWord, pointWord, nodeWord, nodeFrom, nodeAt, pointAt, signed}
 use Rattle.meaning.specs.Check.{bodies}
 use Rattle.meaning.specs.Tests.{pick}
-use Rattle.meaning.specs.Laws.Bodies.{body-beyond, wholes}
-use Rattle.meaning.specs.Laws.Nodes.{node-beyond}
+use Rattle.laws.specs.Bodies.{body-beyond, wholes}
+use Rattle.laws.specs.Nodes.{node-beyond}
 use Rattle.tables.proofs.Words.{body-fits, body-read, part-fits, part-read, node-read}
 use Rattle.tables.proofs.Choices.{node-read-at}
 

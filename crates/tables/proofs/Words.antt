@@ -7,7 +7,7 @@ use native.Mathlib.Omega.{arith}
 use lib.ListN.{length, getD}
 use Rattle.meaning.specs.Case.{words, offset, size, bodyWord, stringWord, valueWord, memberWord, pointWord, nodeWord}
 use Rattle.meaning.specs.Check.{bodies}
-use Rattle.meaning.specs.Laws.Bodies.{word-fits, body-word, body-beyond}
+use Rattle.laws.specs.Bodies.{word-fits, body-word, body-beyond}
 
 -- u is a body's length as it is read, w the same number in a wider type
 module _ (s : List ℕ) (k i u w : ℕ) (h : bodies s ≡ true) (hk : k < 6) (e : u ≡ size s k) (f : w ≡ u) where

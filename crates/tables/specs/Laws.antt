@@ -10,8 +10,8 @@ use borrow.Author.Tests.{ltb-true, ltb-false}
 use Rattle.meaning.specs.Tests.{pick}
 use Rattle.meaning.specs.Case.{offset, strings, stringWord, text}
 use Rattle.meaning.specs.Check.{bodies, endToEnd, placeRule}
-use Rattle.meaning.specs.Laws.Tests.{both, all-at}
-use Rattle.meaning.specs.Laws.Bodies.{wholes, body-ends, body-beyond, text-fits, text-is}
+use Rattle.laws.specs.Tests.{both, all-at}
+use Rattle.laws.specs.Bodies.{wholes, body-ends, body-beyond, text-fits, text-is}
 
 module _ (s : List ℕ) (h : bodies s ≡ true) (placed : endToEnd s ≡ true) (n : ℕ) where
   place : n < strings s → placeRule s n ≡ true

@@ -10,8 +10,8 @@ use borrow.Author.Tests.{ltb-false}
 use Rattle.meaning.specs.Tests.{_and_, allBelow, greatest}
 use Rattle.meaning.specs.Case.{members, memberWord, valueWord}
 use Rattle.meaning.specs.Check.{bodies, mosts, depth, partCount, partValue}
-use Rattle.meaning.specs.Laws.Tests.{Filled, greatest-more, greatest-same, all-add, all-same}
-use Rattle.meaning.specs.Laws.Values.{Runs, leaf, holder}
+use Rattle.laws.specs.Tests.{Filled, greatest-more, greatest-same, all-add, all-same}
+use Rattle.laws.specs.Values.{Runs, leaf, holder}
 use Rattle.stringcheck.specs.Mosts.{value-most, member-most}
 use Rattle.valuecheck.specs.Blocks.{Lower}
 use Rattle.valuecheck.specs.Laws.{greatest-add}

@@ -12,7 +12,7 @@ use borrow.Author.Tests.{lt-ltb, le-ltb, ltb-true, ltb-false}
 use Rattle.meaning.specs.Tests.{_and_, choose, allBelow, greatest}
 use Rattle.meaning.specs.Case.{nothing, memberWord}
 use Rattle.meaning.specs.Check.{arrayItem, depth}
-use Rattle.meaning.specs.Laws.Tests.{Filled, stop, skip, pass, after, yes, no, all-add, all-same, all-at, shorter}
+use Rattle.laws.specs.Tests.{Filled, stop, skip, pass, after, yes, no, all-add, all-same, all-at, shorter}
 use Rattle.valuecheck.specs.Blocks.{topOf, Depths, Marked}
 
 -- the greatest of a run and a block

@@ -15,8 +15,8 @@ ghost use lib.ListN.{getD};
 ghost use Rattle.meaning.specs.Tests.{_and_, allBelow, greatest};
 ghost use Rattle.meaning.specs.Case.{values, members, memberWord};
 ghost use Rattle.meaning.specs.Check.{bodies, mosts, inTable, memberRule, arrayItem, objectItem, valueRule, valueRules, depthRule, depth, partCount, partValue, literal};
-ghost use Rattle.meaning.specs.Laws.Tests.{Filled};
-ghost use Rattle.meaning.specs.Laws.Values.{Runs};
+ghost use Rattle.laws.specs.Tests.{Filled};
+ghost use Rattle.laws.specs.Values.{Runs};
 ghost use Rattle.valuecheck.specs.Blocks.{topOf, Lower, Depths, Marked};
 
 // ---- members

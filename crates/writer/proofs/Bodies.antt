@@ -8,9 +8,9 @@ use lib.Seq.{length-take-le, take-all, take-add, drop-drop, drop-append-add}
 use borrow.Author.Tests.{eqb-true}
 use Rattle.meaning.specs.Case.{offset, size, body}
 use Rattle.meaning.specs.Check.{bodies, startOf, bodyRule}
-use Rattle.meaning.specs.Laws.Tests.{both, all-at}
-use Rattle.meaning.specs.Laws.Bodies.{long, body-ends}
-use Rattle.meaning.specs.Laws.Writing.{Writing, write-none, write-more}
+use Rattle.laws.specs.Tests.{both, all-at}
+use Rattle.laws.specs.Bodies.{long, body-ends}
+use Rattle.laws.specs.Writing.{Writing, write-none, write-more}
 use Rattle.encode.specs.Write.{over}
 use Rattle.writer.specs.Put.{put, Fits, Starts, Whole}
 

@@ -6,8 +6,8 @@ use native.Mathlib.Omega.{arith}
 use lib.ListN.{length, take, drop}
 use lib.Seq.{length-take-le}
 use Rattle.meaning.specs.Case.{offset, size, body}
-use Rattle.meaning.specs.Laws.Bodies.{long, body-ends}
-use Rattle.meaning.specs.Laws.Writing.{Writing}
+use Rattle.laws.specs.Bodies.{long, body-ends}
+use Rattle.laws.specs.Writing.{Writing}
 use Rattle.writer.specs.Put.{put, Fits, Starts}
 
 -- ---- a body

@@ -1,5 +1,5 @@
 use Rattle.bench_examples.proofs.Starts.{few, begins}
-use Rattle.meaning.specs.Laws.Checked.{checked-bodies}
+use Rattle.laws.specs.Checked.{checked-bodies}
 use borrow.Author.Needs.{needs}
 use Rattle.bench_examples.proofs.verdict.Statement.{statement}
 use Rattle.bench_examples.proofs.verdict.Tie as tie

@@ -8,7 +8,7 @@ use mathlib.Core.Path.{_∙_, _≡_, refl, sym}
 use Rattle.casecheck.specs.Answer.{answer, asChecking, contentsOf}
 use Rattle.meaning.specs.Case.{values}
 use Rattle.meaning.specs.Check.{bodies, check, endToEnd, mosts, nodeRules, pointRules, stringRules, valueRule, valueRules}
-use Rattle.meaning.specs.Laws.Tests.{both, no, yes}
+use Rattle.laws.specs.Tests.{both, no, yes}
 use Rattle.meaning.specs.Tests.{allBelow}
 use Rattle.meaning.specs.Text.{before}
 use Rattle.meaning.specs.declared.Refusal.{Refusal}

@@ -4,7 +4,6 @@ use lib.ListN.{length}
 use mathlib.Core.Path.{_≡_}
 use native.Mathlib.Omega.{arith}
 use Rattle.meaning.specs.Case.{list, words}
-use Rattle.meaning.specs.Text.{before}
 use Rattle.check_rules.proofs.check_all.Statement.{statement}
 use Rattle.check_rules.proofs.check_all.Tie as tie
 

@@ -8,13 +8,13 @@ use lib.Dec.{ltb, lit<}
 use lib.ListN.{length, getD, take, drop, length-append, length-drop, List·getD-append}
 use lib.Seq.{take-all, take-suc, take-add, getD-at, length-take-le}
 use borrow.Author.Tests.{ltb-true, ltb-false, eqb-true, leb-true}
-use Rattle.meaning.specs.Tests.{_and_, choose, pick, rises}
+use Rattle.meaning.specs.Tests.{choose, pick, rises}
 use Rattle.meaning.specs.Text.{before}
 use Rattle.meaning.specs.Case.{words, size, body, bodyWord, stringWord, text, strings, vars, places}
 use Rattle.meaning.specs.Check.{bodies, endBefore, placeRule, endToEnd, orderRule, stringRules}
-use Rattle.meaning.specs.Laws.Tests.{both, all-at}
-use Rattle.meaning.specs.Laws.Lists.{Every}
-use Rattle.meaning.specs.Laws.Bodies.{wholes, body-length}
+use Rattle.laws.specs.Tests.{both, all-at}
+use Rattle.laws.specs.Lists.{Every}
+use Rattle.laws.specs.Bodies.{wholes, body-length}
 use Rattle.encode.specs.Words.{packed}
 use Rattle.encode.specs.Encode.{flat, placed, encoded}
 use Rattle.encode.specs.Join.{insertNew, below, joined}

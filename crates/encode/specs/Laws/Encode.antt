@@ -10,10 +10,10 @@ use lib.ListN.{length, getD, take, drop, length-append}
 use lib.Seq.{take-all, take-at, take-suc, drop-append-add}
 use borrow.Author.Tests.{eq-eqb, le-leb}
 use Rattle.meaning.specs.Tests.{allBelow}
-use Rattle.meaning.specs.Case.{words, contents, offset, size, body}
+use Rattle.meaning.specs.Case.{contents, offset, size, body}
 use Rattle.meaning.specs.Check.{recordBytes, startOf, bodyRule, bodies}
-use Rattle.meaning.specs.Laws.Tests.{pass}
-use Rattle.meaning.specs.Laws.Words.{words-first}
+use Rattle.laws.specs.Tests.{pass}
+use Rattle.laws.specs.Words.{words-first}
 use Rattle.encode.specs.Words.{packed}
 use Rattle.encode.specs.Encode.{flat, placed, encoded}
 use Rattle.encode.specs.Laws.Words.{words-packed, packed-long}

@@ -6,10 +6,10 @@ use Prim.Native.Nat.{ℕ, zero, suc, _+_, _<_, _≤_}
 use native.Mathlib.Omega.{arith}
 use lib.Dec.{ltb, eqb}
 use lib.ListN.{length, take, drop, getD}
-use borrow.Author.Tests.{ltb-true, ltb-false, lt-ltb, le-ltb, eqb-true, eqb-false, eq-eqb, ne-eqb}
+use borrow.Author.Tests.{ltb-true, ltb-false, lt-ltb, le-ltb, eqb-true, eqb-false, eq-eqb}
 use Rattle.meaning.specs.Tests.{_and_, _or_, choose}
 use Rattle.meaning.specs.Text.{before}
-use Rattle.meaning.specs.Laws.Lists.{Every, every-map}
+use Rattle.laws.specs.Lists.{Every, every-map}
 use Rattle.encode.specs.Join.{insertNew, below, joined}
 
 -- ---- the byte order

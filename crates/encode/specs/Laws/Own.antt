@@ -8,13 +8,12 @@ use native.Mathlib.Numerals.{add-one}
 use lib.ListN.{length, getD, take, drop, length-map, take-append-drop, drop-of-length-le}
 use lib.Seq.{ext-getD, drop-cons, drop-drop, drop-length, length-take-le}
 use borrow.Author.Tests.{eqb-true}
-use Rattle.meaning.specs.Tests.{_and_}
 use Rattle.meaning.specs.Case.{word, words, contents, offset, size, body, bodyWord, vars, places}
 use Rattle.meaning.specs.Check.{startOf, bodyRule, bodies}
-use Rattle.meaning.specs.Laws.Tests.{both, all-at}
-use Rattle.meaning.specs.Laws.Lists.{Every}
-use Rattle.meaning.specs.Laws.Words.{words-part}
-use Rattle.meaning.specs.Laws.Bodies.{long, edition, body-length}
+use Rattle.laws.specs.Tests.{both, all-at}
+use Rattle.laws.specs.Lists.{Every}
+use Rattle.laws.specs.Words.{words-part}
+use Rattle.laws.specs.Bodies.{long, edition, body-length}
 use Rattle.encode.specs.Words.{packed}
 use Rattle.encode.specs.Encode.{flat, placed, encoded}
 use Rattle.encode.specs.Laws.Unsorted.{places-long, quarter}

@@ -12,8 +12,8 @@ use Rattle.meaning.specs.declared.Node.the-variants.{And, Or, Not, Formerly, Pr
 use Rattle.meaning.specs.Tests.{_and_, _or_, choose, allBelow}
 use Rattle.meaning.specs.Case.{points, nodes, lists, pointWord, list, nodeAt, places}
 use Rattle.meaning.specs.Check.{Checked, stringRun, entityRun, pathRun, argumentRule, argumentRun, pointRule, pointRules, ruleOf, nodeRule}
-use Rattle.meaning.specs.Laws.Tests.{both, pass, all-at}
-use Rattle.meaning.specs.Laws.Checked.{rules, checked-nodes}
+use Rattle.laws.specs.Tests.{both, pass, all-at}
+use Rattle.laws.specs.Checked.{rules, checked-nodes}
 use Rattle.encode.specs.Unsorted.{marked}
 use Rattle.encode.specs.Write.{allMarked, noneMarked, entityMarks, pointMarks, argumentMarks, marksOf, nodeMarks}
 use Rattle.encode.specs.Read.{someBelow, oneOf, pointStrings, stringsOf, usedAsString, pointOthers, othersOf, usedOtherwise, readMarks, oneWay}

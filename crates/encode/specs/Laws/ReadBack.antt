@@ -1,18 +1,18 @@
 -- The finished case reads back as the same records: the text of a string's new number is that string's, and every word is the old one under it
-use mathlib.Core.Path.{_≡_, refl, sym, _∙_, ap, subst}
+use mathlib.Core.Path.{_≡_, refl, sym, _∙_, ap}
 use mathlib.Core.Bool.{Bool, true, false}
 use mathlib.Core.List.{List, [], _∷_, map}
 use mathlib.Core.Logic.{_⊎_, inl, inr, ⊎-elim}
 use Prim.Native.Nat.{ℕ, zero, suc, _+_, _*_, _/_, _<_, _≤_}
 use native.Mathlib.Omega.{arith}
 use lib.Dec.{ltb, lit<}
-use lib.ListN.{length, getD, take, drop}
+use lib.ListN.{length, getD, take}
 use borrow.Author.Tests.{ltb-true, ltb-false, lt-ltb, le-ltb}
 use Rattle.meaning.specs.Tests.{choose}
 use Rattle.meaning.specs.Text.{before}
 use Rattle.meaning.specs.Case.{words, size, body, bodyWord, stringWord, text, strings, vars, places}
 use Rattle.meaning.specs.Check.{bodies}
-use Rattle.meaning.specs.Laws.Lists.{Every}
+use Rattle.laws.specs.Lists.{Every}
 use Rattle.encode.specs.Words.{packed}
 use Rattle.encode.specs.Encode.{flat, placed}
 use Rattle.encode.specs.Join.{insertNew, below, joined}

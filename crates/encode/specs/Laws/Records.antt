@@ -10,11 +10,11 @@ use Rattle.meaning.specs.declared.Node.{Node}
 use Rattle.meaning.specs.Tests.{_and_, _or_, choose, pick, within, allBelow}
 use Rattle.meaning.specs.Case.{Part, values, members, points, nodes, lists, valueWord, memberWord, pointWord, nodeWord, list, places, runOf, under, nodeFrom, valueFrom, partAt, valueAt, entityAt, pointAt, nodeAt}
 use Rattle.meaning.specs.Check.{Checked, bodies, pointRules, nodeRule}
-use Rattle.meaning.specs.Laws.Tests.{skip, all-at}
-use Rattle.meaning.specs.Laws.Lists.{Every, every-place}
-use Rattle.meaning.specs.Laws.Bodies.{body-beyond}
-use Rattle.meaning.specs.Laws.Values.{runs}
-use Rattle.meaning.specs.Laws.Checked.{rules, checked-bodies, checked-values, checked-nodes}
+use Rattle.laws.specs.Tests.{skip, all-at}
+use Rattle.laws.specs.Lists.{Every, every-place}
+use Rattle.laws.specs.Bodies.{body-beyond}
+use Rattle.laws.specs.Values.{runs}
+use Rattle.laws.specs.Checked.{rules, checked-bodies, checked-values, checked-nodes}
 use Rattle.encode.specs.Unsorted.{valueNames, memberNames, pointNames, nodeNames, marked, names, number}
 use Rattle.encode.specs.Write.{pointMarks, nodeMarks}
 use Rattle.encode.specs.Read.{oneOf, pointStrings, pointOthers}

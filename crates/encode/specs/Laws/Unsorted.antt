@@ -1,17 +1,17 @@
 -- Laws of the finished case: how many bytes each part has, its mosts by the unsorted tables, and that rule 1 holds of it
-use mathlib.Core.Path.{_≡_, refl, sym, _∙_, ap}
+use mathlib.Core.Path.{_≡_, refl, _∙_, ap}
 use mathlib.Core.Bool.{true}
-use mathlib.Core.List.{List, [], _∷_, map}
-use Prim.Native.Nat.{ℕ, zero, suc, _+_, _*_, _/_, _%_, _<_, _≤_}
+use mathlib.Core.List.{List, [], map}
+use Prim.Native.Nat.{ℕ, zero, suc, _+_, _*_, _/_, _%_, _<_}
 use native.Mathlib.Omega.{arith}
 use lib.Dec.{leb, lit<}
 use lib.ListN.{length, getD, length-map}
 use Rattle.meaning.specs.Tests.{_and_, pick}
 use Rattle.meaning.specs.Case.{contents, size, vars, values, points, nodes, places}
 use Rattle.meaning.specs.Check.{recordBytes, bodies, mosts}
-use Rattle.meaning.specs.Laws.Bodies.{wholes}
+use Rattle.laws.specs.Bodies.{wholes}
 use Rattle.encode.specs.Words.{packed}
-use Rattle.encode.specs.Encode.{flat, placed, encoded}
+use Rattle.encode.specs.Encode.{flat, placed}
 use Rattle.encode.specs.Unsorted.{texts, renamed, table, tables, parts, finished}
 use Rattle.encode.specs.Laws.Words.{packed-long}
 use Rattle.encode.specs.Laws.Encode.{placed-long, encoded-long, encoded-size, encoded-word, encoded-bodies}

@@ -1,4 +1,4 @@
-use Rattle.meaning.specs.Laws.Bodies.{long}
+use Rattle.laws.specs.Bodies.{long}
 use borrow.Author.Needs.{needs}
 use Rattle.finish.proofs.body_size.Statement.{statement}
 use Rattle.finish.proofs.body_size.Tie as tie

@@ -1,4 +1,4 @@
-use Rattle.meaning.specs.Laws.Bodies.{long}
+use Rattle.laws.specs.Bodies.{long}
 use Rattle.joining.proofs.Texts.{cut-ends, cut-read}
 use borrow.Author.Needs.{needs}
 use Rattle.joining.proofs.text_in.Statement.{statement}

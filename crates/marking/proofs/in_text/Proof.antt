@@ -1,5 +1,5 @@
 use Rattle.marking.proofs.Rules.{in-text-as}
-use Rattle.meaning.specs.Laws.Bodies.{long}
+use Rattle.laws.specs.Bodies.{long}
 use borrow.Author.Needs.{needs}
 use Rattle.marking.proofs.in_text.Statement.{statement}
 use Rattle.marking.proofs.in_text.Tie as tie

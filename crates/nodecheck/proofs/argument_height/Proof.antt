@@ -5,7 +5,7 @@ use mathlib.Core.List.{List}
 use mathlib.Core.Path.{_∙_, _≡_, ap, refl, sym}
 use native.Mathlib.Omega.{arith}
 use Rattle.meaning.specs.Case.{list}
-use Rattle.meaning.specs.Laws.Tests.{greatest-more}
+use Rattle.laws.specs.Tests.{greatest-more}
 use Rattle.meaning.specs.Tests.{greatest}
 use Rattle.meaning.specs.Text.{before}
 use Rattle.nodecheck.specs.Terms.{Terms}

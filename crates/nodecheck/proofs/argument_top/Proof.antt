@@ -5,7 +5,7 @@ use mathlib.Core.List.{List}
 use mathlib.Core.Path.{_∙_, _≡_, refl, sym}
 use native.Mathlib.Omega.{arith}
 use Rattle.meaning.specs.Case.{list}
-use Rattle.meaning.specs.Laws.Tests.{greatest-more, no, record-no, record-yes, yes}
+use Rattle.laws.specs.Tests.{greatest-more, no, record-no, record-yes, yes}
 use Rattle.meaning.specs.Tests.{allBelow, greatest}
 use Rattle.meaning.specs.Text.{before}
 use Rattle.nodecheck.specs.Terms.{argumentOwn, argumentTop}

@@ -9,8 +9,8 @@ use native.Mathlib.Numerals.{add-one}
 use native.Mathlib.Omega.{arith}
 use Rattle.meaning.specs.Case.{arity, child, list, nodeAt, nodes}
 use Rattle.meaning.specs.Check.{bodies, height, heightRule, nodeRule}
-use Rattle.meaning.specs.Laws.Nodes.{height-is, lower-child}
-use Rattle.meaning.specs.Laws.Tests.{Filled, all-end, all-more, all-stop, filled-none, greatest-same}
+use Rattle.laws.specs.Nodes.{height-is, lower-child}
+use Rattle.laws.specs.Tests.{Filled, all-end, all-more, all-stop, filled-none, greatest-same}
 use Rattle.meaning.specs.Tests.{allBelow, greatest}
 use Rattle.meaning.specs.Text.{before}
 use Rattle.stringcheck.specs.Mosts.{node-most}

@@ -3,7 +3,7 @@ use borrow.Author.Tests.{not-false, not-true}
 use mathlib.Core.Bool.{Bool, false, not, true}
 use mathlib.Core.Path.{_∙_, _≡_, sym}
 use Rattle.meaning.specs.Check.{nodeRules}
-use Rattle.meaning.specs.Laws.Tests.{after, stop}
+use Rattle.laws.specs.Tests.{after, stop}
 use Rattle.meaning.specs.Tests.{_and_}
 use Rattle.nodecheck.proofs.check_nodes.Statement.{statement}
 use Rattle.nodecheck.proofs.check_nodes.Tie as tie

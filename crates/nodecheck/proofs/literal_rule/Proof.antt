@@ -9,7 +9,7 @@ use mathlib.Core.Path.{_∙_, _≡_, ap, sym}
 use native.Mathlib.Omega.{arith}
 use Rattle.meaning.specs.Case.{values}
 use Rattle.meaning.specs.Check.{literal, mosts, ruleOf}
-use Rattle.meaning.specs.Laws.Tests.{after, stop}
+use Rattle.laws.specs.Tests.{after, stop}
 use Rattle.meaning.specs.Tests.{_and_}
 use Rattle.nodecheck.proofs.Parts.{and2}
 use Rattle.pointcheck.specs.Blocks.{Literals}

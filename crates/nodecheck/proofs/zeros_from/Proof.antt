@@ -6,7 +6,7 @@ use mathlib.Core.Bool.{true}
 use mathlib.Core.Path.{_∙_, _≡_, sym}
 use Rattle.meaning.specs.Case.{nodeWord}
 use Rattle.meaning.specs.Check.{zerosFrom}
-use Rattle.meaning.specs.Laws.Tests.{all-end, all-more, all-stop}
+use Rattle.laws.specs.Tests.{all-end, all-more, all-stop}
 use Rattle.meaning.specs.Tests.{allBelow}
 use Rattle.meaning.specs.Text.{before}
 use Rattle.nodecheck.proofs.zeros_from.Statement.{statement}

@@ -9,7 +9,7 @@ use mathlib.Core.Path.{_∙_, _≡_, ap, refl, sym}
 use native.Mathlib.Omega.{arith}
 use Rattle.meaning.specs.Case.{list, lists}
 use Rattle.meaning.specs.Check.{inTable}
-use Rattle.meaning.specs.Laws.Tests.{all-end, all-more, all-stop, pass, skip, stop}
+use Rattle.laws.specs.Tests.{all-end, all-more, all-stop, pass, skip, stop}
 use Rattle.meaning.specs.Tests.{_and_, allBelow, greatest}
 use Rattle.meaning.specs.Text.{before}
 use Rattle.pointcheck.specs.Blocks.{Tops}

@@ -4,7 +4,7 @@ use mathlib.Core.List.{List}
 use mathlib.Core.Path.{_∙_, _≡_, sym}
 use native.Mathlib.Omega.{arith}
 use Rattle.meaning.specs.Case.{list, word}
-use Rattle.meaning.specs.Laws.Tests.{greatest-more}
+use Rattle.laws.specs.Tests.{greatest-more}
 use Rattle.meaning.specs.Tests.{greatest}
 use Rattle.meaning.specs.Text.{before}
 use Rattle.pointcheck.proofs.block_top.Statement.{statement}

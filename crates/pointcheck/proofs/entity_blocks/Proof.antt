@@ -7,7 +7,7 @@ use mathlib.Core.Path.{_≡_, refl}
 use native.Mathlib.Omega.{arith}
 use Rattle.meaning.specs.Case.{lists}
 use Rattle.meaning.specs.Check.{bodies, entityItem, mosts}
-use Rattle.meaning.specs.Laws.Tests.{Filled, filled-none}
+use Rattle.laws.specs.Tests.{Filled, filled-none}
 use Rattle.meaning.specs.Tests.{allBelow}
 use Rattle.meaning.specs.Text.{before}
 use Rattle.pointcheck.specs.Blocks.{blockStart}

@@ -6,7 +6,7 @@ use mathlib.Core.List.{List}
 use mathlib.Core.Path.{_∙_, _≡_, refl, sym}
 use native.Mathlib.Omega.{arith}
 use Rattle.meaning.specs.Check.{entityBefore, entityItem, entityRule}
-use Rattle.meaning.specs.Laws.Tests.{after, pass, stop}
+use Rattle.laws.specs.Tests.{after, pass, stop}
 use Rattle.meaning.specs.Tests.{rises}
 use Rattle.meaning.specs.Text.{before}
 use Rattle.pointcheck.proofs.entity_item.Statement.{statement}

@@ -8,7 +8,7 @@ use mathlib.Core.Path.{_∙_, _≡_, ap, sym}
 use native.Mathlib.Omega.{arith}
 use Rattle.meaning.specs.Case.{strings, text}
 use Rattle.meaning.specs.Check.{isString, mosts}
-use Rattle.meaning.specs.Laws.Tests.{after, stop}
+use Rattle.laws.specs.Tests.{after, stop}
 use Rattle.meaning.specs.Tests.{_and_}
 use Rattle.meaning.specs.Text.{before, free}
 use Rattle.pointcheck.specs.Blocks.{Unquoted}

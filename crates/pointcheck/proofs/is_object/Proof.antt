@@ -6,7 +6,7 @@ use mathlib.Core.List.{List}
 use mathlib.Core.Path.{_∙_, _≡_, refl}
 use Rattle.meaning.specs.Case.{valueWord, values}
 use Rattle.meaning.specs.Check.{isObject}
-use Rattle.meaning.specs.Laws.Tests.{both}
+use Rattle.laws.specs.Tests.{both}
 use Rattle.meaning.specs.Tests.{_and_}
 use Rattle.meaning.specs.Text.{before}
 use Rattle.pointcheck.proofs.is_object.Statement.{statement}

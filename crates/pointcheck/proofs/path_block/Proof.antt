@@ -3,7 +3,7 @@ use borrow.Author.Needs.{needs}
 use mathlib.Core.Bool.{true}
 use mathlib.Core.Path.{_≡_}
 use Rattle.meaning.specs.Check.{pathName}
-use Rattle.meaning.specs.Laws.Tests.{all-end, record-no, record-yes}
+use Rattle.laws.specs.Tests.{all-end, record-no, record-yes}
 use Rattle.meaning.specs.Tests.{allBelow}
 use Rattle.meaning.specs.Text.{before}
 use Rattle.pointcheck.proofs.path_block.Statement.{statement}

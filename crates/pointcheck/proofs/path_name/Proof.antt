@@ -8,7 +8,7 @@ use mathlib.Core.Path.{_∙_, _≡_, ap, sym}
 use native.Mathlib.Omega.{arith}
 use Rattle.meaning.specs.Case.{list, strings}
 use Rattle.meaning.specs.Check.{mosts, pathName}
-use Rattle.meaning.specs.Laws.Tests.{after, stop}
+use Rattle.laws.specs.Tests.{after, stop}
 use Rattle.meaning.specs.Text.{before}
 use Rattle.pointcheck.specs.Blocks.{Undotted}
 use Rattle.stringcheck.specs.Mosts.{string-most}

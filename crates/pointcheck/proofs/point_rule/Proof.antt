@@ -6,7 +6,7 @@ use mathlib.Core.List.{List}
 use mathlib.Core.Path.{_∙_, _≡_, refl}
 use Rattle.meaning.specs.Case.{pointWord, strings}
 use Rattle.meaning.specs.Check.{entityRun, isObject, maybeValue, pointRule, stringRun}
-use Rattle.meaning.specs.Laws.Tests.{both}
+use Rattle.laws.specs.Tests.{both}
 use Rattle.meaning.specs.Tests.{_and_}
 use Rattle.meaning.specs.Text.{before}
 use Rattle.pointcheck.proofs.point_rule.Statement.{statement}

@@ -1,5 +1,5 @@
 use mathlib.Core.Path.{sym}
-use Rattle.meaning.specs.Laws.Tests.{stop, after}
+use Rattle.laws.specs.Tests.{stop, after}
 use Rattle.stringcheck.proofs.both.Statement.{statement}
 use Rattle.stringcheck.proofs.both.Tie as tie
 

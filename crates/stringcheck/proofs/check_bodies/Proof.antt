@@ -10,7 +10,7 @@ use native.Mathlib.Numerals.{add-one}
 use native.Mathlib.Omega.{arith}
 use Rattle.meaning.specs.Case.{contents, size}
 use Rattle.meaning.specs.Check.{bodies, bodyRule, recordBytes, startOf}
-use Rattle.meaning.specs.Laws.Tests.{all-more, all-stop, pass, skip, stop}
+use Rattle.laws.specs.Tests.{all-more, all-stop, pass, skip, stop}
 use Rattle.meaning.specs.Tests.{_and_, allBelow}
 use Rattle.meaning.specs.Text.{before}
 use Rattle.stringcheck.proofs.check_bodies.Statement.{statement}

@@ -8,7 +8,7 @@ use mathlib.Core.List.{List}
 use mathlib.Core.Path.{_≡_, sym}
 use Rattle.meaning.specs.Case.{nodes, points, strings, values, vars}
 use Rattle.meaning.specs.Check.{mosts}
-use Rattle.meaning.specs.Laws.Tests.{skip, stop}
+use Rattle.laws.specs.Tests.{skip, stop}
 use Rattle.meaning.specs.Tests.{_and_}
 use Rattle.meaning.specs.Text.{before}
 use Rattle.stringcheck.proofs.check_mosts.Statement.{statement}

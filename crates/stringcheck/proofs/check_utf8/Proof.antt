@@ -5,7 +5,7 @@ use mathlib.Core.Path.{_∙_, _≡_, ap}
 use native.Mathlib.Omega.{arith}
 use Rattle.meaning.specs.Case.{strings}
 use Rattle.meaning.specs.Check.{utf8Rule}
-use Rattle.meaning.specs.Laws.Tests.{all-end, record-no, record-yes}
+use Rattle.laws.specs.Tests.{all-end, record-no, record-yes}
 use Rattle.meaning.specs.Tests.{allBelow}
 use Rattle.meaning.specs.Text.{before, utf8}
 use Rattle.meaning.specs.declared.Due.the-variants.{Nothing}

@@ -9,8 +9,8 @@ use native.Mathlib.Numerals.{add-one}
 use native.Mathlib.Omega.{arith}
 use Rattle.meaning.specs.Case.{size, stringWord, strings}
 use Rattle.meaning.specs.Check.{endBefore, endToEnd, placeRule}
-use Rattle.meaning.specs.Laws.Bodies.{long}
-use Rattle.meaning.specs.Laws.Tests.{all-more, all-stop, pass, skip, stop}
+use Rattle.laws.specs.Bodies.{long}
+use Rattle.laws.specs.Tests.{all-more, all-stop, pass, skip, stop}
 use Rattle.meaning.specs.Tests.{_and_, allBelow}
 use Rattle.meaning.specs.Text.{before}
 use Rattle.stringcheck.proofs.end_to_end.Statement.{statement}

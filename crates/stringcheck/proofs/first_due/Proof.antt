@@ -1,7 +1,7 @@
 use mathlib.Core.Path.{refl, sym}
 use borrow.Author.Tests.{lt-ltb, le-ltb}
 use Rattle.meaning.specs.Text.{first}
-use Rattle.meaning.specs.Laws.Tests.{yes, no}
+use Rattle.laws.specs.Tests.{yes, no}
 use Rattle.stringcheck.proofs.first_due.Statement.{statement}
 use Rattle.stringcheck.proofs.first_due.Tie as tie
 

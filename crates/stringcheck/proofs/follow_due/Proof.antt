@@ -1,7 +1,7 @@
 use mathlib.Core.Path.{refl, sym}
 use borrow.Author.Tests.{lt-ltb, le-ltb, le-leb, lt-leb}
 use Rattle.meaning.specs.Text.{follow}
-use Rattle.meaning.specs.Laws.Tests.{yes, no}
+use Rattle.laws.specs.Tests.{yes, no}
 use Rattle.stringcheck.proofs.follow_due.Statement.{statement}
 use Rattle.stringcheck.proofs.follow_due.Tie as tie
 

@@ -5,7 +5,7 @@ use mathlib.Core.Bool.{false}
 use mathlib.Core.Path.{_∙_, _≡_, ap}
 use native.Mathlib.Omega.{arith}
 use Rattle.meaning.specs.Case.{strings, text}
-use Rattle.meaning.specs.Laws.Tests.{Filled, filled-none}
+use Rattle.laws.specs.Tests.{Filled, filled-none}
 use Rattle.meaning.specs.Text.{before, free}
 use Rattle.stringcheck.specs.Mosts.{string-most}
 use Rattle.stringcheck.specs.Tables.{fill-at, filled-all}

@@ -10,7 +10,7 @@ use lib.Seq.{drop-cons}
 use borrow.Author.Tests.{ne-eqb, eq-eqb}
 use Rattle.meaning.specs.Tests.{_and_}
 use Rattle.meaning.specs.Text.{free}
-use Rattle.meaning.specs.Laws.Tests.{stop, after}
+use Rattle.laws.specs.Tests.{stop, after}
 use Rattle.stringcheck.proofs.is_free.Statement.{statement}
 use Rattle.stringcheck.proofs.is_free.Tie as tie
 

@@ -1,6 +1,6 @@
 use borrow.Author.Needs.{needs}
 use Rattle.meaning.specs.Case.{memberWord}
-use Rattle.meaning.specs.Laws.Bodies.{long}
+use Rattle.laws.specs.Bodies.{long}
 use Rattle.tables.proofs.Words.{no-member, no-member-word}
 use Rattle.tables.proofs.member_word.Statement.{statement}
 use Rattle.tables.proofs.member_word.Tie as tie

@@ -1,6 +1,6 @@
 use borrow.Author.Needs.{needs}
 use lib.Dec.{lit<}
-use Rattle.meaning.specs.Laws.Bodies.{long}
+use Rattle.laws.specs.Bodies.{long}
 use Rattle.tables.proofs.Records.{node-none, node-first, node-fits, node-whole}
 use Rattle.tables.proofs.node_at.Statement.{statement}
 use Rattle.tables.proofs.node_at.Tie as tie

@@ -1,6 +1,6 @@
 use borrow.Author.Needs.{needs}
 use Rattle.meaning.specs.Case.{pointWord}
-use Rattle.meaning.specs.Laws.Bodies.{long}
+use Rattle.laws.specs.Bodies.{long}
 use Rattle.tables.proofs.Words.{no-point, no-point-word}
 use Rattle.tables.proofs.point_word.Statement.{statement}
 use Rattle.tables.proofs.point_word.Tie as tie

@@ -1,5 +1,5 @@
 use borrow.Author.Needs.{needs}
-use Rattle.meaning.specs.Laws.Bodies.{long}
+use Rattle.laws.specs.Bodies.{long}
 use Rattle.tables.proofs.Words.{no-string, string-read}
 use Rattle.tables.proofs.string_word.Statement.{statement}
 use Rattle.tables.proofs.string_word.Tie as tie

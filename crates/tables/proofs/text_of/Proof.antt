@@ -1,7 +1,7 @@
 use borrow.Author.Needs.{needs}
 use native.Mathlib.Omega.{arith}
 use mathlib.Core.Path.{_∙_}
-use Rattle.meaning.specs.Laws.Bodies.{long}
+use Rattle.laws.specs.Bodies.{long}
 use Rattle.tables.specs.Laws.{string-fits, text-read}
 use Rattle.tables.proofs.text_of.Statement.{statement}
 use Rattle.tables.proofs.text_of.Tie as tie

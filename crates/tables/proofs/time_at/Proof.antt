@@ -1,5 +1,5 @@
 use borrow.Author.Needs.{needs}
-use Rattle.meaning.specs.Laws.Bodies.{long}
+use Rattle.laws.specs.Bodies.{long}
 use Rattle.tables.proofs.Records.{time-none, time-first, time-fits, time-whole}
 use Rattle.tables.proofs.time_at.Statement.{statement}
 use Rattle.tables.proofs.time_at.Tie as tie

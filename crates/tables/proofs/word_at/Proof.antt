@@ -1,6 +1,6 @@
 use borrow.Author.Needs.{needs}
 use mathlib.Core.Path.{sym, _∙_}
-use Rattle.meaning.specs.Laws.Words.{words-at}
+use Rattle.laws.specs.Words.{words-at}
 use Rattle.tables.proofs.word_at.Statement.{statement}
 use Rattle.tables.proofs.word_at.Tie as tie
 

@@ -9,7 +9,7 @@ use mathlib.Core.Path.{_≡_}
 use native.Mathlib.Omega.{arith}
 use Rattle.meaning.specs.Case.{members}
 use Rattle.meaning.specs.Check.{arrayItem, bodies, mosts}
-use Rattle.meaning.specs.Laws.Tests.{Filled, all-end, record-no, record-yes}
+use Rattle.laws.specs.Tests.{Filled, all-end, record-no, record-yes}
 use Rattle.meaning.specs.Tests.{allBelow}
 use Rattle.meaning.specs.Text.{before}
 use Rattle.stringcheck.specs.Mosts.{member-most}

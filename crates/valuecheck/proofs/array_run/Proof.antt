@@ -7,7 +7,7 @@ use mathlib.Core.Path.{_∙_, _≡_, sym}
 use native.Mathlib.Omega.{arith}
 use Rattle.meaning.specs.Case.{members}
 use Rattle.meaning.specs.Check.{inTable}
-use Rattle.meaning.specs.Laws.Tests.{after, stop}
+use Rattle.laws.specs.Tests.{after, stop}
 use Rattle.meaning.specs.Text.{before}
 use Rattle.valuecheck.proofs.array_run.Statement.{statement}
 use Rattle.valuecheck.proofs.array_run.Tie as tie

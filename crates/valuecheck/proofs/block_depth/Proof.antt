@@ -6,7 +6,7 @@ use mathlib.Core.Path.{_∙_, _≡_, sym}
 use native.Mathlib.Omega.{arith}
 use Rattle.meaning.specs.Case.{memberWord}
 use Rattle.meaning.specs.Check.{depth}
-use Rattle.meaning.specs.Laws.Tests.{Filled, greatest-more}
+use Rattle.laws.specs.Tests.{Filled, greatest-more}
 use Rattle.meaning.specs.Tests.{greatest}
 use Rattle.meaning.specs.Text.{before}
 use Rattle.valuecheck.specs.Blocks.{Lower}

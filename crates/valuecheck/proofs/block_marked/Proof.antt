@@ -7,7 +7,7 @@ use mathlib.Core.List.{List}
 use mathlib.Core.Path.{_∙_, _≡_, ap, sym}
 use native.Mathlib.Omega.{arith}
 use Rattle.meaning.specs.Case.{memberWord}
-use Rattle.meaning.specs.Laws.Tests.{all-end, all-more, all-stop}
+use Rattle.laws.specs.Tests.{all-end, all-more, all-stop}
 use Rattle.meaning.specs.Tests.{allBelow}
 use Rattle.meaning.specs.Text.{before}
 use Rattle.valuecheck.proofs.block_marked.Statement.{statement}

@@ -7,11 +7,11 @@ use mathlib.Core.List.{List}
 use mathlib.Core.Path.{_∙_, _≡_, refl, sym}
 use native.Mathlib.Omega.{arith}
 use Rattle.meaning.specs.Case.{memberWord, nothing}
-use Rattle.meaning.specs.Laws.Tests.{all-more, all-stop, greatest-more, yes}
+use Rattle.laws.specs.Tests.{all-more, all-stop, greatest-more, yes}
 use Rattle.meaning.specs.Tests.{allBelow, greatest}
 use Rattle.meaning.specs.Text.{before}
 use Rattle.valuecheck.specs.Blocks.{topOf}
-use Rattle.meaning.specs.Laws.Tests.{no}
+use Rattle.laws.specs.Tests.{no}
 use Rattle.valuecheck.proofs.block_top.Statement.{statement}
 use Rattle.valuecheck.proofs.block_top.Tie as tie
 

@@ -9,8 +9,8 @@ use native.Mathlib.Numerals.{add-one}
 use native.Mathlib.Omega.{arith}
 use Rattle.meaning.specs.Case.{values}
 use Rattle.meaning.specs.Check.{depth, depthRule, partCount, partValue, valueRule}
-use Rattle.meaning.specs.Laws.Tests.{Filled, all-at, all-end, all-more, all-stop, filled-none}
-use Rattle.meaning.specs.Laws.Values.{depth-is, runs}
+use Rattle.laws.specs.Tests.{Filled, all-at, all-end, all-more, all-stop, filled-none}
+use Rattle.laws.specs.Values.{depth-is, runs}
 use Rattle.meaning.specs.Tests.{allBelow, greatest}
 use Rattle.meaning.specs.Text.{before}
 use Rattle.stringcheck.specs.Mosts.{value-most}

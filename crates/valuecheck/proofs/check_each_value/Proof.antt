@@ -5,7 +5,7 @@ use mathlib.Core.Path.{_≡_}
 use native.Mathlib.Omega.{arith}
 use Rattle.meaning.specs.Case.{members, values}
 use Rattle.meaning.specs.Check.{valueRule}
-use Rattle.meaning.specs.Laws.Tests.{Filled, all-end, record-no, record-yes}
+use Rattle.laws.specs.Tests.{Filled, all-end, record-no, record-yes}
 use Rattle.meaning.specs.Tests.{allBelow}
 use Rattle.meaning.specs.Text.{before}
 use Rattle.valuecheck.specs.Blocks.{topOf}

@@ -2,7 +2,7 @@ use borrow.Author.Needs.{needs}
 use borrow.Author.Tests.{not-false, not-true}
 use mathlib.Core.Path.{_∙_, sym}
 use Rattle.meaning.specs.Check.{valueRules}
-use Rattle.meaning.specs.Laws.Tests.{after, skip, stop}
+use Rattle.laws.specs.Tests.{after, skip, stop}
 use Rattle.meaning.specs.Text.{before}
 use Rattle.valuecheck.proofs.check_values.Statement.{statement}
 use Rattle.valuecheck.proofs.check_values.Tie as tie

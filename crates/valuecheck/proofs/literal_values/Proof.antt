@@ -8,8 +8,8 @@ use mathlib.Core.Path.{_∙_, _≡_, sym}
 use native.Mathlib.Omega.{arith}
 use Rattle.meaning.specs.Case.{valueWord, values}
 use Rattle.meaning.specs.Check.{literal, partCount, partValue, valueRule}
-use Rattle.meaning.specs.Laws.Tests.{Filled, all-at, all-same, both, filled-none}
-use Rattle.meaning.specs.Laws.Values.{literal-is, runs}
+use Rattle.laws.specs.Tests.{Filled, all-at, all-same, both, filled-none}
+use Rattle.laws.specs.Values.{literal-is, runs}
 use Rattle.meaning.specs.Tests.{_and_, _or_, allBelow}
 use Rattle.meaning.specs.Text.{before}
 use Rattle.stringcheck.specs.Mosts.{value-most}

@@ -6,7 +6,7 @@ use mathlib.Core.List.{List}
 use mathlib.Core.Path.{_∙_, _≡_}
 use Rattle.meaning.specs.Case.{memberWord}
 use Rattle.meaning.specs.Check.{memberRule}
-use Rattle.meaning.specs.Laws.Tests.{both}
+use Rattle.laws.specs.Tests.{both}
 use Rattle.meaning.specs.Tests.{_and_, _or_}
 use Rattle.meaning.specs.Text.{before}
 use Rattle.meaning.specs.Case.{strings, values}

@@ -8,7 +8,7 @@ use mathlib.Core.Path.{_≡_, refl, sym}
 use native.Mathlib.Omega.{arith}
 use Rattle.meaning.specs.Case.{memberWord}
 use Rattle.meaning.specs.Check.{objectItem}
-use Rattle.meaning.specs.Laws.Tests.{after, pass, skip, stop}
+use Rattle.laws.specs.Tests.{after, pass, skip, stop}
 use Rattle.meaning.specs.Tests.{_and_, rises}
 use Rattle.meaning.specs.Text.{before}
 use Rattle.meaning.specs.Case.{strings}

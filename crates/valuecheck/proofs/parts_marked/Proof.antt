@@ -8,7 +8,7 @@ use mathlib.Core.Path.{_∙_, _≡_, ap, refl, sym}
 use native.Mathlib.Omega.{arith}
 use Rattle.meaning.specs.Case.{memberWord}
 use Rattle.meaning.specs.Check.{held, partCount, partValue}
-use Rattle.meaning.specs.Laws.Tests.{all-more, all-stop, pass, shorter, skip}
+use Rattle.laws.specs.Tests.{all-more, all-stop, pass, shorter, skip}
 use Rattle.meaning.specs.Tests.{allBelow}
 use Rattle.meaning.specs.Text.{before}
 use Rattle.valuecheck.proofs.Parts.{Holds, aligned, block-fits, block-in, block-low, holds, marks-block, no-parts}

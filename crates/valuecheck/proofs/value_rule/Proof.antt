@@ -6,7 +6,7 @@ use mathlib.Core.List.{List, [], _∷_}
 use mathlib.Core.Path.{_∙_, _≡_, ap, refl, sym}
 use Rattle.meaning.specs.Case.{members, strings, valueWord}
 use Rattle.meaning.specs.Check.{arrayItem, arrayRule, boolRule, entityValueRule, inTable, intRule, noKind, nullRule, objectItem, objectRule, textRule, valueRule}
-use Rattle.meaning.specs.Laws.Tests.{both}
+use Rattle.laws.specs.Tests.{both}
 use Rattle.meaning.specs.Tests.{_and_, allBelow, pick}
 use Rattle.meaning.specs.Text.{before}
 use Rattle.valuecheck.proofs.value_rule.Statement.{statement}

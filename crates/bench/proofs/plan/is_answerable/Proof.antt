@@ -1,5 +1,5 @@
 use borrow.Author.Needs.{needs}
-use Rattle.meaning.specs.Laws.Checked.{checked-bodies}
+use Rattle.laws.specs.Checked.{checked-bodies}
 use Rattle.bench.proofs.Last.{condition-last, aggregate-last}
 use Rattle.bench.proofs.plan.is_answerable.Statement.{statement}
 use Rattle.bench.proofs.plan.is_answerable.Tie as tie

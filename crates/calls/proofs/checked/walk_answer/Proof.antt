@@ -1,5 +1,5 @@
 use borrow.Author.Needs.{needs}
-use Rattle.meaning.specs.Laws.Checked.{checked-bodies}
+use Rattle.laws.specs.Checked.{checked-bodies}
 use Rattle.calls.proofs.Asked.{answer-number, answer-verdict}
 use Rattle.calls.proofs.checked.walk_answer.Statement.{statement}
 use Rattle.calls.proofs.checked.walk_answer.Tie as tie

@@ -9,7 +9,7 @@ use Rattle.calls.proofs.opening.refused.Reads as refused-reads
 use Rattle.calls.proofs.start.start_env.Reads as start-env-reads
 use Rattle.stringcheck.proofs.point_count.Reads as point-count-reads
 use Rattle.tables.proofs.node_at.Reads as node-at-reads
-use Rattle.meaning.specs.Laws.Checked.{checked-bodies}
+use Rattle.laws.specs.Checked.{checked-bodies}
 use Rattle.calls.proofs.Openings.{few-vars, many-cells, no-such-point, no-such-node, bad-start, bad-limits, opened}
 
 start-env-requires : tie.Need-start-env-requires

@@ -1,4 +1,4 @@
-use Rattle.meaning.specs.Laws.Checked.{checked-bodies}
+use Rattle.laws.specs.Checked.{checked-bodies}
 use Rattle.calls.proofs.Starts.{int-is, no-int}
 use borrow.Author.Needs.{needs}
 use Rattle.calls.proofs.start.is_no_int.Statement.{statement}

@@ -1,5 +1,5 @@
 use borrow.Author.Needs.{needs}
-use Rattle.meaning.specs.Laws.Checked.{checked-bodies}
+use Rattle.laws.specs.Checked.{checked-bodies}
 use Rattle.calls.proofs.Starts.{Reading, start-wrong-length, reading-none, reading-more, reading-bad, reading-all}
 use Rattle.calls.proofs.start.start_env.Statement.{statement}
 use Rattle.calls.proofs.start.start_env.Tie as tie

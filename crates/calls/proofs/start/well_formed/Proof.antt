@@ -1,4 +1,4 @@
-use Rattle.meaning.specs.Laws.Checked.{checked-bodies}
+use Rattle.laws.specs.Checked.{checked-bodies}
 use Rattle.calls.proofs.Starts.{formed-unbound, formed-int, formed-value, formed-no-value, formed-part, formed-other}
 use borrow.Author.Needs.{needs}
 use Rattle.calls.proofs.start.well_formed.Statement.{statement}

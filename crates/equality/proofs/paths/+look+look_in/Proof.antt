@@ -1,7 +1,7 @@
 use Prim.Native.Nat.{_+_, _*_, _-_}
 use mathlib.Core.Path.{_≡_}
 use lib.ListN.{length}
-use Rattle.meaning.specs.Laws.Checked.{checked-bodies}
+use Rattle.laws.specs.Checked.{checked-bodies}
 use Rattle.equality.proofs.Searching.{Seeking, sought-end, sought-known, sought-same, sought-none, ready, look-in-falls, look-falls, seeking-start, seeking-skip, seeking-found, seeking-nothing, seeking-over}
 use borrow.Author.Needs.{needs}
 use Prim.Native.Nat.{ℕ, _<_}

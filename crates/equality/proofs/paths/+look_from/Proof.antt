@@ -1,5 +1,5 @@
 use Prim.Native.Nat.{_-_}
-use Rattle.meaning.specs.Laws.Checked.{checked-bodies}
+use Rattle.laws.specs.Checked.{checked-bodies}
 use Rattle.equality.proofs.Searching.{from-end, from-string, from-found, from-none}
 use borrow.Author.Needs.{needs}
 use Prim.Native.Nat.{ℕ, _<_}

@@ -1,5 +1,5 @@
 use borrow.Author.Needs.{needs}
-use Rattle.meaning.specs.Laws.Checked.{checked-bodies}
+use Rattle.laws.specs.Checked.{checked-bodies}
 use Rattle.equality.proofs.Reach.{field-is}
 use Rattle.equality.proofs.paths.field_at.Statement.{statement}
 use Rattle.equality.proofs.paths.field_at.Tie as tie

@@ -1,5 +1,5 @@
 use borrow.Author.Needs.{needs}
-use Rattle.meaning.specs.Laws.Checked.{checked-bodies}
+use Rattle.laws.specs.Checked.{checked-bodies}
 use Rattle.equality.proofs.Attributes.{root-bare, root-plain, root-entity}
 use Rattle.equality.proofs.paths.from_value.Statement.{statement}
 use Rattle.equality.proofs.paths.from_value.Tie as tie

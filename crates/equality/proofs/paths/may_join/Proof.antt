@@ -1,6 +1,6 @@
 use Rattle.equality.proofs.Searching.{last-string, string-behind}
-use Rattle.meaning.specs.Laws.Checked.{checked-bodies, checked-strings}
-use Rattle.meaning.specs.Laws.Bodies.{long}
+use Rattle.laws.specs.Checked.{checked-bodies, checked-strings}
+use Rattle.laws.specs.Bodies.{long}
 use borrow.Author.Needs.{needs}
 use Rattle.equality.proofs.paths.may_join.Statement.{statement}
 use Rattle.equality.proofs.paths.may_join.Tie as tie

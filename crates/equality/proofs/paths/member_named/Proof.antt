@@ -1,6 +1,6 @@
 use borrow.Author.Needs.{needs}
-use Rattle.meaning.specs.Laws.Bodies.{long}
-use Rattle.meaning.specs.Laws.Checked.{checked-bodies}
+use Rattle.laws.specs.Bodies.{long}
+use Rattle.laws.specs.Checked.{checked-bodies}
 use Rattle.equality.proofs.Members.{Among, no-object, among-all, among-none, lower-half, upper-half, middle-found}
 use Rattle.equality.proofs.paths.member_named.Statement.{statement}
 use Rattle.equality.proofs.paths.member_named.Tie as tie

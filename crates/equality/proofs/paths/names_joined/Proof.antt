@@ -1,5 +1,5 @@
 use Rattle.equality.proofs.Dotted.{JoinsFrom, joins-inside, joins-start, joins-end, joins-on, joined-so-many, joined-none}
-use Rattle.meaning.specs.Laws.Checked.{checked-bodies, checked-strings}
+use Rattle.laws.specs.Checked.{checked-bodies, checked-strings}
 use Prim.Native.Nat.{_-_}
 use Rattle.meaning.specs.Case.{text}
 use borrow.Author.Needs.{needs}

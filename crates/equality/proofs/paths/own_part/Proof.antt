@@ -1,5 +1,5 @@
 use borrow.Author.Needs.{needs}
-use Rattle.meaning.specs.Laws.Checked.{checked-bodies, checked-strings}
+use Rattle.laws.specs.Checked.{checked-bodies, checked-strings}
 use Rattle.equality.proofs.Attributes.{own-none, own-id, own-type, own-neither}
 use Rattle.equality.proofs.paths.own_part.Statement.{statement}
 use Rattle.equality.proofs.paths.own_part.Tie as tie

@@ -1,5 +1,5 @@
 use borrow.Author.Needs.{needs}
-use Rattle.meaning.specs.Laws.Checked.{checked-bodies}
+use Rattle.laws.specs.Checked.{checked-bodies}
 use Prim.Native.Nat.{_-_}
 use Rattle.equality.proofs.Reach.{DescendFrom, descend-start, name-found, name-none, names-end}
 use Rattle.equality.proofs.paths.path_descend.Statement.{statement}

@@ -1,4 +1,4 @@
-use Rattle.meaning.specs.Laws.Checked.{checked-bodies}
+use Rattle.laws.specs.Checked.{checked-bodies}
 use Rattle.equality.proofs.Searching.{one-name, looked-up}
 use borrow.Author.Needs.{needs}
 use Rattle.equality.proofs.paths.path_lookup.Statement.{statement}

@@ -1,4 +1,4 @@
-use Rattle.meaning.specs.Laws.Checked.{checked-bodies}
+use Rattle.laws.specs.Checked.{checked-bodies}
 use Rattle.equality.proofs.Reach.{event-action, event-kind, event-runs}
 use Rattle.equality.proofs.paths.same_event.Statement.{statement}
 use Rattle.equality.proofs.paths.same_event.Tie as tie

@@ -1,5 +1,5 @@
 use borrow.Author.Needs.{needs}
-use Rattle.meaning.specs.Laws.Checked.{checked-bodies}
+use Rattle.laws.specs.Checked.{checked-bodies}
 use Rattle.equality.proofs.Attributes.{supplied-none, supplied-found}
 use Rattle.equality.proofs.paths.supplied.Statement.{statement}
 use Rattle.equality.proofs.paths.supplied.Tie as tie

@@ -1,5 +1,5 @@
 use Prim.Native.Nat.{_-_}
-use Rattle.meaning.specs.Laws.Checked.{checked-bodies}
+use Rattle.laws.specs.Checked.{checked-bodies}
 use Rattle.equality.proofs.Alike.{go-end, go-falls}
 use Rattle.equality.proofs.Joining.{Deep, deep-in, deep-said, deep-met, deep-start, deep-name, deep-no, deep-more, deep-end}
 use borrow.Author.Needs.{needs}

@@ -1,5 +1,5 @@
 use Prim.Native.Nat.{_-_}
-use Rattle.meaning.specs.Laws.Checked.{checked-bodies}
+use Rattle.laws.specs.Checked.{checked-bodies}
 use Rattle.equality.proofs.Alike.{Looking, look-said, look-start, look-whole, look-spent, look-falls, look-name, look-same, look-differ, look-no, look-more, look-end}
 use borrow.Author.Needs.{needs}
 use Prim.Native.Nat.{ℕ, _<_}

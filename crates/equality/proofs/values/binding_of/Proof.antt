@@ -1,5 +1,5 @@
 use borrow.Author.Needs.{needs}
-use Rattle.meaning.specs.Laws.Checked.{checked-bodies}
+use Rattle.laws.specs.Checked.{checked-bodies}
 use Rattle.equality.proofs.Cells.{bound-int, bound-other}
 use Rattle.equality.proofs.values.binding_of.Statement.{statement}
 use Rattle.equality.proofs.values.binding_of.Tie as tie

@@ -1,4 +1,4 @@
-use Rattle.meaning.specs.Laws.Checked.{checked-bodies}
+use Rattle.laws.specs.Checked.{checked-bodies}
 use Rattle.equality.proofs.Alike.{glance-open, glance-number, glance-unlike, glance-same, glance-int, glance-text}
 use borrow.Author.Needs.{needs}
 use Rattle.equality.proofs.values.glance.Statement.{statement}

@@ -1,4 +1,4 @@
-use Rattle.meaning.specs.Laws.Checked.{checked-bodies}
+use Rattle.laws.specs.Checked.{checked-bodies}
 use Rattle.equality.proofs.Alike.{leaf-null, leaf-int, leaf-decimal, leaf-entity, leaf-other}
 use borrow.Author.Needs.{needs}
 use Rattle.equality.proofs.values.leaf_eq.Statement.{statement}

@@ -1,5 +1,5 @@
 use borrow.Author.Needs.{needs}
-use Rattle.meaning.specs.Laws.Checked.{checked-bodies}
+use Rattle.laws.specs.Checked.{checked-bodies}
 use Rattle.equality.proofs.Cells.{settled-int, settled-text, settled-value, settled-none, settled-plain}
 use Rattle.equality.proofs.values.settled.Statement.{statement}
 use Rattle.equality.proofs.values.settled.Tie as tie

@@ -1,5 +1,5 @@
 use borrow.Author.Needs.{needs}
-use Rattle.meaning.specs.Laws.Checked.{checked-bodies, checked-strings}
+use Rattle.laws.specs.Checked.{checked-bodies, checked-strings}
 use Rattle.leaf_table.proofs.replay.reading.Statement.{statement}
 use Rattle.leaf_table.proofs.replay.reading.Tie as tie
 

@@ -1,6 +1,6 @@
 use borrow.Author.Needs.{needs}
-use Rattle.meaning.specs.Laws.Bodies.{long}
-use Rattle.meaning.specs.Laws.Checked.{checked-bodies}
+use Rattle.laws.specs.Bodies.{long}
+use Rattle.laws.specs.Checked.{checked-bodies}
 use Rattle.leaf_table.proofs.replay.replay.Statement.{statement}
 use Rattle.leaf_table.proofs.replay.replay.Tie as tie
 

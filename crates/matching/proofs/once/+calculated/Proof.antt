@@ -1,6 +1,6 @@
 use Rattle.matching.proofs.Leaves.{stands}
 use Rattle.matching.proofs.Free.{left-falls, right-falls, tells-open, tells-leaf, tells-none, tells-both, tells-sides}
-use Rattle.meaning.specs.Laws.Checked.{checked-bodies}
+use Rattle.laws.specs.Checked.{checked-bodies}
 use borrow.Author.Needs.{needs}
 use borrow.Author.Tests.{not-true}
 use Prim.Native.Nat.{ℕ, _<_}

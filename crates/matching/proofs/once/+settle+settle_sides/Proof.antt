@@ -1,6 +1,6 @@
 use Rattle.matching.proofs.Leaves.{stands}
 use Rattle.matching.proofs.Free.{sides-fall, left-below, right-below, settles-open, open-after, settles-marked, settles-leaf, settles-none, settles-both, settles-sides, settles-kept}
-use Rattle.meaning.specs.Laws.Checked.{checked-bodies}
+use Rattle.laws.specs.Checked.{checked-bodies}
 use borrow.Author.Needs.{needs}
 use borrow.Author.Tests.{not-true}
 use Prim.Native.Nat.{ℕ, _+_, _*_, _<_, max}

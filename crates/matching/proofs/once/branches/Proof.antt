@@ -1,4 +1,4 @@
-use Rattle.meaning.specs.Laws.Checked.{checked-bodies}
+use Rattle.laws.specs.Checked.{checked-bodies}
 use borrow.Author.Needs.{needs}
 use Rattle.matching.proofs.once.branches.Statement.{statement}
 use Rattle.matching.proofs.once.branches.Tie as tie

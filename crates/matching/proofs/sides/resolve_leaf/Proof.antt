@@ -1,5 +1,5 @@
 use Rattle.matching.proofs.Leaves.{stands, leaf-at}
-use Rattle.meaning.specs.Laws.Checked.{checked-bodies}
+use Rattle.laws.specs.Checked.{checked-bodies}
 use borrow.Author.Needs.{needs}
 use Rattle.matching.proofs.sides.resolve_leaf.Statement.{statement}
 use Rattle.matching.proofs.sides.resolve_leaf.Tie as tie

@@ -1,5 +1,5 @@
 use Rattle.matching.proofs.Leaves.{side-bound, side-unbound, side-other}
-use Rattle.meaning.specs.Laws.Checked.{checked-bodies}
+use Rattle.laws.specs.Checked.{checked-bodies}
 use borrow.Author.Needs.{needs}
 use Rattle.matching.proofs.sides.unbound_variable.Statement.{statement}
 use Rattle.matching.proofs.sides.unbound_variable.Tie as tie

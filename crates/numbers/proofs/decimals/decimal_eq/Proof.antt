@@ -1,5 +1,5 @@
 use borrow.Author.Needs.{needs}
-use Rattle.meaning.specs.Laws.Checked.{checked-bodies, checked-strings}
+use Rattle.laws.specs.Checked.{checked-bodies, checked-strings}
 use Rattle.numbers.proofs.Scaling.{decimals-same, decimals-both, decimals-left, decimals-text}
 use Rattle.numbers.proofs.decimals.decimal_eq.Statement.{statement}
 use Rattle.numbers.proofs.decimals.decimal_eq.Tie as tie

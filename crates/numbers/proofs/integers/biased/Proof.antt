@@ -1,6 +1,6 @@
 use borrow.Author.Needs.{needs}
 use mathlib.Core.Path.{sym}
-use Rattle.meaning.specs.Laws.Number.{bias-low, bias-high}
+use Rattle.laws.specs.Number.{bias-low, bias-high}
 use Rattle.numbers.proofs.integers.biased.Statement.{statement}
 use Rattle.numbers.proofs.integers.biased.Tie as tie
 

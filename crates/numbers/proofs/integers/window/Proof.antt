@@ -1,5 +1,5 @@
 use borrow.Author.Needs.{needs}
-use Rattle.meaning.specs.Laws.Window.{window-later, window-inside, window-old}
+use Rattle.laws.specs.Window.{window-later, window-inside, window-old}
 use Rattle.numbers.proofs.integers.window.Statement.{statement}
 use Rattle.numbers.proofs.integers.window.Tie as tie
 

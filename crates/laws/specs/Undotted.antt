@@ -8,31 +8,31 @@ use native.Mathlib.Omega.{arith}
 use lib.Dec.{eqb}
 use lib.ListN.{length, take, drop}
 use borrow.Author.Tests.{ne-eqb, ltb-true, leb-true}
 use Rattle.meaning.specs.declared.Node.{Node}
 use Rattle.meaning.specs.declared.Node.the-variants.{And, Or, Not, Formerly, Previous, Since, Predicate, Comparison, Exists, Tp, Literal, Context, Scope, Variable, Wildcard, Aggregate, Arithmetic, Sum, Count, Broken}
 use Rattle.meaning.specs.declared.NodeNo.{NodeNo}
 use Rattle.meaning.specs.Tests.{_and_, _or_, choose, orElse, allBelow}
 use Rattle.meaning.specs.Text.{free}
 use Rattle.meaning.specs.Walk.{give}
 use Rattle.meaning.specs.Case.{Case, Part, Attributes, nothing, places, strings, values, points, valueWord, memberWord, pointWord, list, text, partAt, valueAt, entityAt, pointAt, nodeAt, caseOf}
 use Rattle.meaning.specs.Check.{check, Checked, bodies, mosts, stringRules, valueRules, entityRule, entityItem, entityRun, pointRule, pointRules, nodeRules, partCount, partValue}
 use Rattle.meaning.specs.Undotted.{plainNames, plain, plainObject, plainEntity, plainItem, plainRun, plainPoint, plainPoints, check01, Undotted}
 use Rattle.meaning.specs.Equal.{Bound}
 use Rattle.meaning.specs.Look.{named, members, descend, dotted, lookup, boundAt, attributesOf, ownPart, supplied, entityOf, attribute, fromRoot, rootOf, scopeAt, contextAt}
 use Rattle.meaning.specs.Meaning.{Meaning, resolved, names, meaningOf, meaning}
 use Rattle.meaning.specs.Calls.{Call, checkCall, askCall, rowsCall}
 use Rattle.meaning.specs.Carried.{carriedCall}
 use Rattle.meaning.specs.Readings.{standing}
 use Rattle.meaning.specs.Calls01.{contextAt01, supplied01, attribute01, fromRoot01, scopeAt01, meaningOf01, meaning01, first, checkCall01, askCall01, rowsCall01, carriedCall01}
-use Rattle.meaning.specs.Laws.Tests.{both, pass, skip, unbroken, all-at, throughout-is}
-use Rattle.meaning.specs.Laws.Lists.{Every, every-map, every-of, every-place}
-use Rattle.meaning.specs.Laws.Text.{not-same}
-use Rattle.meaning.specs.Laws.Values.{runs, holder}
-use Rattle.meaning.specs.Laws.Checked.{rules, checked-values}
-use Rattle.meaning.specs.Laws.Search.{or-none, joined, called, onward, longest, searchBy, search}
-use Rattle.meaning.specs.Laws.Searched.{every-member, item-is, lookup-is, search-is, called-number, names-of, context-path, scope-path}
-use Rattle.meaning.specs.Laws.Asked.{about, fixed, term-same, meaning-same, made-agree}
-use Rattle.meaning.specs.Laws.Readings.{Agree, check-stands, ask-stands, rows-stands, carried-stands, check-agrees, ask-agrees, rows-agree, carried-agrees}
+use Rattle.laws.specs.Tests.{both, pass, skip, unbroken, all-at, throughout-is}
+use Rattle.laws.specs.Lists.{Every, every-map, every-of, every-place}
+use Rattle.laws.specs.Text.{not-same}
+use Rattle.laws.specs.Values.{runs, holder}
+use Rattle.laws.specs.Checked.{rules, checked-values}
+use Rattle.laws.specs.Search.{or-none, joined, called, onward, longest, searchBy, search}
+use Rattle.laws.specs.Searched.{every-member, item-is, lookup-is, search-is, called-number, names-of, context-path, scope-path}
+use Rattle.laws.specs.Asked.{about, fixed, term-same, meaning-same, made-agree}
+use Rattle.laws.specs.Readings.{Agree, check-stands, ask-stands, rows-stands, carried-stands, check-agrees, ask-agrees, rows-agree, carried-agrees}
 
 -- ---- names without a dot: the search takes one name at a time
 

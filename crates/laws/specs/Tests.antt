@@ -10,9 +10,8 @@ use lib.Dec.{ltb}
 use lib.ListN.{length, getD, set}
 use lib.Seq.{getD-set-same, getD-set-other}
 use borrow.Author.Tests.{ltb-true, ltb-false, not-true, not-false}
-use Rattle.meaning.specs.Below.{made}
-use Rattle.meaning.specs.Laws.Below.{made-is}
+use Rattle.laws.specs.Below.{made-is}
 use Rattle.meaning.specs.Tests.{_and_, choose, allBelow, greatest, levels, throughout}
 
 pub both : (a b : Bool) → (a and b) ≡ true → (a ≡ true) × (b ≡ true)
 unfolding _and_

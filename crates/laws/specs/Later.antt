@@ -8,21 +8,21 @@ use lib.Dec.{lit<}
 use lib.ListN.{length, getD, take, drop, length-append, take-append-drop}
 use lib.Seq.{length-take-le, take-append-le}
 use borrow.Author.Tests.{lt-ltb}
 use Rattle.meaning.specs.declared.Node.{Node}
 use Rattle.meaning.specs.declared.Refusal.the-variants.{BadOutput}
 use Rattle.meaning.specs.Walk.{W}
 use Rattle.meaning.specs.Case.{Case, words, size, vars, strings, values, points, nodes, body, bodyWord, stringWord, valueWord, memberWord, pointWord, nodeWord, list, text, valueFrom, nodeFrom, partAt, valueAt, entityAt, pointAt, nodeAt, caseOf}
 use Rattle.meaning.specs.Check.{Checked}
 use Rattle.meaning.specs.Rows.{Row}
 use Rattle.meaning.specs.Meaning.{Meaning, Question}
-use Rattle.meaning.specs.Calls.{numberOf, Call, Said, gives, refuses, wellFormed, startRow, startOr, isCondition, isAggregate, answerable, against, walkOf, unlessAgainst, asking, workspaceAfter, result, verdict, number, saying, askCall, filled, projected, outputFits, rowsGiven, rowsCall}
+use Rattle.meaning.specs.Calls.{numberOf, Call, Said, gives, refuses, wellFormed, startRow, startOr, isCondition, answerable, against, walkOf, unlessAgainst, asking, workspaceAfter, result, askCall, filled, projected, outputFits, rowsGiven, rowsCall}
 use Rattle.meaning.specs.Demands.{SameTables, bytesUpTo, SameUpTo, SameAnswers, ofFile}
-use Rattle.meaning.specs.Laws.Words.{words-first}
-use Rattle.meaning.specs.Laws.Bodies.{body-length}
-use Rattle.meaning.specs.Laws.Checked.{checked-bodies}
-use Rattle.meaning.specs.Laws.Meaning.{later-points}
-use Rattle.meaning.specs.Laws.Carried.{shown-same}
+use Rattle.laws.specs.Words.{words-first}
+use Rattle.laws.specs.Bodies.{body-length}
+use Rattle.laws.specs.Checked.{checked-bodies}
+use Rattle.laws.specs.Meaning.{later-points}
+use Rattle.laws.specs.Carried.{shown-same}
 use Rattle.meaning.specs.Carried.{lookOf, looksBack, shownAt, Listed, listed, carriedCall}
 
 -- two files that a call about point i cannot tell apart
 record Alike (s t : List ℕ) (i : ℕ) : Type 0 where

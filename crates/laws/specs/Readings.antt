@@ -6,19 +6,19 @@ use mathlib.Core.Option.{Option, none, some}
 use Prim.Native.Nat.{ℕ, suc, _-_, _<_}
 use lib.Dec.{ltb}
 use borrow.Author.Tests.{ltb-true}
 use Rattle.meaning.specs.declared.Limits.{Limits}
 use Rattle.meaning.specs.declared.Node.{Node}
 use Rattle.meaning.specs.declared.Refusal.the-variants.{NoSuchPoint}
 use Rattle.meaning.specs.Tests.{choose}
 use Rattle.meaning.specs.Walk.{started, Outcome, outcome}
 use Rattle.meaning.specs.Case.{Case, Point, vars, points, pointAt, nodeAt, caseOf}
 use Rattle.meaning.specs.Number.{seconds, inWindow}
 use Rattle.meaning.specs.Rows.{Row}
 use Rattle.meaning.specs.Meaning.{Meaning, earlier, meaning, question, firsts}
 use Rattle.meaning.specs.Calls.{Call, Said, startRow, startOr, isCondition, answerable, against, walkOf, told, unlessRefused, unlessAgainst, asking, checkCall, askCall, rowsGiven, rowsCall}
 use Rattle.meaning.specs.Carried.{Look, formerly, previous, since, lookOf, looksBack, down, before, bodyTurn, leftFrom, anchorTurn, askedAt, seenFrom, turnAt, scanOf, shown, shownAt, carriedCall}
 use Rattle.meaning.specs.Readings.{Reading, standing, checkBy, askedBy, turnBy, scanBy, shownBy, unlessAgainstBy, askingBy, askBy, rowsBy, carriedBy}
-use Rattle.meaning.specs.Laws.Asked.{about, fixed}
+use Rattle.laws.specs.Asked.{about, fixed}
 
 -- ---- the calls by the reading that stands
 

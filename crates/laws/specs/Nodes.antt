@@ -6,14 +6,14 @@ use Prim.Native.Nat.{ℕ, zero, suc, _+_, _*_, _<_, _≤_}
 use native.Mathlib.Omega.{arith}
 use lib.Dec.{ltb, lit<}
 use borrow.Author.Tests.{ltb-true, ltb-false}
 use Rattle.meaning.specs.declared.NodeNo.{NodeNo}
 use Rattle.meaning.specs.declared.Node.{Node}
 use Rattle.meaning.specs.declared.Node.the-variants.{And, Or, Not, Formerly, Previous, Since, Predicate, Comparison, Exists, Tp, Literal, Context, Scope, Variable, Wildcard, Aggregate, Arithmetic, Sum, Count, Broken}
-use Rattle.meaning.specs.Tests.{_and_, choose, pick, allBelow, greatest}
+use Rattle.meaning.specs.Tests.{choose, pick, allBelow, greatest}
 use Rattle.meaning.specs.Case.{nodes, nodeWord, list, nodeAt, nodeFrom, under, arity, child}
 use Rattle.meaning.specs.Check.{bodies, childIn, argumentRule, argumentRun, ruleOf, nodeRule, height}
-use Rattle.meaning.specs.Laws.Tests.{both, all-at, levels-is}
-use Rattle.meaning.specs.Laws.Bodies.{wholes, body-beyond}
+use Rattle.laws.specs.Tests.{both, all-at, levels-is}
+use Rattle.laws.specs.Bodies.{wholes, body-beyond}
 
 module _ (s : List ℕ) where
   -- of a child's test

@@ -8,28 +8,25 @@ use native.Mathlib.Omega.{arith}
 use lib.Dec.{ltb, leb}
 use lib.ListN.{length, drop}
 use borrow.Author.Tests.{ltb-true, ltb-false}
-use lib.IntN.{ℤ}
 use Rattle.meaning.specs.declared.Limits.{Limits}
 use Rattle.meaning.specs.declared.Interval.{Interval}
-use Rattle.meaning.specs.declared.Refusal.{Refusal}
 use Rattle.meaning.specs.declared.Refusal.the-variants.{ListTooShort}
-use Rattle.meaning.specs.declared.Meter.{Meter}
 use Rattle.meaning.specs.declared.Node.{Node}
 use Rattle.meaning.specs.declared.Node.the-variants.{And, Or, Not, Formerly, Previous, Since, Predicate, Comparison, Exists, Tp, Literal, Context, Scope, Variable, Wildcard, Aggregate, Arithmetic, Sum, Count, Broken}
 use Rattle.meaning.specs.Tests.{_and_, _or_, choose}
 use Rattle.meaning.specs.Walk.{W, give, visit, _>>=_, started, Outcome, answered, refused, outcome}
 use Rattle.meaning.specs.Case.{Case, Point, nodeAt, pointAt, caseOf}
 use Rattle.meaning.specs.Check.{Checked}
 use Rattle.meaning.specs.Number.{seconds, inWindow}
 use Rattle.meaning.specs.Rows.{Row}
 use Rattle.meaning.specs.Meaning.{Past, Question, Meaning, meaning, meaningOf, condition, earlier, firsts, question, ifYes, unlessYes, ifInside, inside, time, downward, every, before, isThere, previously, formerlyVerdict, sinceVerdict}
 use Rattle.meaning.specs.Calls.{numberOf, Said, gives, refuses}
-use Rattle.meaning.specs.Laws.Walk.{Told, tells}
-use Rattle.meaning.specs.Laws.Meaning.{pasts, meaning-is, later-points, firsts-same}
+use Rattle.laws.specs.Walk.{Told, tells}
+use Rattle.laws.specs.Meaning.{pasts, meaning-is, later-points, firsts-same}
 use Rattle.meaning.specs.Carried.{Look, formerly, previous, since, lookOf, End, at, nowhere, stopped, Scan, ending, Turn, passes, carries, fails, halts, met, down, bodyTurn, leftTurn, leftFrom, anchorTurn, askedAt, seenFrom, turnAt, scanOf, carriedBy, Shown, shown, shownAt, Carried, Listed, listed}
 use Rattle.meaning.specs.Carried.{before as beforeScan}
 use Rattle.meaning.specs.Single.{anyBelow, allFrom, firstNot, justBefore, holdsAt, inView, rightOf, leftOf, failsOf, verdictOf, anchorsBelow, Greatest, Shows, Made}
-use Rattle.meaning.specs.Laws.Tests.{and-true}
+use Rattle.laws.specs.Tests.{and-true}
 
 -- ---- answers without walks
 

@@ -8,11 +8,11 @@ use lib.Dec.{lit<}
 use lib.ListN.{length, getD, take, drop, length-drop}
 use lib.Seq.{length-take-le, take-take, drop-drop}
 use borrow.Author.Tests.{leb-true, eqb-true}
-use Rattle.meaning.specs.Tests.{_and_, allBelow, pick}
+use Rattle.meaning.specs.Tests.{allBelow, pick}
 use Rattle.meaning.specs.Case.{words, contents, offset, size, body, bodyWord, stringWord, text}
 use Rattle.meaning.specs.Check.{recordBytes, startOf, bodyRule, bodies, placeRule}
-use Rattle.meaning.specs.Laws.Tests.{both, all-at}
-use Rattle.meaning.specs.Laws.Words.{words-part, words-beyond}
+use Rattle.laws.specs.Tests.{both, all-at}
+use Rattle.laws.specs.Words.{words-part, words-beyond}
 
 -- a part of a part
 pub cut : (l : List ℕ) (n k m : ℕ) → k + n ≤ m → take n (drop k (take m l)) ≡ take n (drop k l)

@@ -9,15 +9,15 @@ use lib.Dec.{eqb}
 use lib.ListN.{length, length-append, getD, take, drop, take-append-drop, length-drop}
 use lib.Seq.{take-take, take-length, length-take-le}
 use borrow.Author.Tests.{eqb-true, eqb-false, not-true}
 use Rattle.meaning.specs.Below.{upto, made}
 use Rattle.meaning.specs.Tests.{onlyIf, orElse}
 use Rattle.meaning.specs.Text.{before, free}
 use Rattle.meaning.specs.Case.{Case, Part}
 use Rattle.meaning.specs.Equal.{sameList}
 use Rattle.meaning.specs.Look.{members, Entries, dotted, writes, written, lastUnder, lookup}
-use Rattle.meaning.specs.Laws.Tests.{both}
-use Rattle.meaning.specs.Laws.Lists.{Every, every-map}
-use Rattle.meaning.specs.Laws.Text.{same-list, not-same, not-equal, same-behind, not-before}
+use Rattle.laws.specs.Tests.{both}
+use Rattle.laws.specs.Lists.{Every, every-map}
+use Rattle.laws.specs.Text.{same-list, not-same, not-equal, same-behind, not-before}
 
 -- names joined by dots
 unfoldable pub joined : Case → List ℕ → List ℕ

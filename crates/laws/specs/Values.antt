@@ -6,14 +6,14 @@ use Prim.Native.Nat.{ℕ, zero, suc, _+_, _*_, _<_, _≤_}
 use native.Mathlib.Omega.{arith}
 use lib.Dec.{ltb, leb, eqb, lit<}
 use borrow.Author.Tests.{leb-true, leb-false, ltb-true, ltb-false, le-leb, lt-leb}
 use Rattle.meaning.specs.Tests.{_and_, _or_, choose, within, allBelow, pick, greatest}
 use Rattle.meaning.specs.Case.{Part, Null, values, members, valueWord, memberWord, partAt, valueAt, valueFrom, places, caseOf}
 use Rattle.meaning.specs.Check.{bodies, valueRule, arrayItem, objectItem, partCount, partValue, depth, literal, nullRule, boolRule, intRule, textRule, entityValueRule, arrayRule, objectRule, noKind}
 use Rattle.meaning.specs.Equal.{see, seen, alike, sameParts, sameValue}
-use Rattle.meaning.specs.Laws.Below.{made-is}
-use Rattle.meaning.specs.Laws.Tests.{both, stop, skip, pass, yes, no, all-at, levels-is, throughout-is}
-use Rattle.meaning.specs.Laws.Bodies.{wholes, body-beyond}
-use Rattle.meaning.specs.Laws.Lists.{Every, every-map, every-place}
+use Rattle.laws.specs.Below.{made-is}
+use Rattle.laws.specs.Tests.{both, stop, skip, pass, yes, no, all-at, levels-is, throughout-is}
+use Rattle.laws.specs.Bodies.{wholes, body-beyond}
+use Rattle.laws.specs.Lists.{Every, every-map, every-place}
 
 -- value v, if it holds others, holds a run of members whose values lie below k
 pub record Runs (s : List ℕ) (k v : ℕ) : Type 0 where

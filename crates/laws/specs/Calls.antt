@@ -6,24 +6,23 @@ use mathlib.Core.Option.{none, some}
 use Prim.Native.Nat.{ℕ, _*_, _≤_}
 use lib.Dec.{leb}
 use lib.ListN.{length, drop}
-use lib.IntN.{ℤ}
 use mir.Val.{ofZ}
 use mir.Syntax.{w64}
 use borrow.Author.Tests.{lt-ltb, le-leb, ltb-true, leb-true}
 use Rattle.meaning.specs.declared.Limits.{Limits}
 use Rattle.meaning.specs.declared.Node.{Node}
 use Rattle.meaning.specs.declared.Refusal.{Refusal}
 use Rattle.meaning.specs.declared.Refusal.the-variants.{BadContents, TooLarge, BadStrings, BadValues, BadPoints, BadNodes, NoSuchPoint, NoSuchNode, BadStart, BadLimits, StepsExhausted, RoomExhausted, BadOutput, OutputTooShort, ListTooShort}
 use Rattle.meaning.specs.Tests.{_and_, _or_, choose, pick}
 use Rattle.meaning.specs.Walk.{W, started, spent, most, Outcome, answered, refused, outcome}
 use Rattle.meaning.specs.Case.{Sort, conditions, terms, aggregates, broken, isSort, sortOf, vars, nodeAt}
 use Rattle.meaning.specs.Check.{check, Checked, bodies, mosts, stringRules, valueRules, pointRules, nodeRules}
 use Rattle.meaning.specs.Rows.{Row}
 use Rattle.meaning.specs.Meaning.{Meaning, Question}
 use Rattle.meaning.specs.Calls.{numberOf, Call, Said, gives, refuses, isCondition, isAggregate, answerable, against, walkOf, told, unlessRefused, unlessAgainst, asking, cleared, workspaceAfter, result, saying, askCall, verdict, number, filled, projected, outputFits, rowsGiven, rowsCall}
 use Rattle.meaning.specs.Demands.{Askable, steps-out, room-out, Tells}
-use Rattle.meaning.specs.Laws.Tests.{both, unbroken, either}
-use Rattle.meaning.specs.Laws.Walk.{answers, tells, Told}
+use Rattle.laws.specs.Tests.{both, unbroken, either}
+use Rattle.laws.specs.Walk.{answers, tells, Told}
 
 -- ---- 7 to 10: nothing is against a call exactly where document 01's conditions hold
 

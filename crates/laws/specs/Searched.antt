@@ -8,25 +8,25 @@ use native.Mathlib.Omega.{arith}
 use lib.Dec.{eqb, ltb, lit<}
 use lib.ListN.{length, take, drop}
 use borrow.Author.Tests.{eqb-true, eqb-false, ltb-true, ltb-false}
 use Rattle.meaning.specs.declared.Node.{Node}
 use Rattle.meaning.specs.declared.Node.the-variants.{Context, Scope, Broken}
 use Rattle.meaning.specs.declared.Root.{Root}
 use Rattle.meaning.specs.declared.Run.{Run}
 use Rattle.meaning.specs.Tests.{_and_, orElse, allBelow, pick}
 use Rattle.meaning.specs.Text.{before, free}
 use Rattle.meaning.specs.Case.{Part, places, runOf, strings, values, nodes, valueWord, memberWord, list, text, valueFrom, partAt, valueAt, nodeAt, caseOf}
 use Rattle.meaning.specs.Check.{Checked, stringRules, orderRule, objectItem, objectRule, valueRule, pathRun, ruleOf, nodeRule}
 use Rattle.meaning.specs.Equal.{sameList}
 use Rattle.meaning.specs.Look.{named, members, lookup}
 use Rattle.meaning.specs.Meaning.{names}
-use Rattle.meaning.specs.Laws.Tests.{both, all-at}
-use Rattle.meaning.specs.Laws.Lists.{Every, every-map, every-of, every-place}
-use Rattle.meaning.specs.Laws.Text.{self-same, not-same, before-onward, not-before, rising, numbers-rise}
-use Rattle.meaning.specs.Laws.Below.{made-is}
-use Rattle.meaning.specs.Laws.Bodies.{wholes, body-beyond}
-use Rattle.meaning.specs.Laws.Nodes.{node-beyond}
-use Rattle.meaning.specs.Laws.Checked.{rules, checked-bodies, checked-values, checked-nodes}
-use Rattle.meaning.specs.Laws.Search.{Rising, Plain, joined, called, onward, longest, searchBy, search, written-is-searched}
+use Rattle.laws.specs.Tests.{both, all-at}
+use Rattle.laws.specs.Lists.{Every, every-map, every-of, every-place}
+use Rattle.laws.specs.Text.{self-same, not-same, before-onward, not-before, rising, numbers-rise}
+use Rattle.laws.specs.Below.{made-is}
+use Rattle.laws.specs.Bodies.{wholes, body-beyond}
+use Rattle.laws.specs.Nodes.{node-beyond}
+use Rattle.laws.specs.Checked.{rules, checked-bodies, checked-values, checked-nodes}
+use Rattle.laws.specs.Search.{Rising, Plain, joined, called, onward, longest, searchBy, search, written-is-searched}
 
 module _ {s : List ℕ} (c : Checked s) where
   -- ---- strings rise by their bytes

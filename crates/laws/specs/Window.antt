@@ -9,12 +9,12 @@ use lib.Signed.{ltZ, leZ}
 use mir.Val.{toZ}
 use mir.Syntax.{w64}
 use borrow.Author.Tests.{lt-ltb, le-ltb, le-leb, lt-leb, ltb-true}
 use Rattle.meaning.specs.Tests.{_and_, choose}
 use Rattle.meaning.specs.Number.{clamp, lowest, highest, calculate, inWindow, window}
-use Rattle.meaning.specs.Laws.Number.{bias, bias-minus, bias-lt, bias-le, clamp-fits, toZ-fits}
+use Rattle.laws.specs.Number.{bias, bias-minus, bias-lt, bias-le, clamp-fits, toZ-fits}
 use Rattle.meaning.specs.declared.ArithOp.the-variants.{Sub}
 use Rattle.meaning.specs.declared.Window.{Window}
 use Rattle.meaning.specs.declared.Window.the-variants.{Inside, TooOld, Later}
 
 unfoldable pub isInside : Window → Bool
 isInside Inside = true

@@ -6,10 +6,10 @@ use Prim.Native.Nat.{ℕ, zero, suc, _+_, _-_, _<_}
 use native.Mathlib.Omega.{arith}
 use lib.Dec.{ltb, eqb}
 use borrow.Author.Tests.{ltb-true, eqb-true, lt-ltb, le-ltb, eq-eqb}
 use Rattle.meaning.specs.Tests.{_and_, _or_, rises}
 use Rattle.meaning.specs.Text.{before}
 use Rattle.meaning.specs.Equal.{sameList}
-use Rattle.meaning.specs.Laws.Tests.{both, pass, after}
+use Rattle.laws.specs.Tests.{both, pass, after}
 
 -- ---- equal lists
 

@@ -4,14 +4,14 @@ use mathlib.Core.Bool.{true}
 use mathlib.Core.List.{List}
 use Prim.Native.Nat.{ℕ, _<_, _≤_}
 use borrow.Author.Tests.{leb-true}
-use Rattle.meaning.specs.Tests.{_and_, allBelow}
+use Rattle.meaning.specs.Tests.{allBelow}
 use Rattle.meaning.specs.Case.{strings, values, points, nodes, vars, list, nodeAt, valueAt, arity, child, caseOf}
 use Rattle.meaning.specs.Equal.{see, alike, sameValue}
 use Rattle.meaning.specs.Check.{check, Checked, bodies, mosts, stringRules, valueRules, pointRules, nodeRules, endToEnd, valueRule, nodeRule}
-use Rattle.meaning.specs.Laws.Tests.{both, unbroken}
-use Rattle.meaning.specs.Laws.Lists.{Every}
-use Rattle.meaning.specs.Laws.Values as Values
-use Rattle.meaning.specs.Laws.Nodes as Nodes
+use Rattle.laws.specs.Tests.{both, unbroken}
+use Rattle.laws.specs.Lists.{Every}
+use Rattle.laws.specs.Values as Values
+use Rattle.laws.specs.Nodes as Nodes
 
 -- each rule of six passes
 pub record Rules (s : List ℕ) : Type 0 where

@@ -3,9 +3,9 @@ use crate::print::count;
 use meaning::StrNo;
 use meaning::ValNo;
 use numbers::Decimal;
-use program_parts::byte;
-use program_parts::word;
 use tables::halves;
+use tables::packed::byte;
+use tables::packed::word;
 use tables::wide;
 ghost use Rattle.meaning.specs.Check.{Checked};
 

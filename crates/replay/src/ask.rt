@@ -18,7 +18,7 @@ use crate::tally::another_case;
 use crate::tally::broken;
 use crate::tally::compared;
 use crate::tally::nothing;
-use program_parts::cell;
+use tables::packed::cell;
 use tables::wide;
 ghost use mathlib.Core.Path.{_≡_};
 ghost use lib.ListN.{length};

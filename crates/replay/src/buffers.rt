@@ -1,6 +1,6 @@
 // Cells and words of a call's buffers: taken from the list, filled before a call, looked at after it.
-use program_parts::cell;
-use program_parts::word;
+use tables::packed::cell;
+use tables::packed::word;
 ghost use mathlib.Core.Path.{_≡_};
 ghost use lib.ListN.{length};
 

@@ -1,5 +1,5 @@
 // The list, read from start to end.
-use program_parts::word;
+use tables::packed::word;
 ghost use Prim.Native.Nat.{_≤_};
 ghost use lib.ListN.{length};
 

@@ -1,6 +1,6 @@
 // A call as the list has it.
-use program_parts::cell;
-use program_parts::word;
+use tables::packed::cell;
+use tables::packed::word;
 use tables::wide;
 ghost use mathlib.Core.Path.{_≡_};
 ghost use mathlib.Core.Bool.{Bool, true};

@@ -1,3 +1,4 @@
+pub mod Beyond
 pub mod Words
 pub mod Choices
 pub mod Records

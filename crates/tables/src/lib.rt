@@ -1,4 +1,6 @@
 // Reading a case file: words, the contents, records, text, nodes and values. Reads are total: beyond a table's end they give what the definition gives.
+pub mod packed;
+
 use meaning::ArithOp;
 use meaning::CmpOp;
 use meaning::Interval;

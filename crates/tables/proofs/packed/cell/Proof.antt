@@ -1,7 +1,7 @@
 use borrow.Author.Needs.{needs}
-use Rattle.program_parts.proofs.Beyond.{no-cell}
-use Rattle.program_parts.proofs.cell.Statement.{statement}
-use Rattle.program_parts.proofs.cell.Tie as tie
+use Rattle.tables.proofs.Beyond.{no-cell}
+use Rattle.tables.proofs.packed.cell.Statement.{statement}
+use Rattle.tables.proofs.packed.cell.Tie as tie
 
 returns : tie.Need-returns
 returns c = search (no-cell, needs)

@@ -1,7 +1,7 @@
 use borrow.Author.Needs.{needs}
-use Rattle.program_parts.proofs.Beyond.{no-word}
-use Rattle.program_parts.proofs.word.Statement.{statement}
-use Rattle.program_parts.proofs.word.Tie as tie
+use Rattle.tables.proofs.Beyond.{no-word}
+use Rattle.tables.proofs.packed.word.Statement.{statement}
+use Rattle.tables.proofs.packed.word.Tie as tie
 
 returns : tie.Need-returns
 returns c = search (no-word, needs)

@@ -1,6 +1,6 @@
-// What several programs share: words, cells and bytes of a packed list, 0 beyond its end.
-use tables::halves;
-use tables::word_at;
+// Words, cells and bytes of a packed list, 0 beyond its end: what programs read their lists by.
+use super::halves;
+use super::word_at;
 ghost use mathlib.Core.Path.{_≡_};
 ghost use Prim.Native.Nat.{_+_, _*_};
 ghost use lib.ListN.{getD};

@@ -1,7 +1,7 @@
 use borrow.Author.Needs.{needs}
 use lib.ListN.{List·getD-eq-default}
-use Rattle.program_parts.proofs.byte.Statement.{statement}
-use Rattle.program_parts.proofs.byte.Tie as tie
+use Rattle.tables.proofs.packed.byte.Statement.{statement}
+use Rattle.tables.proofs.packed.byte.Tie as tie
 
 returns : tie.Need-returns
 returns c = search (List·getD-eq-default, needs)

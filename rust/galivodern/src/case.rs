@@ -1,5 +1,5 @@
 use std::fmt;
-use std::sync::{Mutex, PoisonError};
+use std::sync::{Mutex, TryLockError};
 
 use crate::answer::{Answer, Answered};
 use crate::bindings::Bindings;
@@ -23,7 +23,7 @@ const MOST_VARIABLES: usize = 16;
 pub struct Case {
     checked: Checked,
     names: Names,
-    /// What the last question used; empty while one is asked.
+    /// What questions use one after the other; locked while one is asked.
     spare: Mutex<Buffers>,
 }
 
@@ -267,14 +267,19 @@ impl Case {
         let mut padded = [0; 2 * MOST_VARIABLES];
         let start = bindings.map_or(&[][..], |bindings| start_cells(bindings.cells(), variables, &mut padded));
         let workspace = 2 * variables * allowed_room(limits);
-        let mut buffers = std::mem::take(&mut *self.spare.lock().unwrap_or_else(PoisonError::into_inner));
+        let mut own = Buffers::default();
+        let mut spare = match self.spare.try_lock() {
+            Ok(spare) => Some(spare),
+            // What a question that panicked left there is lent like any other cells.
+            Err(TryLockError::Poisoned(spare)) => Some(spare.into_inner()),
+            Err(TryLockError::WouldBlock) => None,
+        };
+        let buffers = spare.as_deref_mut().unwrap_or(&mut own);
         let lent = Lent {
             workspace: at_least(&mut buffers.workspace, workspace),
             output: at_least(&mut buffers.output, output),
         };
-        let told = call(Question { point: point.0, node: rule.0, start, limits }, lent);
-        *self.spare.lock().unwrap_or_else(PoisonError::into_inner) = buffers;
-        told
+        call(Question { point: point.0, node: rule.0, start, limits }, lent)
     }
 
     /// How much the case holds.

@@ -1,3 +1,4 @@
+-- How many words the lists have
 use borrow.Author.Needs.{needs}
 use Rattle.meaning.specs.Laws.Bodies.{long}
 use Rattle.stringcheck.proofs.list_count.Statement.{statement}

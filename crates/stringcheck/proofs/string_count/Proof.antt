@@ -1,3 +1,4 @@
+-- How many strings there are
 use borrow.Author.Needs.{needs}
 use Rattle.meaning.specs.Laws.Bodies.{long}
 use Rattle.stringcheck.proofs.string_count.Statement.{statement}

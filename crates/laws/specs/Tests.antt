@@ -50,6 +50,35 @@ pub after : {a b : Bool} → a ≡ true → (a and b) ≡ b
 unfolding _and_
 after e = rw e
 
+-- a rule of two to five parts, each as it was read
+pub and2 : {A B x y q : Bool} → q ≡ (x and y) → x ≡ A → y ≡ B → q ≡ (A and B)
+and2 e a b = e ∙ rw (a, b) refl
+
+pub and3 : {A B C x y z u q : Bool} → q ≡ (x and u) → u ≡ (y and z) → x ≡ A → y ≡ B → z ≡ C → q ≡ (A and (B and C))
+and3 e d a b c = and2 e a (and2 d b c)
+
+pub and4 : {A B C D x y z w v u q : Bool} → q ≡ (x and u) → u ≡ (y and v) → v ≡ (z and w) → x ≡ A → y ≡ B → z ≡ C → w ≡ D → q ≡ (A and (B and (C and D)))
+and4 g f e a b c d = and2 g a (and3 f e b c d)
+
+pub and5 : {A B C D E x y z w t v u r q : Bool} → q ≡ (x and u) → u ≡ (y and v) → v ≡ (z and r) → r ≡ (w and t) → x ≡ A → y ≡ B → z ≡ C → w ≡ D → t ≡ E → q ≡ (A and (B and (C and (D and E))))
+and5 i h g f a b c d e = and2 i a (and4 h g f b c d e)
+
+-- parts that are asked one after the other, each by a function that says r of it
+pub said : {r a : Bool} → not r ≡ false → r ≡ a → a ≡ true
+said {r} n e = sym e ∙ not-false r n
+
+pub denied : {r a : Bool} → not r ≡ true → r ≡ a → a ≡ false
+denied {r} n e = sym e ∙ not-true r n
+
+pub fails-here : {r a : Bool} (b : Bool) → not r ≡ true → r ≡ a → false ≡ (a and b)
+fails-here b n e = sym (stop b (denied n e))
+
+pub fails-later : {b : Bool} (a : Bool) → false ≡ b → false ≡ (a and b)
+fails-later a e = sym (skip a (sym e))
+
+pub goes-on : {r a b q : Bool} → not r ≡ false → r ≡ a → q ≡ b → q ≡ (a and b)
+goes-on n e f = f ∙ sym (after (said n e))
+
 pub yes : {A : Type 0} {t : Bool} {x : A} (y : A) → t ≡ true → choose t x y ≡ x
 unfolding choose
 yes y e = rw e
@@ -130,6 +159,32 @@ all-add test i (suc n) =
     let q : i + suc n ≡ suc (i + n) = omega arith in
     rw (q, all-add test i n) (and-assoc (allBelow i test) (allBelow n (λ j. test (i + j))) (test (i + n)))
 
+-- the first i of n have passed
+pub record Passing (test : ℕ → Bool) (n i : ℕ) : Type 0 where
+  pub low : i ≤ n
+  pub is : allBelow i test ≡ true
+
+pub passing-none : {test : ℕ → Bool} {n : ℕ} → Passing test n 0
+unfolding allBelow
+passing-none = record { low = omega arith; is = refl }
+
+module _ {test : ℕ → Bool} {n i : ℕ} (p : Passing test n i) where
+  pub passing-more : {r : Bool} → i < n → not r ≡ false → r ≡ test i → Passing test n (i + 1)
+  passing-more {r} lt h e = record { low = omega arith; is = record-yes test i r h e (p .is) }
+
+  pub passing-no : {r : Bool} {c : ℕ} → i < n → not r ≡ true → r ≡ test i → n ≡ c → false ≡ allBelow c test
+  passing-no {r} lt h e q = rw (sym q) (record-no test n i r h e lt)
+
+  pub passing-all : {c : ℕ} → n ≤ i → n ≡ c → true ≡ allBelow c test
+  passing-all h q = rw (sym q) (all-end test n i h (p .low) (p .is))
+
+  -- so many at once
+  pub passing-block : (m : ℕ) → i + m ≤ n → allBelow m (λ j. test (i + j)) ≡ true → Passing test n (i + m)
+  passing-block m l e = record { low = l; is = all-add test i m ∙ pass (p .is) e }
+
+  pub passing-out : {c : ℕ} (m : ℕ) → i + m ≤ n → allBelow m (λ j. test (i + j)) ≡ false → n ≡ c → false ≡ allBelow c test
+  passing-out m l e q = rw (sym q) (sym (shorter test (i + m) n l (all-add test i m ∙ skip _ e)))
+
 pub greatest-same : (f g : ℕ → ℕ) (n : ℕ) → ((i : ℕ) → i < n → f i ≡ g i) → greatest n f ≡ greatest n g
 unfolding greatest
 greatest-same f g zero h = refl
@@ -138,6 +193,22 @@ greatest-same f g (suc n) h = cc (greatest-same f g n (λ i hi. h i (omega arith
 pub greatest-more : (f : ℕ → ℕ) (k : ℕ) → greatest (k + 1) f ≡ max (greatest k f) (f k)
 unfolding greatest
 greatest-more f k = rw (add-one k)
+
+-- the greatest of the first i of n
+pub record Growing (f : ℕ → ℕ) (n i best : ℕ) : Type 0 where
+  pub low : i ≤ n
+  pub is : best ≡ greatest i f
+
+pub growing-none : {f : ℕ → ℕ} {n : ℕ} → Growing f n 0 0
+unfolding greatest
+growing-none = record { low = omega arith; is = refl }
+
+module _ {f : ℕ → ℕ} {n i best : ℕ} (g : Growing f n i best) where
+  pub growing-more : {x r : ℕ} → i < n → r ≡ max best x → x ≡ f i → Growing f n (i + 1) r
+  growing-more lt e h = record { low = omega arith; is = e ∙ rw (g .is, h) (sym (greatest-more f i)) }
+
+  pub growing-all : {c : ℕ} → n ≤ i → n ≡ c → best ≡ greatest c f
+  growing-all {c} h q = let z : i ≡ c = omega (arith, g .low) in g .is ∙ ap (λ (k : ℕ). greatest k f) z
 
 -- ---- records that hold others, with lower numbers
 

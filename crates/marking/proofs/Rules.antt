@@ -1,8 +1,8 @@
--- Places against their marks: loops that stop at the first that fails, and each record's test put together
+-- Places against their marks: each record's test put together
 use mathlib.Core.Path.{_≡_, refl, sym, _∙_, ap}
 use mathlib.Core.Bool.{Bool, true, false, not}
 use mathlib.Core.List.{List, [], _∷_}
-use Prim.Native.Nat.{ℕ, _+_, _<_, _≤_}
+use Prim.Native.Nat.{ℕ, _+_}
 use native.Mathlib.Omega.{arith}
 use lib.Dec.{leb}
 use borrow.Author.Tests.{not-true, not-false}
@@ -13,32 +13,10 @@ use Rattle.meaning.specs.declared.Node.{Node}
 use Rattle.meaning.specs.declared.Node.the-variants.{And, Or, Not, Formerly, Previous, Since, Predicate, Comparison, Exists, Tp, Literal, Context, Scope, Variable, Wildcard, Aggregate, Arithmetic, Sum, Count, Broken}
 use Rattle.meaning.specs.Tests.{_and_, allBelow}
 use Rattle.meaning.specs.Case.{size, stringWord, pointWord, list, nodeAt}
-use Rattle.laws.specs.Tests.{stop, after, record-no, record-yes, all-end}
+use Rattle.laws.specs.Tests.{stop, after, and2}
 use Rattle.encode.specs.Unsorted.{marked, inText}
 use Rattle.encode.specs.Write.{allMarked, noneMarked, entityMarks, pointMarks, argumentMarks, marksOf, nodeMarks}
 use Rattle.marking.specs.Runs.{word, ownWords, wordOf, item, itemOf}
-
--- the first i have passed
-pub record Passing (test : ℕ → Bool) (n i : ℕ) : Type 0 where
-  pub low : i ≤ n
-  pub is : allBelow i test ≡ true
-
-pub passing-none : {test : ℕ → Bool} {n : ℕ} → Passing test n 0
-unfolding allBelow
-passing-none = record { low = omega arith; is = refl }
-
-pub passing-more : {test : ℕ → Bool} {n i : ℕ} {r : Bool} → Passing test n i → i < n → r ≡ test i → not r ≡ false → Passing test n (i + 1)
-passing-more {test} {n} {i} {r} p lt e h = record { low = omega arith; is = record-yes test i r h e (p .is) }
-
-pub passing-no : {test : ℕ → Bool} {n i c : ℕ} {r : Bool} → Passing test n i → i < n → r ≡ test i → not r ≡ true → n ≡ c → false ≡ allBelow c test
-passing-no {test} {n} {i} {c} {r} p lt e h q = rw (sym q) (record-no test n i r h e lt)
-
-pub passing-all : {test : ℕ → Bool} {n i c : ℕ} → Passing test n i → n ≤ i → n ≡ c → true ≡ allBelow c test
-passing-all {test} {n} {i} {c} p h q = rw (sym q) (all-end test n i h (p .low) (p .is))
-
--- a rule of two parts
-pub and-parts : {A B x y q : Bool} → q ≡ (x and y) → x ≡ A → y ≡ B → q ≡ (A and B)
-and-parts e a b = e ∙ rw (a, b) refl
 
 -- ---- words
 
@@ -54,7 +32,7 @@ other-as marks i n e = rw n (ap not e)
 
 pub own-as : {x y z u q : Bool} (marks : List ℕ) (names : Bool) (i : ℕ) → u ≡ (x and y) → q ≡ (u and z) → x ≡ word marks names i → y ≡ word marks names (i + 1) → z ≡ word marks false (i + 2) → q ≡ ownWords marks names i
 unfolding ownWords
-own-as marks names i d e a b c = and-parts e (and-parts d a b) c
+own-as marks names i d e a b c = and2 e (and2 d a b) c
 
 module _ (f marks : List ℕ) (argument : Bool) (i : ℕ) {own : Bool} where
   pub entity-as : not argument ≡ true → own ≡ ownWords marks (not argument) i → own ≡ item f marks argument i

@@ -9,9 +9,8 @@ use lib.ListN.{length, getD, set, replicate, length-set, length-replicate}
 use lib.Seq.{getD-set-same, getD-set-other}
 use borrow.Author.Tests.{eqb-true, eqb-false, eq-eqb, ne-eqb, lt-ltb, le-ltb}
 use Rattle.meaning.specs.Tests.{_and_, choose, allBelow}
-use Rattle.laws.specs.Tests.{stop, skip, pass, yes, no, shorter, all-add, all-same, record-no, record-yes}
+use Rattle.laws.specs.Tests.{stop, skip, pass, yes, no, shorter, all-add, all-same, record-no, record-yes, Passing, passing-none, passing-all}
 use Rattle.marking.specs.Runs.{word, wordOf, item, itemOf, ItemPlace, known, kept, Known}
-use Rattle.marking.proofs.Rules.{Passing, passing-none, passing-all}
 
 -- ---- an entry
 

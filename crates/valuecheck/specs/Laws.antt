@@ -6,14 +6,15 @@ use mathlib.Core.Logic.{_⊎_, inl, inr, ⊎-elim}
 use Prim.Native.Nat.{ℕ, zero, suc, _+_, _*_, _<_, _≤_, max}
 use native.Mathlib.Omega.{arith}
 use lib.Dec.{ltb, eqb}
-use lib.ListN.{getD, set}
+use lib.ListN.{getD, set, replicate}
 use lib.Seq.{getD-set-other}
 use borrow.Author.Tests.{lt-ltb, le-ltb, ltb-true, ltb-false}
 use Rattle.meaning.specs.Tests.{_and_, choose, allBelow, greatest}
 use Rattle.meaning.specs.Case.{nothing, memberWord}
 use Rattle.meaning.specs.Check.{arrayItem, depth}
-use Rattle.laws.specs.Tests.{Filled, stop, skip, pass, after, yes, no, all-add, all-same, all-at, shorter}
-use Rattle.valuecheck.specs.Blocks.{topOf, Depths, Marked}
+use Rattle.laws.specs.Tests.{Filled, stop, skip, pass, after, yes, no, all-same, all-at}
+use Rattle.valuecheck.specs.Blocks.{topOf, Depths, Marked, Lower}
+use Rattle.stringcheck.specs.Tables.{replicate-same}
 
 -- the greatest of a run and a block
 pub greatest-add : (f : ℕ → ℕ) (i n : ℕ) → greatest (i + n) f ≡ max (greatest i f) (greatest n (λ j. f (i + j)))
@@ -82,22 +83,15 @@ top-is : (s : List ℕ) (v at : ℕ) → v < 4294967296 → ltb (topOf s at) v �
 unfolding topOf arrayItem
 top-is s v at h = bound-is (λ i. eqb (memberWord s (at + i) 0) nothing) (λ i. memberWord s (at + i) 1) v 511 h
 
-shift : (s : List ℕ) (v first i j : ℕ) → arrayItem s v first (i + j) ≡ arrayItem s v (first + i) j
+shift : (s : List ℕ) (v at first i j : ℕ) → at ≡ first + i → arrayItem s v at j ≡ arrayItem s v first (i + j)
 unfolding arrayItem
-shift s v first i j = let q : first + (i + j) ≡ first + i + j = omega arith in rw q
+shift s v at first i j e = let q : at + j ≡ first + (i + j) = omega arith in rw q
 
-array-block : (s : List ℕ) (v first i : ℕ) → allBelow (i + 512) (arrayItem s v first) ≡ (allBelow i (arrayItem s v first) and allBelow 512 (arrayItem s v (first + i)))
-array-block s v first i = all-add (arrayItem s v first) i 512 ∙ ap (λ (t : Bool). allBelow i (arrayItem s v first) and t) (all-same _ _ 512 (λ j hj. shift s v first i j))
-
-module _ (s tops : List ℕ) (v first i at b n : ℕ) (t : Filled 0 (λ b. topOf s (512 * b)) tops n) (hb : b < n) (e : at ≡ first + i) (q : 512 * b ≡ at) (h : v < 4294967296) where
-  top : ltb (getD tops b 0) v ≡ allBelow 512 (arrayItem s v (first + i))
-  top = ap (λ (x : ℕ). ltb x v) (t .at b hb) ∙ top-is s v (512 * b) h ∙ ap (λ (x : ℕ). allBelow 512 (arrayItem s v x)) (q ∙ e)
-
-  pub array-more : getD tops b 0 < v → allBelow i (arrayItem s v first) ≡ true → allBelow (i + 512) (arrayItem s v first) ≡ true
-  array-more l a = array-block s v first i ∙ pass a (sym top ∙ lt-ltb _ _ l)
-
-  pub array-stop : (items : ℕ) → v ≤ getD tops b 0 → i + 512 ≤ items → false ≡ allBelow items (arrayItem s v first)
-  array-stop items l m = sym (shorter (arrayItem s v first) (i + 512) items m (array-block s v first i ∙ skip _ (sym top ∙ le-ltb _ _ l)))
+-- so the block that starts at item i of a run, by what is kept of it
+pub array-top : (s : List ℕ) {tops : List ℕ} (v first i b : ℕ) {n : ℕ} → Filled 0 (λ b. topOf s (512 * b)) tops n → b < n → 512 * b ≡ first + i → v < 4294967296 → ltb (getD tops b 0) v ≡ allBelow 512 (λ j. arrayItem s v first (i + j))
+array-top s v first i b t hb q h =
+    ap (λ (x : ℕ). ltb x v) (t .at b hb) ∙ top-is s v (512 * b) h
+    ∙ all-same (arrayItem s v (512 * b)) (λ j. arrayItem s v first (i + j)) 512 (λ j hj. shift s v (512 * b) first i j q)
 
 -- ---- what is kept of blocks
 
@@ -110,34 +104,34 @@ set-get other (y ∷ xs) zero (suc j) x = inl refl
 set-get other (y ∷ xs) (suc b) zero x = inl refl
 set-get other (y ∷ xs) (suc b) (suc j) x = ⊎-elim (λ e. inl e) (λ p. inr (ap suc (p .0), p .1)) (set-get other xs b j x)
 
-pub depths-none : (s blocks : List ℕ) → ((b : ℕ) → getD blocks b 0 ≡ 0) → Depths s blocks
-depths-none s blocks h = record { known = λ b f. absurd (f (h b)) }
+pub depths-none : (s : List ℕ) (n : ℕ) → Depths s (replicate n 0)
+depths-none s n = record { known = λ b f. absurd (f (replicate-same n b 0)) }
 
-pub depths-more : (s blocks : List ℕ) (b at x : ℕ) → Depths s blocks → 512 * b ≡ at → x ≡ greatest 512 (λ j. depth s (memberWord s (at + j) 1)) → Depths s (set blocks b x)
-depths-more s blocks b at x d q e = record { known = λ j f. go j f (set-get 0 blocks b j x) }
+pub depths-more : {s blocks : List ℕ} {at x : ℕ} (b : ℕ) → Depths s blocks → 512 * b ≡ at → x ≡ greatest 512 (λ j. depth s (memberWord s (at + j) 1)) → Depths s (set blocks b x)
+depths-more {s} {blocks} {at} {x} b d q e = record { known = λ j f. go j f (set-get 0 blocks b j x) }
   where
     go : (j : ℕ) → (getD (set blocks b x) j 0 ≡ 0 → ⊥) → ((getD (set blocks b x) j 0 ≡ getD blocks j 0) ⊎ ((j ≡ b) × (getD (set blocks b x) j 0 ≡ x))) → getD (set blocks b x) j 0 ≡ greatest 512 (λ i. depth s (memberWord s (512 * j + i) 1))
     go j f (inl p) = p ∙ d .known j (λ z. f (p ∙ z))
     go j f (inr p) = p .1 ∙ e ∙ ap (λ (a : ℕ). greatest 512 (λ i. depth s (memberWord s (a + i) 1))) (sym q ∙ ap (λ (a : ℕ). 512 * a) (sym (p .0)))
 
-pub marked-none : (s : List ℕ) (marks blocks : List Bool) (v : ℕ) → ((b : ℕ) → getD blocks b false ≡ false) → Marked s marks v blocks
-marked-none s marks blocks v h = record { held = λ b e j hj. let z : _≡_ {A = Bool} true false = sym e ∙ h b in absurd (never z) }
+pub marked-none : (s : List ℕ) (marks : List Bool) (v n : ℕ) → Marked s marks v (replicate n false)
+marked-none s marks v n = record { held = λ b e j hj. absurd (never (sym e ∙ replicate-same n b false)) }
   where
     never : _≡_ {A = Bool} true false → ⊥
     never e = let z : _≡_ {A = ℕ} 0 1 = cc in omega arith
 
 -- one more block that is marked throughout
-pub marked-more : (s : List ℕ) (marks blocks : List Bool) (v b at : ℕ) → Marked s marks v blocks → 512 * b ≡ at → ((j : ℕ) → j < 512 → memberWord s (at + j) 1 < v) → allBelow 512 (λ j. getD marks (memberWord s (at + j) 1) false) ≡ true → Marked s marks v (set blocks b true)
-marked-more s marks blocks v b at m q l a = record { held = λ j e i hi. go j e i hi (set-get false blocks b j true) }
+pub marked-more : {s : List ℕ} {marks blocks : List Bool} {v at : ℕ} (b : ℕ) → Marked s marks v blocks → 512 * b ≡ at → Lower s v at 512 → allBelow 512 (λ j. getD marks (memberWord s (at + j) 1) false) ≡ true → Marked s marks v (set blocks b true)
+marked-more {s} {marks} {blocks} {v} {at} b m q l a = record { held = λ j e i hi. go j e i hi (set-get false blocks b j true) }
   where
     here : (j : ℕ) → j ≡ b → at ≡ 512 * j
     here j e = sym q ∙ ap (λ (a : ℕ). 512 * a) (sym e)
 
     go : (j : ℕ) → getD (set blocks b true) j false ≡ true → (i : ℕ) → i < 512 → ((getD (set blocks b true) j false ≡ getD blocks j false) ⊎ ((j ≡ b) × (getD (set blocks b true) j false ≡ true))) → (memberWord s (512 * j + i) 1 < v) × (getD marks (memberWord s (512 * j + i) 1) false ≡ true)
     go j e i hi (inl p) = m .held j (sym p ∙ e) i hi
-    go j e i hi (inr p) = (rw (here j (p .0)) at (l i hi), rw (here j (p .0)) at (all-at (λ j. getD marks (memberWord s (at + j) 1) false) 512 i a hi))
+    go j e i hi (inr p) = (rw (here j (p .0)) at (l .lower i hi), rw (here j (p .0)) at (all-at (λ j. getD marks (memberWord s (at + j) 1) false) 512 i a hi))
 
 -- one more value
-pub marked-next : (s : List ℕ) (marks blocks : List Bool) (v at : ℕ) (x : Bool) → at ≡ v → Marked s marks v blocks → Marked s (set marks at x) (v + 1) blocks
-marked-next s marks blocks v at x q m =
+pub marked-next : {s : List ℕ} {marks blocks : List Bool} {v at : ℕ} (x : Bool) → at ≡ v → Marked s marks v blocks → Marked s (set marks at x) (v + 1) blocks
+marked-next {marks = marks} {at = at} x q m =
     record { held = λ b e j hj. let h = m .held b e j hj in (omega (arith, h .0), getD-set-other marks at _ x false (λ z. absurd (omega (arith, h .0))) ∙ h .1) }

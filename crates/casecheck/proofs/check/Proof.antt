@@ -1,16 +1,15 @@
+-- The check answers the first refusal of the rules in their order, or what the file holds
 use Prim.Native.Nat.{ℕ}
 use borrow.Author.Needs.{needs}
-use borrow.Author.Tests.{not-false, not-true}
-use mathlib.Core.Bool.{Bool, false, not, true}
+use mathlib.Core.Bool.{false, true}
 use mathlib.Core.List.{List}
 use mathlib.Core.Option.{none, some}
-use mathlib.Core.Path.{_∙_, _≡_, refl, sym}
+use mathlib.Core.Path.{_∙_, _≡_, refl}
 use Rattle.casecheck.specs.Answer.{answer, asChecking, contentsOf}
 use Rattle.meaning.specs.Case.{values}
 use Rattle.meaning.specs.Check.{bodies, check, endToEnd, mosts, nodeRules, pointRules, stringRules, valueRule, valueRules}
-use Rattle.laws.specs.Tests.{both, no, yes}
+use Rattle.laws.specs.Tests.{both, no, yes, said, denied}
 use Rattle.meaning.specs.Tests.{allBelow}
-use Rattle.meaning.specs.Text.{before}
 use Rattle.meaning.specs.declared.Refusal.{Refusal}
 use Rattle.meaning.specs.declared.Refusal.the-variants.{BadContents, TooLarge, BadStrings, BadValues, BadPoints, BadNodes}
 use Rattle.casecheck.specs.declared.Contents.{Contents}
@@ -26,40 +25,34 @@ passes : (s : List ℕ) (k : Contents) → check s ≡ none → k ≡ contentsOf
 unfolding asChecking answer
 passes s k e f = rw (e, f) refl
 
-said : (r x : Bool) → r ≡ x → not r ≡ false → x ≡ true
-said r x e f = sym e ∙ not-false r f
-
-denied : (r x : Bool) → r ≡ x → not r ≡ true → x ≡ false
-denied r x e f = sym e ∙ not-true r f
-
 module _ (s : List ℕ) where
-  one : bodies s ≡ false → check s ≡ some BadContents
+  contents-bad : bodies s ≡ false → check s ≡ some BadContents
   unfolding check
-  one e = no _ e refl
+  contents-bad e = no _ e refl
 
-  two : bodies s ≡ true → mosts s ≡ false → check s ≡ some TooLarge
+  too-large : bodies s ≡ true → mosts s ≡ false → check s ≡ some TooLarge
   unfolding check
-  two a e = yes _ a ∙ no _ e refl
+  too-large a e = yes _ a ∙ no _ e refl
 
-  three : bodies s ≡ true → mosts s ≡ true → stringRules s ≡ false → check s ≡ some BadStrings
+  strings-bad : bodies s ≡ true → mosts s ≡ true → stringRules s ≡ false → check s ≡ some BadStrings
   unfolding check
-  three a b e = yes _ a ∙ yes _ b ∙ no _ e refl
+  strings-bad a b e = yes _ a ∙ yes _ b ∙ no _ e refl
 
-  four : bodies s ≡ true → mosts s ≡ true → stringRules s ≡ true → valueRules s ≡ false → check s ≡ some BadValues
+  values-bad : bodies s ≡ true → mosts s ≡ true → stringRules s ≡ true → valueRules s ≡ false → check s ≡ some BadValues
   unfolding check
-  four a b d e = yes _ a ∙ yes _ b ∙ yes _ d ∙ no _ e refl
+  values-bad a b d e = yes _ a ∙ yes _ b ∙ yes _ d ∙ no _ e refl
 
-  five : bodies s ≡ true → mosts s ≡ true → stringRules s ≡ true → valueRules s ≡ true → pointRules s ≡ false → check s ≡ some BadPoints
+  points-bad : bodies s ≡ true → mosts s ≡ true → stringRules s ≡ true → valueRules s ≡ true → pointRules s ≡ false → check s ≡ some BadPoints
   unfolding check
-  five a b d f e = yes _ a ∙ yes _ b ∙ yes _ d ∙ yes _ f ∙ no _ e refl
+  points-bad a b d f e = yes _ a ∙ yes _ b ∙ yes _ d ∙ yes _ f ∙ no _ e refl
 
-  six : bodies s ≡ true → mosts s ≡ true → stringRules s ≡ true → valueRules s ≡ true → pointRules s ≡ true → nodeRules s ≡ false → check s ≡ some BadNodes
+  nodes-bad : bodies s ≡ true → mosts s ≡ true → stringRules s ≡ true → valueRules s ≡ true → pointRules s ≡ true → nodeRules s ≡ false → check s ≡ some BadNodes
   unfolding check
-  six a b d f g e = yes _ a ∙ yes _ b ∙ yes _ d ∙ yes _ f ∙ yes _ g ∙ no _ e refl
+  nodes-bad a b d f g e = yes _ a ∙ yes _ b ∙ yes _ d ∙ yes _ f ∙ yes _ g ∙ no _ e refl
 
-  seven : bodies s ≡ true → mosts s ≡ true → stringRules s ≡ true → valueRules s ≡ true → pointRules s ≡ true → nodeRules s ≡ true → check s ≡ none
+  all-pass : bodies s ≡ true → mosts s ≡ true → stringRules s ≡ true → valueRules s ≡ true → pointRules s ≡ true → nodeRules s ≡ true → check s ≡ none
   unfolding check
-  seven a b d f g h = yes _ a ∙ yes _ b ∙ yes _ d ∙ yes _ f ∙ yes _ g ∙ yes _ h
+  all-pass a b d f g h = yes _ a ∙ yes _ b ∙ yes _ d ∙ yes _ f ∙ yes _ g ∙ yes _ h
 
   placed : stringRules s ≡ true → endToEnd s ≡ true
   unfolding stringRules
@@ -73,52 +66,52 @@ check-bodies-requires : tie.Need-check-bodies-requires
 check-bodies-requires c κs = search needs
 
 returns : tie.Need-returns
-returns c = refused _ _ (one _ (denied _ _ (c .before .check-bodies .ensures) (c .if1 .taken)))
+returns c = search (refused, contents-bad, denied, needs)
 
 check-mosts-requires : tie.Need-check-mosts-requires
 check-mosts-requires c κs = search (said, needs)
 
 returns-2 : tie.Need-returns-2
-returns-2 c = search (refused, two, said, denied, needs)
+returns-2 c = search (refused, too-large, said, denied, needs)
 
 check-strings-requires : tie.Need-check-strings-requires
 check-strings-requires c κs = search (said, needs)
 
 returns-3 : tie.Need-returns-3
-returns-3 c = search (refused, three, said, denied, needs)
+returns-3 c = search (refused, strings-bad, said, denied, needs)
 
 check-values-requires : tie.Need-check-values-requires
-check-values-requires c κs = ((said _ _ (c .before .before .before .before .before .check-bodies .ensures) (c .before .before .before .before .if1 .left)), (said _ _ (c .before .before .before .check-mosts .ensures) (c .before .before .if2 .left)))
+check-values-requires c κs = (search (said, needs), search (said, needs))
 
 returns-4 : tie.Need-returns-4
-returns-4 c = search (refused, four, said, denied, needs)
+returns-4 c = search (refused, values-bad, said, denied, needs)
 
 list-tops-requires : tie.Need-list-tops-requires
-list-tops-requires c κs = ((said _ _ (c .before .before .before .before .before .before .before .check-bodies .ensures) (c .before .before .before .before .before .before .if1 .left)), (said _ _ (c .before .before .before .before .before .check-mosts .ensures) (c .before .before .before .before .if2 .left)))
+list-tops-requires c κs = (search (said, needs), search (said, needs))
 
 check-points-requires : tie.Need-check-points-requires
-check-points-requires c κs = (said _ _ (c .before .before .before .before .before .before .before .before .before .check-bodies .ensures) (c .before .before .before .before .before .before .before .before .if1 .left), (said _ _ (c .before .before .before .before .before .before .before .check-mosts .ensures) (c .before .before .before .before .before .before .if2 .left), (placed _ (said _ _ (c .before .before .before .before .before .check-strings .ensures) (c .before .before .before .before .if3 .left)), (c .before .list-tops .ensures))))
+check-points-requires c κs = (search (said, needs), (search (said, needs), (search (placed, said, needs), search needs)))
 
 returns-5 : tie.Need-returns-5
-returns-5 c = search (refused, five, said, denied, needs)
+returns-5 c = search (refused, points-bad, said, denied, needs)
 
 free-strings-requires : tie.Need-free-strings-requires
-free-strings-requires c κs = (said _ _ (c .before .before .before .before .before .before .before .before .before .before .before .check-bodies .ensures) (c .before .before .before .before .before .before .before .before .before .before .if1 .left), (said _ _ (c .before .before .before .before .before .before .before .before .before .check-mosts .ensures) (c .before .before .before .before .before .before .before .before .if2 .left), placed _ (said _ _ (c .before .before .before .before .before .before .before .check-strings .ensures) (c .before .before .before .before .before .before .if3 .left))))
+free-strings-requires c κs = (search (said, needs), (search (said, needs), search (placed, said, needs)))
 
 path-blocks-requires : tie.Need-path-blocks-requires
 path-blocks-requires c κs = search (said, needs)
 
 check-nodes-requires : tie.Need-check-nodes-requires
-check-nodes-requires c κs = (said _ _ (c .before .before .before .before .before .before .before .before .before .before .before .before .before .before .before .before .before .check-bodies .ensures) (c .before .before .before .before .before .before .before .before .before .before .before .before .before .before .before .before .if1 .left), (said _ _ (c .before .before .before .before .before .before .before .before .before .before .before .before .before .before .before .check-mosts .ensures) (c .before .before .before .before .before .before .before .before .before .before .before .before .before .before .if2 .left), (each _ (said _ _ (c .before .before .before .before .before .before .before .before .before .before .before .check-values .ensures) (c .before .before .before .before .before .before .before .before .before .before .if4 .left)), ((c .before .before .before .before .before .before .before .before .before .list-tops .ensures), ((c .before .before .before .before .before .free-strings .ensures), (c .before .before .before .path-blocks .ensures))))))
+check-nodes-requires c κs = (search (said, needs), (search (said, needs), (search (each, said, needs), (search needs, (search needs, search needs)))))
 
 returns-6 : tie.Need-returns-6
-returns-6 c = search (refused, six, said, denied, needs)
+returns-6 c = search (refused, nodes-bad, said, denied, needs)
 
 contents-of-requires : tie.Need-contents-of-requires
 contents-of-requires c κs = search (said, needs)
 
 returns-7 : tie.Need-returns-7
-returns-7 c = search (passes, seven, said, needs)
+returns-7 c = search (passes, all-pass, said, needs)
 
 pub check-spec : {M : Type 1} → statement M
 check-spec =

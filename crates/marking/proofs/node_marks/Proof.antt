@@ -1,6 +1,7 @@
 use Rattle.encode.specs.Write.{allMarked, noneMarked, marksOf}
 use Rattle.marking.specs.Runs.{word, wordOf, item, itemOf}
-use Rattle.marking.proofs.Rules.{and-parts, node-as, plain-as}
+use Rattle.marking.proofs.Rules.{node-as, plain-as}
+use Rattle.laws.specs.Tests.{and2}
 use borrow.Author.Needs.{needs}
 use Rattle.marking.proofs.node_marks.Statement.{statement}
 use Rattle.marking.proofs.node_marks.Tie as tie
@@ -46,7 +47,7 @@ word-run-requires-5 c κs = search needs
 
 returns : tie.Need-returns
 unfolding marksOf allMarked wordOf word itemOf item
-returns c = search (and-parts, node-as, needs)
+returns c = search (and2, node-as, needs)
 
 returns-2 : tie.Need-returns-2
 unfolding marksOf allMarked noneMarked wordOf word

@@ -1,4 +1,4 @@
-use Rattle.marking.proofs.Rules.{Passing, passing-none, passing-no, passing-more, passing-all}
+use Rattle.laws.specs.Tests.{Passing, passing-none, passing-no, passing-more, passing-all}
 use Rattle.encode.specs.Unsorted.{inText}
 use Prim.Native.Nat.{_-_}
 use borrow.Author.Needs.{needs}

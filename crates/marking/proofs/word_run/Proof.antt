@@ -1,4 +1,4 @@
-use Rattle.marking.proofs.Rules.{Passing, passing-none, passing-all}
+use Rattle.laws.specs.Tests.{Passing, passing-none, passing-all}
 use Rattle.marking.proofs.Tables.{words-all, words-no, words-on}
 use Rattle.marking.specs.Runs.{wordOf}
 use Prim.Native.Nat.{_-_}

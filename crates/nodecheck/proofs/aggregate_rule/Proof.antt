@@ -1,5 +1,6 @@
+-- The rule of an aggregate as a term
 use borrow.Author.Needs.{needs}
-use Rattle.nodecheck.proofs.Parts.{and2}
+use Rattle.laws.specs.Tests.{and2}
 use Rattle.nodecheck.proofs.aggregate_rule.Statement.{statement}
 use Rattle.nodecheck.proofs.aggregate_rule.Tie as tie
 

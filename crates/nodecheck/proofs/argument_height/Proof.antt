@@ -1,28 +1,31 @@
-use Prim.Native.Nat.{_*_, _+_, _-_, _<_, _≤_, max, ℕ}
+-- The greatest height of a Predicate's terms
+use Prim.Native.Nat.{_*_, _+_, _-_, _<_, _≤_, ℕ}
 use borrow.Author.Needs.{needs}
 use lib.ListN.{getD}
 use mathlib.Core.List.{List}
-use mathlib.Core.Path.{_∙_, _≡_, ap, refl, sym}
+use mathlib.Core.Path.{_∙_, _≡_, ap, refl}
 use native.Mathlib.Omega.{arith}
 use Rattle.meaning.specs.Case.{list}
-use Rattle.laws.specs.Tests.{greatest-more}
+use Rattle.laws.specs.Tests.{Growing, growing-none, growing-more, growing-all, greatest-same}
 use Rattle.meaning.specs.Tests.{greatest}
-use Rattle.meaning.specs.Text.{before}
 use Rattle.nodecheck.specs.Terms.{Terms}
 use Rattle.nodecheck.proofs.argument_height.Statement.{statement}
 use Rattle.nodecheck.proofs.argument_height.Tie as tie
 
-grow : (f : ℕ → ℕ) (i best d r : ℕ) → best ≡ greatest i f → d ≡ f i → r ≡ max best d → r ≡ greatest (i + 1) f
-grow f i best d r e g h = h ∙ rw (e, g) (sym (greatest-more f i))
+term-low : {s : List ℕ} {n f c first k t at : ℕ} (i : ℕ) → at ≡ t → t ≡ list s (first + 3 * i + 2) → Terms s n f c → i < k → first ≡ f → k ≡ c → n ≤ 1024 → at < 1024
+term-low {s} {f = f} {first = first} i q e l h a b m = let z : list s (first + 3 * i + 2) ≡ list s (f + 3 * i + 2) = rw a refl in omega (arith, l .low i (omega arith))
 
-whole : (s table : List ℕ) (first f i n m best : ℕ) → first ≡ f → n ≡ m → n ≤ i → i ≤ n → best ≡ greatest i (λ k. getD table (list s (first + 3 * k + 2)) 0) → best ≡ greatest m (λ k. getD table (list s (f + 3 * k + 2)) 0)
-whole s table first f i n m best a e h l g = let q : i ≡ m = omega arith in g ∙ rw (q, a) refl
+height-read : {t at x : ℕ} (table : List ℕ) → at ≡ t → t ≡ x → getD table at 0 ≡ getD table x 0
+height-read table q e = ap (λ (y : ℕ). getD table y 0) (q ∙ e)
 
-low : (s : List ℕ) (n f c first i k t at : ℕ) → Terms s n f c → first ≡ f → i < k → k ≡ c → t ≡ list s (first + 3 * i + 2) → at ≡ t → at < n
-low s n f c first i k t at l a h b e q = let z : list s (first + 3 * i + 2) ≡ list s (f + 3 * i + 2) = rw a refl in omega (arith, l .low i (omega arith))
+whole : {f g : ℕ → ℕ} {n i best c : ℕ} → Growing f n i best → n ≤ i → n ≡ c → ((x : ℕ) → f x ≡ g x) → best ≡ greatest c g
+whole {f} {g} r h q same = growing-all r h q ∙ greatest-same f g _ (λ x hx. same x)
+
+from-first : {first f : ℕ} (s table : List ℕ) (x : ℕ) → first ≡ f → getD table (list s (first + 3 * x + 2)) 0 ≡ getD table (list s (f + 3 * x + 2)) 0
+from-first s table x e = rw e refl
 
 abbrev Inv-loop : tie.InvT-loop
-Inv-loop s heights n first items best₀ i₀ best i = (i ≤ items) × (best ≡ greatest i (λ k. getD heights (list s (first + 3 * k + 2)) 0)) × (items < 4294967296) × (first < 4294967296)
+Inv-loop s heights n first items best₀ i₀ best i = Growing (λ k. getD heights (list s (first + 3 * k + 2)) 0) items i best × (items < 4294967296) × (first < 4294967296)
 
 abbrev μ-loop : tie.MeasureT-loop
 μ-loop s heights n first items best₀ i₀ best i = items - i
@@ -34,8 +37,7 @@ wide-requires-2 : tie.Need-wide-requires-2 Inv-loop μ-loop
 wide-requires-2 c κs = search needs
 
 loop-holds : tie.Need-loop-holds Inv-loop μ-loop
-unfolding greatest
-loop-holds c = (search needs, refl, search needs, search needs)
+loop-holds c = (search (growing-none, needs), search needs, search needs)
 
 mul-list-at : tie.Need-mul-list-at Inv-loop μ-loop
 mul-list-at c = search needs
@@ -53,7 +55,7 @@ wide-requires-3 : tie.Need-wide-requires-3 Inv-loop μ-loop
 wide-requires-3 c κs = search needs
 
 element-copy-out-larger-byte : tie.Need-element-copy-out-larger-byte Inv-loop μ-loop
-element-copy-out-larger-byte c = let i = c .before .before .before .loop .inv in omega (arith, low _ _ _ _ _ _ _ _ _ (c .before .before .before .before .before .before .before .pre .1 .1) (c .before .before .before .before .before .wide .ensures) (c .before .before .loop-test .taken) (c .before .before .before .before .wide2 .ensures) (c .before .list-at .ensures) (c .wide3 .ensures))
+element-copy-out-larger-byte c = search (term-low, needs)
 
 larger-byte-requires : tie.Need-larger-byte-requires Inv-loop μ-loop
 larger-byte-requires c κs = search needs
@@ -65,10 +67,10 @@ loop-less : tie.Need-loop-less Inv-loop μ-loop
 loop-less c = search needs
 
 loop-again : tie.Need-loop-again Inv-loop μ-loop
-loop-again c = let i = c .before .before .before .before .before .loop .inv in (search needs, grow _ _ _ _ _ (i .1) (ap (λ (x : ℕ). getD (c .before .before .before .before .before .before .before .before .before .args .heights .now) x 0) (c .before .before .wide3 .ensures ∙ c .before .before .before .list-at .ensures)) (c .larger-byte .ensures), i .2, i .3)
+loop-again c = (search (growing-more, height-read, needs), search needs, search needs)
 
 returns : tie.Need-returns Inv-loop μ-loop
-returns c = let i = c .before .loop .inv in whole _ (c .before .before .before .before .before .args .heights .now) _ _ _ _ _ _ (c .before .before .before .wide .ensures) (c .before .before .wide2 .ensures) (c .loop-test .left) (i .0) (i .1)
+returns c = search (whole, from-first, needs)
 
 pub argument-height-spec : {M : Type 1} → statement M
 argument-height-spec =

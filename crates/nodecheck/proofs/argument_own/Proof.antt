@@ -1,3 +1,4 @@
+-- An argument's own rule: its path and its kind of term
 use Prim.Native.Nat.{_+_, ℕ}
 use borrow.Author.Needs.{needs}
 use lib.Dec.{leb}

@@ -1,3 +1,4 @@
+-- The rule of an argument: its own, and a lower term
 use Prim.Native.Nat.{_+_, ℕ}
 use borrow.Author.Needs.{needs}
 use lib.Dec.{ltb}

@@ -1,63 +1,46 @@
+-- A Predicate's arguments, a block at once by its top
 use Prim.Native.Nat.{_%_, _*_, _+_, _-_, _/_, _<_, _≤_, ℕ}
 use borrow.Author.Needs.{needs}
-use borrow.Author.Tests.{le-leb, lt-leb, ltb-false}
+use borrow.Author.Tests.{ltb-false, lt-ltb, le-ltb}
 use lib.Dec.{ltb}
 use lib.ListN.{getD}
-use mathlib.Core.Bool.{Bool, false, true}
+use mathlib.Core.Bool.{Bool, false}
 use mathlib.Core.List.{List}
-use mathlib.Core.Path.{_∙_, _≡_, refl, sym}
+use mathlib.Core.Path.{_∙_, _≡_, refl, sym, ap}
 use native.Mathlib.Omega.{arith}
-use Rattle.meaning.specs.Case.{lists}
 use Rattle.meaning.specs.Check.{argumentRule, argumentRun}
-use Rattle.laws.specs.Tests.{all-end, pass, record-no, record-yes, skip, stop}
+use Rattle.laws.specs.Tests.{Passing, passing-none, passing-more, passing-no, passing-all, passing-block, passing-out, fails-later, all-same}
 use Rattle.meaning.specs.Tests.{allBelow}
-use Rattle.meaning.specs.Text.{before}
-use Rattle.nodecheck.specs.Laws.{arguments-more, arguments-stop}
-use Rattle.nodecheck.specs.Terms.{ArgumentTops}
-use Rattle.pointcheck.specs.Blocks.{blockStart}
-use Rattle.stringcheck.specs.Mosts.{list-most}
+use Rattle.nodecheck.specs.Laws.{top-is}
+use Rattle.nodecheck.specs.Terms.{ArgumentTops, argumentTop}
+use Rattle.pointcheck.proofs.Runs.{InLists, run-past, run-fits, run-whole, third-in, third-fits, third-at}
 use Rattle.nodecheck.proofs.argument_run.Statement.{statement}
 use Rattle.nodecheck.proofs.argument_run.Tie as tie
 
-past : (s : List ℕ) (n first items m w f j : ℕ) → w ≡ m → m ≡ lists s → f ≡ first → j ≡ items → w < f + 3 * j → false ≡ argumentRun s n first items
-unfolding argumentRun
-past s n first items m w f j a b d e h = sym (stop _ (lt-leb (first + 3 * items) (lists s) (omega arith)))
+at-is : (s : List ℕ) (n : ℕ) {first i f j : ℕ} {r : Bool} → r ≡ argumentRule s n (f + 3 * j) → f ≡ first → j ≡ i → r ≡ argumentRule s n (first + 3 * i)
+at-is s n e a b = e ∙ rw (a, b) refl
 
-at-is : (s : List ℕ) (n first i f j : ℕ) (r : Bool) → f ≡ first → j ≡ i → r ≡ argumentRule s n (f + 3 * j) → r ≡ argumentRule s n (first + 3 * i)
-at-is s n first i f j r a b e = e ∙ rw (a, b) refl
+module _ {s : List ℕ} {first items i f j : ℕ} (r : InLists s 3 first items) (ef : f ≡ first) (ej : j ≡ i) (lt : i < items) (a : (f + 3 * j) % 1536 < 3) (w : ltb (items - i) 512 ≡ false) {terms : List ℕ} (t : ArgumentTops s terms) {test : ℕ → Bool} (p : Passing test items i) (n : ℕ) (fits : n < 4294967296) (same : (x : ℕ) → test x ≡ argumentRule s n (first + 3 * x)) where
+  block : ltb (getD terms (3 * ((f + 3 * j) / 1536) + (f + 3 * j) % 1536) 0) n ≡ allBelow 512 (λ x. test (i + x))
+  block =
+      ap (λ (x : ℕ). ltb x n) (third-at r ef ej lt a w (argumentTop s) t) ∙ top-is s n (f + 3 * j) fits
+      ∙ all-same (λ x. argumentRule s n (f + 3 * j + 3 * x)) (λ x. test (i + x)) 512 (λ x hx. let q : f + 3 * j + 3 * x ≡ first + 3 * (i + x) = omega arith in rw q (sym (same (i + x))))
 
-all-of : (s : List ℕ) (n first items i : ℕ) → first + 3 * items ≤ lists s → items ≤ i → i ≤ items → allBelow i (λ k. argumentRule s n (first + 3 * k)) ≡ true → true ≡ argumentRun s n first items
-unfolding argumentRun
-all-of s n first items i l a b e = sym (pass (le-leb (first + 3 * items) (lists s) l) (sym (all-end _ items i a b e)))
+module _ {s : List ℕ} {first items i f j : ℕ} {terms : List ℕ} {test : ℕ → Bool} (n : ℕ) where
+  block-more : getD terms (3 * ((f + 3 * j) / 1536) + (f + 3 * j) % 1536) 0 < n → f ≡ first → j ≡ i → (f + 3 * j) % 1536 < 3 → ltb (items - i) 512 ≡ false → i < items → Passing test items i → InLists s 3 first items → ArgumentTops s terms → n < 4294967296 → ((x : ℕ) → test x ≡ argumentRule s n (first + 3 * x)) → Passing test items (i + 512)
+  block-more d ef ej a w lt p r t fits same = passing-block p 512 (third-fits r ef ej lt a w) (sym (block r ef ej lt a w t p n fits same) ∙ lt-ltb _ _ d)
 
-module _ (s terms : List ℕ) (n first items i f j : ℕ) (t : ArgumentTops s terms) (l : first + 3 * items ≤ lists s) (ef : f ≡ first) (ej : j ≡ i) (a : (f + 3 * j) % 1536 < 3) (w : ltb (items - i) 512 ≡ false) (h : i < items) (fits : n < 4294967296) where
-  inside : 3 * ((f + 3 * j) / 1536) + (f + 3 * j) % 1536 < 3 * (lists s / 1536)
-  inside = omega (arith, ltb-false (items - i) 512 w)
-
-  here : blockStart (3 * ((f + 3 * j) / 1536) + (f + 3 * j) % 1536) ≡ f + 3 * j
-  here = omega arith
-
-  next-fits : i + 512 ≤ items
-  next-fits = omega (arith, ltb-false (items - i) 512 w)
-
-  over : n ≤ getD terms (3 * ((f + 3 * j) / 1536) + (f + 3 * j) % 1536) 0 → false ≡ argumentRun s n first items
-  unfolding argumentRun
-  over d = sym (skip _ (arguments-stop s terms n first i (f + 3 * j) (3 * ((f + 3 * j) / 1536) + (f + 3 * j) % 1536) (3 * (lists s / 1536)) t inside (omega arith) here fits items d next-fits))
-
-  under : getD terms (3 * ((f + 3 * j) / 1536) + (f + 3 * j) % 1536) 0 < n → allBelow i (λ q. argumentRule s n (first + 3 * q)) ≡ true → allBelow (i + 512) (λ q. argumentRule s n (first + 3 * q)) ≡ true
-  under d g = arguments-more s terms n first i (f + 3 * j) (3 * ((f + 3 * j) / 1536) + (f + 3 * j) % 1536) (3 * (lists s / 1536)) t inside (omega arith) here fits d g
-
-in-blocks : (s : List ℕ) (first items i f j : ℕ) → lists s ≤ 1048576 → first + 3 * items ≤ lists s → f ≡ first → j ≡ i → (f + 3 * j) % 1536 < 3 → ltb (items - i) 512 ≡ false → i < items → 3 * ((f + 3 * j) / 1536) + (f + 3 * j) % 1536 < 2052
-in-blocks s first items i f j m l ef ej a w h = omega (arith, ltb-false (items - i) 512 w)
+  block-no : n ≤ getD terms (3 * ((f + 3 * j) / 1536) + (f + 3 * j) % 1536) 0 → f ≡ first → j ≡ i → (f + 3 * j) % 1536 < 3 → ltb (items - i) 512 ≡ false → i < items → Passing test items i → InLists s 3 first items → ArgumentTops s terms → n < 4294967296 → ((x : ℕ) → test x ≡ argumentRule s n (first + 3 * x)) → false ≡ allBelow items test
+  block-no d ef ej a w lt p r t fits same = passing-out p 512 (third-fits r ef ej lt a w) (sym (block r ef ej lt a w t p n fits same) ∙ le-ltb _ _ d) refl
 
 abbrev Inv-loop : tie.InvT-loop
-Inv-loop s undotted paths terms n first items i₀ i = (i ≤ items) × (allBelow i (λ k. argumentRule s n (first + 3 * k)) ≡ true) × (first + 3 * items ≤ lists s) × (lists s ≤ 1048576)
+Inv-loop s undotted paths terms n first items i₀ i = Passing (λ k. argumentRule s n (first + 3 * k)) items i × InLists s 3 first items
 
 abbrev μ-loop : tie.MeasureT-loop
 μ-loop s undotted paths terms n first items i₀ i = items - i
 
 list-count-requires : tie.Need-list-count-requires Inv-loop μ-loop
-list-count-requires c κs = c .before .pre .0
+list-count-requires c κs = search needs
 
 wide-requires : tie.Need-wide-requires Inv-loop μ-loop
 wide-requires c κs = search needs
@@ -75,11 +58,11 @@ add-if1 : tie.Need-add-if1 Inv-loop μ-loop
 add-if1 c = search needs
 
 returns : tie.Need-returns Inv-loop μ-loop
-returns c = past _ _ _ _ _ _ _ _ (c .before .before .before .wide .ensures) (c .before .before .before .before .list-count .ensures) (c .before .before .wide2 .ensures) (c .before .wide3 .ensures) (c .if1 .taken)
+unfolding argumentRun
+returns c = search (run-past, needs)
 
 loop-holds : tie.Need-loop-holds Inv-loop μ-loop
-unfolding allBelow
-loop-holds c = (search needs, refl, omega arith, list-most _ (c .before .before .before .before .before .before .pre .1 .0) (c .before .before .before .before .before .before .pre .0))
+loop-holds c = (search (passing-none, needs), search (run-fits, needs))
 
 wide-requires-4 : tie.Need-wide-requires-4 Inv-loop μ-loop
 wide-requires-4 c κs = search needs
@@ -97,11 +80,11 @@ sub-if3 : tie.Need-sub-if3 Inv-loop μ-loop
 sub-if3 c = search needs
 
 argument-rule-requires : tie.Need-argument-rule-requires Inv-loop μ-loop
-argument-rule-requires c κs = let p = c .before .before .before .before .before .before .before .before .before .before .before .pre in (p .0, (p .1 .0, (p .1 .1 .0, (p .1 .1 .1 .0, omega arith))))
+argument-rule-requires c κs = (search needs, (search needs, (search needs, (search needs, search needs))))
 
 returns-2 : tie.Need-returns-2 Inv-loop μ-loop
 unfolding argumentRun
-returns-2 c = sym (skip _ (sym (record-no _ _ _ _ (c .if4 .taken) (at-is _ _ _ _ _ _ _ (c .before .before .before .before .wide4 .ensures) (c .before .before .before .wide5 .ensures) (c .before .argument-rule .ensures)) (c .before .before .before .before .before .loop-test .taken))))
+returns-2 c = search (fails-later, passing-no, at-is, needs)
 
 add-i : tie.Need-add-i Inv-loop μ-loop
 add-i c = search needs
@@ -110,7 +93,7 @@ loop-less : tie.Need-loop-less Inv-loop μ-loop
 loop-less c = search needs
 
 loop-again : tie.Need-loop-again Inv-loop μ-loop
-loop-again c = let i = c .before .before .before .before .before .before .loop .inv in (search needs, record-yes _ _ _ (c .if4 .left) (at-is _ _ _ _ _ _ _ (c .before .before .before .before .wide4 .ensures) (c .before .before .before .wide5 .ensures) (c .before .argument-rule .ensures)) (i .1), i .2, i .3)
+loop-again c = (search (passing-more, at-is, needs), search needs)
 
 mul-k : tie.Need-mul-k Inv-loop μ-loop
 mul-k c = search needs
@@ -122,22 +105,24 @@ mul-if5 : tie.Need-mul-if5 Inv-loop μ-loop
 mul-if5 c = search needs
 
 element-copy-out-if5 : tie.Need-element-copy-out-if5 Inv-loop μ-loop
-element-copy-out-if5 c = let i = c .before .before .before .before .before .loop .inv in in-blocks _ _ _ _ _ _ (i .3) (i .2) (c .before .before .before .wide4 .ensures) (c .before .before .wide5 .ensures) (c .before .if2 .left) (c .if3 .left) (c .before .before .before .before .loop-test .taken)
+element-copy-out-if5 c = search (third-in, needs)
 
 returns-3 : tie.Need-returns-3 Inv-loop μ-loop
-returns-3 c = over _ _ _ _ _ _ _ _ (c .before .before .before .before .before .before .before .before .before .before .before .before .before .before .pre .1 .1 .1 .1) (c .before .before .before .before .before .before .before .loop .inv .2) (c .before .before .before .before .before .wide4 .ensures) (c .before .before .before .before .wide5 .ensures) (c .before .before .before .if2 .left) (c .before .before .if3 .left) (c .before .before .before .before .before .before .loop-test .taken) (c .before .before .before .before .before .before .before .before .before .before .before .before .before .before .fits .n .fits) (c .if5 .taken)
+unfolding argumentRun
+returns-3 c = search (fails-later, block-no, needs)
 
 add-i-2 : tie.Need-add-i-2 Inv-loop μ-loop
-add-i-2 c = let n = next-fits _ _ _ _ _ _ _ _ (c .before .before .before .before .before .before .before .before .before .before .before .before .before .before .pre .1 .1 .1 .1) (c .before .before .before .before .before .before .before .loop .inv .2) (c .before .before .before .before .before .wide4 .ensures) (c .before .before .before .before .wide5 .ensures) (c .before .before .before .if2 .left) (c .before .before .if3 .left) (c .before .before .before .before .before .before .loop-test .taken) (c .before .before .before .before .before .before .before .before .before .before .before .before .before .before .fits .n .fits) in omega arith
+add-i-2 c = omega (arith, ltb-false)
 
 loop-less-2 : tie.Need-loop-less-2 Inv-loop μ-loop
 loop-less-2 c = search needs
 
 loop-again-2 : tie.Need-loop-again-2 Inv-loop μ-loop
-loop-again-2 c = let i = c .before .before .before .before .before .before .before .loop .inv in (next-fits _ _ _ _ _ _ _ _ (c .before .before .before .before .before .before .before .before .before .before .before .before .before .before .pre .1 .1 .1 .1) (c .before .before .before .before .before .before .before .loop .inv .2) (c .before .before .before .before .before .wide4 .ensures) (c .before .before .before .before .wide5 .ensures) (c .before .before .before .if2 .left) (c .before .before .if3 .left) (c .before .before .before .before .before .before .loop-test .taken) (c .before .before .before .before .before .before .before .before .before .before .before .before .before .before .fits .n .fits), under _ _ _ _ _ _ _ _ (c .before .before .before .before .before .before .before .before .before .before .before .before .before .before .pre .1 .1 .1 .1) (c .before .before .before .before .before .before .before .loop .inv .2) (c .before .before .before .before .before .wide4 .ensures) (c .before .before .before .before .wide5 .ensures) (c .before .before .before .if2 .left) (c .before .before .if3 .left) (c .before .before .before .before .before .before .loop-test .taken) (c .before .before .before .before .before .before .before .before .before .before .before .before .before .before .fits .n .fits) (c .if5 .left) (i .1), i .2, i .3)
+loop-again-2 c = (search (block-more, needs), search needs)
 
 returns-4 : tie.Need-returns-4 Inv-loop μ-loop
-returns-4 c = let i = c .before .loop .inv in all-of _ _ _ _ _ (i .2) (c .loop-test .left) (i .0) (i .1)
+unfolding argumentRun
+returns-4 c = search (run-whole, passing-all, needs)
 
 pub argument-run-spec : {M : Type 1} → statement M
 argument-run-spec =

@@ -1,6 +1,7 @@
+-- The rule of a Context
 use borrow.Author.Needs.{needs}
 use Rattle.meaning.specs.Check.{ruleOf}
-use Rattle.nodecheck.proofs.Parts.{and3}
+use Rattle.laws.specs.Tests.{and3}
 use Rattle.nodecheck.proofs.context_rule.Statement.{statement}
 use Rattle.nodecheck.proofs.context_rule.Tie as tie
 

@@ -1,5 +1,6 @@
+-- The rule of an Exists
 use borrow.Author.Needs.{needs}
-use Rattle.nodecheck.proofs.Parts.{and3}
+use Rattle.laws.specs.Tests.{and3}
 use Rattle.nodecheck.proofs.exists_rule.Statement.{statement}
 use Rattle.nodecheck.proofs.exists_rule.Tie as tie
 

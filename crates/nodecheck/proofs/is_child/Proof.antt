@@ -1,3 +1,4 @@
+-- A child: a lower number, and a kind from low to high
 use Prim.Native.Nat.{ℕ}
 use borrow.Author.Needs.{needs}
 use lib.Dec.{leb, ltb}

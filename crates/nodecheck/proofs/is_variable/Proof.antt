@@ -1,3 +1,4 @@
+-- A variable's number is below their count
 use borrow.Author.Needs.{needs}
 use mathlib.Core.Path.{refl}
 use Rattle.nodecheck.proofs.is_variable.Statement.{statement}

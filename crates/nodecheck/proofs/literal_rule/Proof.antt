@@ -1,3 +1,4 @@
+-- The rule of a Literal: a value that a table marks
 use Prim.Native.Nat.{_<_, _≤_, ℕ}
 use borrow.Author.Needs.{needs}
 use borrow.Author.Tests.{le-ltb, lt-ltb}
@@ -9,9 +10,8 @@ use mathlib.Core.Path.{_∙_, _≡_, ap, sym}
 use native.Mathlib.Omega.{arith}
 use Rattle.meaning.specs.Case.{values}
 use Rattle.meaning.specs.Check.{literal, mosts, ruleOf}
-use Rattle.laws.specs.Tests.{after, stop}
+use Rattle.laws.specs.Tests.{after, stop, and2}
 use Rattle.meaning.specs.Tests.{_and_}
-use Rattle.nodecheck.proofs.Parts.{and2}
 use Rattle.pointcheck.specs.Blocks.{Literals}
 use Rattle.stringcheck.specs.Mosts.{value-most}
 use Rattle.nodecheck.proofs.literal_rule.Statement.{statement}

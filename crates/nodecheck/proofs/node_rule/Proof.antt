@@ -1,3 +1,4 @@
+-- The rule of a node, by what it is
 use borrow.Author.Needs.{needs}
 use Rattle.meaning.specs.Check.{ruleOf}
 use Rattle.nodecheck.proofs.Parts.{by-node}
@@ -47,7 +48,7 @@ enum-known-node-7 : tie.Need-enum-known-node-7
 enum-known-node-7 c = search needs
 
 predicate-rule-requires : tie.Need-predicate-rule-requires
-predicate-rule-requires c κs = let p = c .before .before .before .before .before .pre in (p .0, (p .1 .0, (p .1 .1 .0, (p .1 .1 .1 .0, (p .1 .1 .1 .1 .0, p .1 .1 .1 .1 .1 .0)))))
+predicate-rule-requires c κs = (search needs, (search needs, (search needs, (search needs, (search needs, search needs)))))
 
 enum-known-node-8 : tie.Need-enum-known-node-8
 enum-known-node-8 c = search needs

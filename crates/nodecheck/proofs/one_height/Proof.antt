@@ -1,3 +1,4 @@
+-- The height of one child
 use Prim.Native.Nat.{ℕ}
 use borrow.Author.Needs.{needs}
 use lib.ListN.{getD}

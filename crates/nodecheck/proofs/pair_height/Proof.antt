@@ -1,3 +1,4 @@
+-- The greater height of two children
 use Prim.Native.Nat.{max, ℕ}
 use borrow.Author.Needs.{needs}
 use lib.ListN.{getD}

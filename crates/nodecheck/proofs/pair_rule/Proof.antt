@@ -1,5 +1,6 @@
+-- The rule of an And and an Or
 use borrow.Author.Needs.{needs}
-use Rattle.nodecheck.proofs.Parts.{and3}
+use Rattle.laws.specs.Tests.{and3}
 use Rattle.nodecheck.proofs.pair_rule.Statement.{statement}
 use Rattle.nodecheck.proofs.pair_rule.Tie as tie
 

@@ -1,6 +1,8 @@
+-- The rule of a Predicate
 use borrow.Author.Needs.{needs}
 use Rattle.meaning.specs.Check.{ruleOf}
-use Rattle.nodecheck.proofs.Parts.{and5, below-count}
+use Rattle.laws.specs.Tests.{and5}
+use Rattle.valuecheck.proofs.Words.{word-below}
 use Rattle.nodecheck.proofs.predicate_rule.Statement.{statement}
 use Rattle.nodecheck.proofs.predicate_rule.Tie as tie
 
@@ -30,7 +32,7 @@ both-requires-4 c κs = search needs
 
 returns : tie.Need-returns
 unfolding ruleOf
-returns c = search (and5, below-count, needs)
+returns c = search (and5, word-below, needs)
 
 pub predicate-rule-spec : {M : Type 1} → statement M
 predicate-rule-spec =

@@ -1,5 +1,7 @@
+-- The rule of a Scope
 use borrow.Author.Needs.{needs}
-use Rattle.nodecheck.proofs.Parts.{and3, word-most}
+use Rattle.laws.specs.Tests.{and3}
+use Rattle.valuecheck.proofs.Words.{word-most}
 use Rattle.nodecheck.proofs.scope_rule.Statement.{statement}
 use Rattle.nodecheck.proofs.scope_rule.Tie as tie
 

@@ -1,5 +1,7 @@
+-- The rule of a Since
 use borrow.Author.Needs.{needs}
-use Rattle.nodecheck.proofs.Parts.{and4, word-most}
+use Rattle.laws.specs.Tests.{and4}
+use Rattle.valuecheck.proofs.Words.{word-most}
 use Rattle.nodecheck.proofs.since_rule.Statement.{statement}
 use Rattle.nodecheck.proofs.since_rule.Tie as tie
 

@@ -1,6 +1,7 @@
+-- The rule of a Sum
 use borrow.Author.Needs.{needs}
 use Rattle.meaning.specs.Check.{ruleOf}
-use Rattle.nodecheck.proofs.Parts.{and4}
+use Rattle.laws.specs.Tests.{and4}
 use Rattle.nodecheck.proofs.sum_rule.Statement.{statement}
 use Rattle.nodecheck.proofs.sum_rule.Tie as tie
 

@@ -1,5 +1,6 @@
+-- The rule of a Tp and a Variable
 use borrow.Author.Needs.{needs}
-use Rattle.nodecheck.proofs.Parts.{and2}
+use Rattle.laws.specs.Tests.{and2}
 use Rattle.nodecheck.proofs.variable_rule.Statement.{statement}
 use Rattle.nodecheck.proofs.variable_rule.Tie as tie
 

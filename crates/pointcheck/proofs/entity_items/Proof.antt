@@ -1,30 +1,25 @@
-use Prim.Native.Nat.{_-_, _≤_}
+-- Every item of a run of entities passes
+use Prim.Native.Nat.{_-_}
 use borrow.Author.Needs.{needs}
-use mathlib.Core.Bool.{true}
-use mathlib.Core.Path.{_≡_}
-use native.Mathlib.Omega.{arith}
 use Rattle.meaning.specs.Check.{entityItem}
-use Rattle.laws.specs.Tests.{all-end, record-no, record-yes}
-use Rattle.meaning.specs.Tests.{allBelow}
-use Rattle.meaning.specs.Text.{before}
+use Rattle.laws.specs.Tests.{Passing, passing-none, passing-more, passing-no, passing-all}
 use Rattle.pointcheck.proofs.entity_items.Statement.{statement}
 use Rattle.pointcheck.proofs.entity_items.Tie as tie
 
 abbrev Inv-loop : tie.InvT-loop
-Inv-loop s unquoted first items i₀ i = (i ≤ items) × (allBelow i (entityItem s first) ≡ true)
+Inv-loop s unquoted first items i₀ i = Passing (entityItem s first) items i
 
 abbrev μ-loop : tie.MeasureT-loop
 μ-loop s unquoted first items i₀ i = items - i
 
 loop-holds : tie.Need-loop-holds Inv-loop μ-loop
-unfolding allBelow
-loop-holds c = search needs
+loop-holds c = search (passing-none, needs)
 
 entity-item-requires : tie.Need-entity-item-requires Inv-loop μ-loop
-entity-item-requires c κs = let p = c .before .before .before .pre in (p .0, (p .1 .0, (p .1 .1 .0, omega (arith, p .1 .1 .1))))
+entity-item-requires c κs = (search needs, (search needs, (search needs, search needs)))
 
 returns : tie.Need-returns Inv-loop μ-loop
-returns c = record-no _ _ _ _ (c .if1 .taken) (c .before .entity-item .ensures) (c .before .before .loop-test .taken)
+returns c = search (passing-no, needs)
 
 add-i : tie.Need-add-i Inv-loop μ-loop
 add-i c = search needs
@@ -33,10 +28,10 @@ loop-less : tie.Need-loop-less Inv-loop μ-loop
 loop-less c = search needs
 
 loop-again : tie.Need-loop-again Inv-loop μ-loop
-loop-again c = let i = c .before .before .before .loop .inv in (search needs, record-yes _ _ _ (c .if1 .left) (c .before .entity-item .ensures) (i .1))
+loop-again c = search (passing-more, needs)
 
 returns-2 : tie.Need-returns-2 Inv-loop μ-loop
-returns-2 c = all-end _ _ _ (c .loop-test .left) (c .before .loop .inv .0) (c .before .loop .inv .1)
+returns-2 c = search (passing-all, needs)
 
 pub entity-items-spec : {M : Type 1} → statement M
 entity-items-spec =

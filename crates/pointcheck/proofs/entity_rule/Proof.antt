@@ -1,3 +1,4 @@
+-- An entity: type, id and attributes
 use Prim.Native.Nat.{_+_, ℕ}
 use borrow.Author.Needs.{needs}
 use lib.Dec.{ltb}
@@ -6,15 +7,14 @@ use mathlib.Core.List.{List}
 use mathlib.Core.Path.{_∙_, _≡_, refl}
 use Rattle.meaning.specs.Case.{list, strings, text}
 use Rattle.meaning.specs.Check.{entityRule, isObject, isString}
-use Rattle.laws.specs.Tests.{both}
 use Rattle.meaning.specs.Tests.{_and_}
-use Rattle.meaning.specs.Text.{before, free}
+use Rattle.meaning.specs.Text.{free}
 use Rattle.pointcheck.proofs.entity_rule.Statement.{statement}
 use Rattle.pointcheck.proofs.entity_rule.Tie as tie
 
-is : (s : List ℕ) (i a b d n : ℕ) (x y z r : Bool) → a ≡ list s i → b ≡ list s (i + 1) → d ≡ list s (i + 2) → n ≡ strings s → x ≡ (isString s a and free 34 (text s a)) → y ≡ isObject s d → z ≡ (ltb b n and y) → r ≡ (x and z) → r ≡ entityRule s i
+entity-read : (s : List ℕ) (i : ℕ) {a b d n : ℕ} {x y z r : Bool} → r ≡ (x and z) → z ≡ (ltb b n and y) → x ≡ (isString s a and free 34 (text s a)) → y ≡ isObject s d → a ≡ list s i → b ≡ list s (i + 1) → d ≡ list s (i + 2) → n ≡ strings s → r ≡ entityRule s i
 unfolding entityRule
-is s i a b d n x y z r p q u v e f g h = h ∙ rw (e, g, f, p, q, u, v) refl
+entity-read s i h g e f p q u v = h ∙ rw (e, g, f, p, q, u, v) refl
 
 list-at-requires : tie.Need-list-at-requires
 list-at-requires c κs = search needs
@@ -47,7 +47,7 @@ both-requires-2 : tie.Need-both-requires-2
 both-requires-2 c κs = search needs
 
 returns : tie.Need-returns
-returns c = is _ _ _ _ _ _ _ _ _ _ (c .before .before .before .before .before .before .before .list-at .ensures) (c .before .before .before .before .before .list-at2 .ensures) (c .before .before .before .list-at3 .ensures) (c .before .before .before .before .string-count .ensures) (c .before .before .before .before .before .before .entity-type .ensures) (c .before .before .is-object .ensures) (c .before .both .ensures) (c .both2 .ensures)
+returns c = search (entity-read, needs)
 
 pub entity-rule-spec : {M : Type 1} → statement M
 entity-rule-spec =

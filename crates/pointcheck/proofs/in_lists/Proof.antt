@@ -1,3 +1,4 @@
+-- A run of items of one word stays in the lists
 use Prim.Native.Nat.{_*_, _+_, ℕ}
 use borrow.Author.Needs.{needs}
 use lib.Dec.{leb}
@@ -6,12 +7,11 @@ use mathlib.Core.Path.{_≡_, refl}
 use native.Mathlib.Omega.{arith}
 use Rattle.meaning.specs.Case.{lists}
 use Rattle.meaning.specs.Check.{inTable}
-use Rattle.meaning.specs.Text.{before}
 use Rattle.pointcheck.proofs.in_lists.Statement.{statement}
 use Rattle.pointcheck.proofs.in_lists.Tie as tie
 
-is : (s : List ℕ) (first items f j n w : ℕ) → f ≡ first → j ≡ items → w ≡ n → n ≡ lists s → leb (f + j) w ≡ inTable (lists s) 1 first items
-is s first items f j n w a b d e = let q : first + 1 * items ≡ f + j = omega arith in rw (q, d, e) refl
+in-as : (s : List ℕ) {first items f j n w : ℕ} → w ≡ n → n ≡ lists s → f ≡ first → j ≡ items → leb (f + j) w ≡ inTable (lists s) 1 first items
+in-as s {first} {items} {f} {j} d e a b = let q : first + 1 * items ≡ f + j = omega arith in rw (q, d, e) refl
 
 wide-requires : tie.Need-wide-requires
 wide-requires c κs = search needs
@@ -29,7 +29,7 @@ wide-requires-3 : tie.Need-wide-requires-3
 wide-requires-3 c κs = search needs
 
 returns : tie.Need-returns
-returns c = is _ _ _ _ _ _ _ (c .before .before .before .wide .ensures) (c .before .before .wide2 .ensures) (c .wide3 .ensures) (c .before .list-count .ensures)
+returns c = search (in-as, needs)
 
 pub in-lists-spec : {M : Type 1} → statement M
 in-lists-spec =

@@ -1,25 +1,15 @@
-use Prim.Native.Nat.{_*_, _+_, _-_, _/_, _≤_, ℕ}
+-- The greatest word of each block, as a table filled from the front
+use Prim.Native.Nat.{_*_, _+_, _-_}
 use borrow.Author.Needs.{needs}
-use lib.ListN.{length}
-use mathlib.Core.Bool.{true}
-use mathlib.Core.List.{List}
-use mathlib.Core.Path.{_≡_, refl}
-use native.Mathlib.Omega.{arith}
-use Rattle.meaning.specs.Case.{list, lists}
-use Rattle.meaning.specs.Check.{bodies, mosts}
-use Rattle.laws.specs.Tests.{Filled, filled-more, filled-none}
+use Rattle.meaning.specs.Case.{list}
 use Rattle.meaning.specs.Tests.{greatest}
-use Rattle.meaning.specs.Text.{before}
-use Rattle.stringcheck.specs.Mosts.{list-most}
-use Rattle.stringcheck.specs.Tables.{filled-all}
+use Rattle.stringcheck.specs.Tables.{Filling, filling-none, filling-more, filling-all}
+use Rattle.pointcheck.proofs.Runs.{blocks-few, blocks-all}
 use Rattle.pointcheck.proofs.list_tops.Statement.{statement}
 use Rattle.pointcheck.proofs.list_tops.Tie as tie
 
-few : (s : List ℕ) (n m w : ℕ) → bodies s ≡ true → mosts s ≡ true → w ≡ m → m ≡ lists s → n ≡ w / 1024 → (n ≡ lists s / 1024) × (n ≤ 1024)
-few s n m w b h e f g = (omega arith, omega (arith, list-most s h b))
-
 abbrev Inv-loop : tie.InvT-loop
-Inv-loop s n tops₀ b₀ tops b = (b ≤ n) × ((n ≡ lists s / 1024) × (n ≤ 1024)) × (length tops ≡ 1024) × Filled 0 (λ b. greatest 1024 (λ j. list s (1024 * b + j))) tops b
+Inv-loop s n tops₀ b₀ tops b = Filling 0 (λ b. greatest 1024 (λ j. list s (1024 * b + j))) 1024 n tops b
 
 abbrev μ-loop : tie.MeasureT-loop
 μ-loop s n tops₀ b₀ tops b = n - b
@@ -31,7 +21,7 @@ wide-requires : tie.Need-wide-requires Inv-loop μ-loop
 wide-requires c κs = search needs
 
 loop-holds : tie.Need-loop-holds Inv-loop μ-loop
-loop-holds c = (search needs, few _ _ _ _ (c .before .before .before .pre .0) (c .before .before .before .pre .1) (c .wide .ensures) (c .before .list-count .ensures) refl, search needs, filled-none)
+loop-holds c = search (filling-none, blocks-few, needs)
 
 mul-block-top : tie.Need-mul-block-top Inv-loop μ-loop
 mul-block-top c = search needs
@@ -52,10 +42,10 @@ loop-less : tie.Need-loop-less Inv-loop μ-loop
 loop-less c = search needs
 
 loop-again : tie.Need-loop-again Inv-loop μ-loop
-loop-again c = let i = c .before .before .loop .inv in (search needs, i .1, search needs, filled-more _ (omega arith) (i .3) (c .block-top .ensures))
+loop-again c = search (filling-more, needs)
 
 returns : tie.Need-returns Inv-loop μ-loop
-returns c = let i = c .before .loop .inv in filled-all _ (i .1 .0) (c .loop-test .left) (i .0) (i .3)
+returns c = search (filling-all, blocks-all, needs)
 
 pub list-tops-spec : {M : Type 1} → statement M
 list-tops-spec =

@@ -1,27 +1,19 @@
-use Prim.Native.Nat.{_<_, ℕ}
+-- A word is a string without a dot
+use Prim.Native.Nat.{ℕ}
 use borrow.Author.Needs.{needs}
-use borrow.Author.Tests.{le-ltb, lt-ltb}
-use lib.ListN.{getD}
-use mathlib.Core.Bool.{Bool, false, true}
+use mathlib.Core.Bool.{Bool}
 use mathlib.Core.List.{List}
-use mathlib.Core.Path.{_∙_, _≡_, ap, sym}
-use native.Mathlib.Omega.{arith}
-use Rattle.meaning.specs.Case.{list, strings}
-use Rattle.meaning.specs.Check.{mosts, pathName}
-use Rattle.laws.specs.Tests.{after, stop}
-use Rattle.meaning.specs.Text.{before}
-use Rattle.pointcheck.specs.Blocks.{Undotted}
-use Rattle.stringcheck.specs.Mosts.{string-most}
+use mathlib.Core.Path.{_∙_, _≡_, refl}
+use Rattle.meaning.specs.Case.{list, text}
+use Rattle.meaning.specs.Check.{pathName, isString}
+use Rattle.meaning.specs.Text.{free}
+use Rattle.pointcheck.proofs.Runs.{no-string, string-in, string-marked}
+use Rattle.meaning.specs.Tests.{_and_}
 use Rattle.pointcheck.proofs.path_name.Statement.{statement}
 use Rattle.pointcheck.proofs.path_name.Tie as tie
 
-few : (s : List ℕ) (k n at : ℕ) → mosts s ≡ true → k ≡ strings s → n < k → at ≡ n → at < 16384
-few s k n at m e l q = omega (arith, string-most s m)
-
-is : (s : List ℕ) (table : List Bool) (i k n at : ℕ) → Undotted s table → n ≡ list s i → k ≡ strings s → n < k → at ≡ n → getD table at false ≡ pathName s i
-is s table i k n at f e g l q =
-    let l′ : list s i < strings s = omega arith in
-    ap (λ (x : ℕ). getD table x false) (q ∙ e) ∙ f .at _ l′ ∙ sym (after (lt-ltb _ _ l′))
+name-read : (s : List ℕ) (i : ℕ) {n : ℕ} {r : Bool} → n ≡ list s i → r ≡ (isString s n and free 46 (text s n)) → r ≡ pathName s i
+name-read s i e f = f ∙ rw e refl
 
 list-at-requires : tie.Need-list-at-requires
 list-at-requires c κs = search needs
@@ -30,16 +22,16 @@ string-count-requires : tie.Need-string-count-requires
 string-count-requires c κs = search needs
 
 returns : tie.Need-returns
-returns c = sym (stop _ (le-ltb _ _ (rw (c .before .string-count .ensures, c .before .before .list-at .ensures) at (c .if1 .taken))))
+returns c = search (name-read, no-string, needs)
 
 wide-requires : tie.Need-wide-requires
 wide-requires c κs = search needs
 
 element-copy-out-result : tie.Need-element-copy-out-result
-element-copy-out-result c = few _ _ _ _ (c .before .before .before .before .before .pre .1 .0) (c .before .before .string-count .ensures) (c .before .if1 .left) (c .wide .ensures)
+element-copy-out-result c = search (string-in, needs)
 
 returns-2 : tie.Need-returns-2
-returns-2 c = is _ _ _ _ _ _ (c .before .before .before .before .before .before .pre .1 .1) (c .before .before .before .before .list-at .ensures) (c .before .before .before .string-count .ensures) (c .before .before .if1 .left) (c .before .wide .ensures)
+returns-2 c = search (name-read, string-marked, needs)
 
 pub path-name-spec : {M : Type 1} → statement M
 path-name-spec =

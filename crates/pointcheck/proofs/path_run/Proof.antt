@@ -1,57 +1,22 @@
-use Prim.Native.Nat.{_%_, _*_, _+_, _-_, _/_, _<_, _≤_, ℕ}
+-- A run holds path names alone, a block at once where a table marks it
+use Prim.Native.Nat.{_+_, _-_, ℕ}
 use borrow.Author.Needs.{needs}
-use borrow.Author.Tests.{le-leb, leb-true, ltb-false, not-false, not-true}
-use lib.Dec.{ltb}
-use lib.ListN.{getD}
-use mathlib.Core.Bool.{Bool, false, not, true}
+use borrow.Author.Tests.{ltb-false}
+use mathlib.Core.Bool.{Bool}
 use mathlib.Core.List.{List}
-use mathlib.Core.Path.{_∙_, _≡_, ap, refl, sym}
+use mathlib.Core.Path.{_∙_, _≡_, refl}
 use native.Mathlib.Omega.{arith}
-use Rattle.meaning.specs.Case.{lists}
-use Rattle.meaning.specs.Check.{inTable, pathName, pathRun}
-use Rattle.laws.specs.Tests.{all-end, pass, record-no, record-yes, skip, stop}
-use Rattle.meaning.specs.Tests.{allBelow}
-use Rattle.meaning.specs.Text.{before}
-use Rattle.pointcheck.specs.Blocks.{Paths}
-use Rattle.pointcheck.specs.Laws.{run-more, run-stop}
-use Rattle.stringcheck.specs.Mosts.{list-most}
+use Rattle.meaning.specs.Check.{pathName, pathRun}
+use Rattle.laws.specs.Tests.{Passing, passing-none, passing-more, passing-no, passing-all, fails-here, fails-later}
+use Rattle.pointcheck.proofs.Runs.{InLists, run-in, run-whole, block-in, names-more, names-no}
 use Rattle.pointcheck.proofs.path_run.Statement.{statement}
 use Rattle.pointcheck.proofs.path_run.Tie as tie
 
-module _ (s : List ℕ) (paths : List Bool) (first items i f j : ℕ) (t : Paths s paths) (l : first + items ≤ lists s) (ef : f ≡ first) (ej : j ≡ i) (a : (f + j) % 1024 ≡ 0) (w : ltb (items - i) 1024 ≡ false) (h : i < items) where
-  here : 1024 * ((f + j) / 1024) ≡ f + j
-  here = omega arith
-
-  inside : (f + j) / 1024 < lists s / 1024
-  inside = omega (arith, ltb-false (items - i) 1024 w)
-
-  block : getD paths ((f + j) / 1024) false ≡ allBelow 1024 (λ k. pathName s (f + j + k))
-  block = t .at _ inside ∙ ap (λ (x : ℕ). allBelow 1024 (λ k. pathName s (x + k))) here
-
-  over : not (getD paths ((f + j) / 1024) false) ≡ true → allBelow items (λ k. pathName s (first + k)) ≡ false
-  over d = run-stop (pathName s) first i (f + j) (omega arith) items (sym block ∙ not-true _ d) (omega (arith, ltb-false (items - i) 1024 w))
-
-  under : not (getD paths ((f + j) / 1024) false) ≡ false → allBelow i (λ k. pathName s (first + k)) ≡ true → allBelow (i + 1024) (λ k. pathName s (first + k)) ≡ true
-  under d g = run-more (pathName s) first i (f + j) (omega arith) (sym block ∙ not-false _ d) g
-
-  next-fits : i + 1024 ≤ items
-  next-fits = omega (arith, ltb-false (items - i) 1024 w)
-
-in-blocks : (s : List ℕ) (first items i f j : ℕ) → lists s ≤ 1048576 → first + items ≤ lists s → f ≡ first → j ≡ i → ltb (items - i) 1024 ≡ false → i < items → (f + j) / 1024 < 1024
-in-blocks s first items i f j m l ef ej w h = omega (arith, ltb-false (items - i) 1024 w)
-
-in-run : (s : List ℕ) (first items : ℕ) (r : Bool) → not r ≡ false → r ≡ inTable (lists s) 1 first items → first + items ≤ lists s
-in-run s first items r e f = omega (arith, leb-true (first + 1 * items) (lists s) (sym f ∙ not-false r e))
-
-name-is : (s : List ℕ) (first i f j : ℕ) (r : Bool) → f ≡ first → j ≡ i → r ≡ pathName s (f + j) → r ≡ pathName s (first + i)
-name-is s first i f j r a b e = e ∙ rw (a, b) refl
-
-all-of : (s : List ℕ) (first items i : ℕ) → first + items ≤ lists s → items ≤ i → i ≤ items → allBelow i (λ k. pathName s (first + k)) ≡ true → true ≡ pathRun s first items
-unfolding pathRun
-all-of s first items i l a b e = sym (pass (le-leb (first + 1 * items) (lists s) (omega arith)) (sym (all-end _ items i a b e)))
+name-is : (s : List ℕ) {first i f j : ℕ} {r : Bool} → r ≡ pathName s (f + j) → f ≡ first → j ≡ i → r ≡ pathName s (first + i)
+name-is s e a b = e ∙ rw (a, b) refl
 
 abbrev Inv-loop : tie.InvT-loop
-Inv-loop s undotted paths first items i₀ i = (i ≤ items) × (allBelow i (λ k. pathName s (first + k)) ≡ true) × (first + items ≤ lists s) × (lists s ≤ 1048576)
+Inv-loop s undotted paths first items i₀ i = Passing (λ x. pathName s (first + x)) items i × InLists s 1 first items
 
 abbrev μ-loop : tie.MeasureT-loop
 μ-loop s undotted paths first items i₀ i = items - i
@@ -61,11 +26,10 @@ in-lists-requires c κs = search needs
 
 returns : tie.Need-returns Inv-loop μ-loop
 unfolding pathRun
-returns c = sym (stop _ (sym (c .before .in-lists .ensures) ∙ not-true _ (c .if1 .taken)))
+returns c = search (fails-here, needs)
 
 loop-holds : tie.Need-loop-holds Inv-loop μ-loop
-unfolding allBelow
-loop-holds c = (search needs, refl, in-run _ _ _ _ (c .if1 .left) (c .before .in-lists .ensures), list-most _ (c .before .before .before .pre .1 .0) (c .before .before .before .pre .0))
+loop-holds c = (search (passing-none, needs), search (run-in, needs))
 
 wide-requires : tie.Need-wide-requires Inv-loop μ-loop
 wide-requires c κs = search needs
@@ -84,7 +48,7 @@ path-name-requires c κs = search needs
 
 returns-2 : tie.Need-returns-2 Inv-loop μ-loop
 unfolding pathRun
-returns-2 c = sym (skip _ (sym (record-no _ _ _ _ (c .if4 .taken) (name-is _ _ _ _ _ _ (c .before .before .before .before .wide .ensures) (c .before .before .before .wide2 .ensures) (c .before .path-name .ensures)) (c .before .before .before .before .before .loop-test .taken))))
+returns-2 c = search (fails-later, passing-no, name-is, needs)
 
 add-i : tie.Need-add-i Inv-loop μ-loop
 add-i c = search needs
@@ -93,26 +57,27 @@ loop-less : tie.Need-loop-less Inv-loop μ-loop
 loop-less c = search needs
 
 loop-again : tie.Need-loop-again Inv-loop μ-loop
-loop-again c = let i = c .before .before .before .before .before .before .loop .inv in (search needs, record-yes _ _ _ (c .if4 .left) (name-is _ _ _ _ _ _ (c .before .before .before .before .wide .ensures) (c .before .before .before .wide2 .ensures) (c .before .path-name .ensures)) (i .1), i .2, i .3)
+loop-again c = (search (passing-more, name-is, needs), search needs)
 
 element-copy-out-if5 : tie.Need-element-copy-out-if5 Inv-loop μ-loop
-element-copy-out-if5 c = let i = c .before .before .before .before .before .loop .inv in in-blocks _ _ _ _ _ _ (i .3) (i .2) (c .before .before .before .wide .ensures) (c .before .before .wide2 .ensures) (c .if3 .left) (c .before .before .before .before .loop-test .taken)
+element-copy-out-if5 c = search (block-in, needs)
 
 returns-3 : tie.Need-returns-3 Inv-loop μ-loop
 unfolding pathRun
-returns-3 c = let i = c .before .before .before .before .before .before .before .loop .inv in sym (skip _ (over _ _ _ _ _ _ _ (c .before .before .before .before .before .before .before .before .before .before .before .pre .1 .1 .1) (i .2) (c .before .before .before .before .before .wide .ensures) (c .before .before .before .before .wide2 .ensures) (c .before .before .before .if2 .left) (c .before .before .if3 .left) (c .before .before .before .before .before .before .loop-test .taken) (c .if5 .taken)))
+returns-3 c = search (fails-later, names-no, needs)
 
 add-i-2 : tie.Need-add-i-2 Inv-loop μ-loop
-add-i-2 c = let n = next-fits _ _ _ _ _ _ _ (c .before .before .before .before .before .before .before .before .before .before .before .pre .1 .1 .1) (c .before .before .before .before .before .before .before .loop .inv .2) (c .before .before .before .before .before .wide .ensures) (c .before .before .before .before .wide2 .ensures) (c .before .before .before .if2 .left) (c .before .before .if3 .left) (c .before .before .before .before .before .before .loop-test .taken) in omega arith
+add-i-2 c = omega (arith, ltb-false)
 
 loop-less-2 : tie.Need-loop-less-2 Inv-loop μ-loop
 loop-less-2 c = search needs
 
 loop-again-2 : tie.Need-loop-again-2 Inv-loop μ-loop
-loop-again-2 c = let i = c .before .before .before .before .before .before .before .loop .inv in (next-fits _ _ _ _ _ _ _ (c .before .before .before .before .before .before .before .before .before .before .before .pre .1 .1 .1) (i .2) (c .before .before .before .before .before .wide .ensures) (c .before .before .before .before .wide2 .ensures) (c .before .before .before .if2 .left) (c .before .before .if3 .left) (c .before .before .before .before .before .before .loop-test .taken), under _ _ _ _ _ _ _ (c .before .before .before .before .before .before .before .before .before .before .before .pre .1 .1 .1) (i .2) (c .before .before .before .before .before .wide .ensures) (c .before .before .before .before .wide2 .ensures) (c .before .before .before .if2 .left) (c .before .before .if3 .left) (c .before .before .before .before .before .before .loop-test .taken) (c .if5 .left) (i .1), i .2, i .3)
+loop-again-2 c = (search (names-more, needs), search needs)
 
 returns-4 : tie.Need-returns-4 Inv-loop μ-loop
-returns-4 c = let i = c .before .loop .inv in all-of _ _ _ _ (i .2) (c .loop-test .left) (i .0) (i .1)
+unfolding pathRun
+returns-4 c = search (run-whole, passing-all, needs)
 
 pub path-run-spec : {M : Type 1} → statement M
 path-run-spec =

@@ -1,3 +1,4 @@
+-- `both` says a and b
 use mathlib.Core.Path.{sym}
 use Rattle.laws.specs.Tests.{stop, after}
 use Rattle.stringcheck.proofs.both.Statement.{statement}

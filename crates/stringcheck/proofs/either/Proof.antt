@@ -1,3 +1,4 @@
+-- `either` says a or b
 use mathlib.Core.Path.{_≡_}
 use mathlib.Core.Bool.{Bool, true, false}
 use Rattle.meaning.specs.Tests.{_or_}

@@ -1,3 +1,4 @@
+-- Strings lie end to end and fill text
 use Prim.Native.Nat.{_+_, _-_, _<_, _≤_, ℕ}
 use borrow.Author.Needs.{needs}
 use borrow.Author.Tests.{eq-eqb, le-leb, lt-leb, ne-eqb}
@@ -12,36 +13,57 @@ use Rattle.meaning.specs.Check.{endBefore, endToEnd, placeRule}
 use Rattle.laws.specs.Bodies.{long}
 use Rattle.laws.specs.Tests.{all-more, all-stop, pass, skip, stop}
 use Rattle.meaning.specs.Tests.{_and_, allBelow}
-use Rattle.meaning.specs.Text.{before}
 use Rattle.stringcheck.proofs.end_to_end.Statement.{statement}
 use Rattle.stringcheck.proofs.end_to_end.Tie as tie
 
-ends-more : (s : List ℕ) (k a x b : ℕ) → a ≡ stringWord s k 0 → x ≡ b → b ≡ stringWord s k 1 → a + x ≡ endBefore s (k + 1)
-unfolding endBefore
-ends-more s k a x b e g f = rw (add-one k, e, g, f)
+-- the first k strings lie end to end, and the next has to start at `at`
+record Placed (s : List ℕ) (n room at k : ℕ) : Type 0 where
+  low : k ≤ n
+  text : room ≡ size s 6
+  near : room < 4294967296
+  inside : at ≤ room
+  last : at ≡ endBefore s k
+  passed : allBelow k (placeRule s) ≡ true
 
-passed : (s : List ℕ) (k at a b : ℕ) → at ≡ endBefore s k → a ≡ at → a ≡ stringWord s k 0 → b ≡ stringWord s k 1 → at + b ≤ size s 6 → placeRule s k ≡ true
-unfolding placeRule
-passed s k at a b e f g h l = pass (eq-eqb _ _ (sym g ∙ f ∙ e)) (le-leb (stringWord s k 0 + stringWord s k 1) (size s 6) (omega arith))
+placed-none : {s : List ℕ} {z room n : ℕ} → z ≡ size s 6 → room ≡ z → z < 4294967296 → Placed s n room 0 0
+unfolding endBefore allBelow
+placed-none e f h = record { low = omega arith; text = f ∙ e; near = omega arith; inside = omega arith; last = refl; passed = refl }
 
-past : (s : List ℕ) (k at a b : ℕ) → a ≡ at → a ≡ stringWord s k 0 → b ≡ stringWord s k 1 → size s 6 < at + b → placeRule s k ≡ false
-unfolding placeRule
-past s k at a b f g h l = skip _ (lt-leb (stringWord s k 0 + stringWord s k 1) (size s 6) (omega arith))
+module _ {s : List ℕ} {n room at k : ℕ} (i : Placed s n room at k) (strs : n ≡ strings s) where
+  all-placed : n ≤ k → eqb at room ≡ endToEnd s
+  unfolding endToEnd _and_
+  all-placed h =
+      let e : k ≡ strings s = omega (arith, i .low) in
+      simp (rw e at (i .passed), rw e at (i .last), i .text)
 
-misplaced : (s : List ℕ) (k at a : ℕ) → at ≡ endBefore s k → (a ≡ at → ⊥) → a ≡ stringWord s k 0 → placeRule s k ≡ false
-unfolding placeRule
-misplaced s k at a e f g = stop _ (ne-eqb _ _ (λ q. f (g ∙ q ∙ sym e)))
+  module _ (lt : k < n) where
+    bad : placeRule s k ≡ false → false ≡ endToEnd s
+    unfolding endToEnd
+    bad f = sym (stop _ (all-stop (placeRule s) (strings s) k (omega arith) f))
 
-filled : (s : List ℕ) (k at r : ℕ) → k ≡ strings s → r ≡ size s 6 → at ≡ endBefore s k → allBelow k (placeRule s) ≡ true → eqb at r ≡ endToEnd s
-unfolding endToEnd _and_
-filled s k at r e f g h = let h′ = rw e at h in let g′ = rw e at g in simp (h′, g′, f)
+    module _ {w begin : ℕ} (ew : w ≡ stringWord s k 0) (eb : begin ≡ w) where
+      misplaced : (begin ≡ at → ⊥) → false ≡ endToEnd s
+      unfolding placeRule
+      misplaced f = bad (stop _ (ne-eqb _ _ (λ q. f (eb ∙ ew ∙ q ∙ sym (i .last)))))
 
-bad : (s : List ℕ) (n k : ℕ) → n ≡ strings s → k < n → placeRule s k ≡ false → false ≡ endToEnd s
-unfolding endToEnd
-bad s n k e h f = sym (stop _ (all-stop (placeRule s) (strings s) k (omega arith) f))
+      past : {v bytes : ℕ} → begin ≡ at → v ≡ stringWord s k 1 → bytes ≡ v → room < at + bytes → false ≡ endToEnd s
+      unfolding placeRule
+      past here ev el l = bad (skip _ (lt-leb (stringWord s k 0 + stringWord s k 1) (size s 6) (omega (arith, i .text))))
+
+placed-more : {s : List ℕ} {n room at k begin w bytes v : ℕ} → Placed s n room at k → k < n → begin ≡ at → begin ≡ w → w ≡ stringWord s k 0 → bytes ≡ v → v ≡ stringWord s k 1 → at + bytes ≤ room → Placed s n room (at + bytes) (k + 1)
+unfolding placeRule endBefore
+placed-more {s} {k = k} i lt here eb ew el ev l =
+    record {
+      low = omega arith;
+      text = i .text;
+      near = i .near;
+      inside = l;
+      last = rw (add-one k, sym here, eb, ew, el, ev) refl;
+      passed = all-more _ k (i .passed) (pass (eq-eqb _ _ (sym (eb ∙ ew) ∙ here ∙ i .last)) (le-leb (stringWord s k 0 + stringWord s k 1) (size s 6) (omega (arith, i .text))));
+    }
 
 abbrev Inv-loop : tie.InvT-loop
-Inv-loop s n room at₀ k₀ at k = (k ≤ n) × (n ≡ strings s) × (room ≡ size s 6) × (room < 4294967296) × (at ≤ room) × (at ≡ endBefore s k) × (allBelow k (placeRule s) ≡ true)
+Inv-loop s n room at₀ k₀ at k = Placed s n room at k
 
 abbrev μ-loop : tie.MeasureT-loop
 μ-loop s n room at₀ k₀ at k = n - k
@@ -56,8 +78,7 @@ wide-requires : tie.Need-wide-requires Inv-loop μ-loop
 wide-requires c κs = search needs
 
 loop-holds : tie.Need-loop-holds Inv-loop μ-loop
-unfolding endBefore allBelow
-loop-holds c = (search needs, search needs, search needs, search needs, search needs, refl, refl)
+loop-holds c = search (placed-none, needs)
 
 string-word-requires : tie.Need-string-word-requires Inv-loop μ-loop
 string-word-requires c κs = search needs
@@ -66,7 +87,7 @@ wide-requires-2 : tie.Need-wide-requires-2 Inv-loop μ-loop
 wide-requires-2 c κs = search needs
 
 returns : tie.Need-returns Inv-loop μ-loop
-returns c = let i = c .before .before .before .before .loop .inv in bad _ _ _ (i .1) (c .before .before .before .loop-test .taken) (misplaced _ _ _ _ (i .5) (c .if1 .taken) (c .before .wide2 .ensures ∙ c .before .before .string-word .ensures))
+returns c = search (misplaced, needs)
 
 string-word-requires-2 : tie.Need-string-word-requires-2 Inv-loop μ-loop
 string-word-requires-2 c κs = search needs
@@ -78,7 +99,7 @@ add-at : tie.Need-add-at Inv-loop μ-loop
 add-at c = search needs
 
 returns-2 : tie.Need-returns-2 Inv-loop μ-loop
-returns-2 c = let i = c .before .before .before .before .before .before .before .loop .inv in bad _ _ _ (i .1) (c .before .before .before .before .before .before .loop-test .taken) (past _ _ _ _ _ (c .before .before .before .if1 .left) (c .before .before .before .before .wide2 .ensures ∙ c .before .before .before .before .before .string-word .ensures) (c .before .wide3 .ensures ∙ c .before .before .string-word2 .ensures) (omega arith))
+returns-2 c = search (past, needs)
 
 add-k : tie.Need-add-k Inv-loop μ-loop
 add-k c = search needs
@@ -87,20 +108,10 @@ loop-less : tie.Need-loop-less Inv-loop μ-loop
 loop-less c = search needs
 
 loop-again : tie.Need-loop-again Inv-loop μ-loop
-loop-again c =
-    let i = c .before .before .before .before .before .before .before .loop .inv in
-    let a = c .before .before .before .before .wide2 .ensures ∙ c .before .before .before .before .before .string-word .ensures in (
-      search needs,
-      i .1,
-      i .2,
-      i .3,
-      search needs,
-      ends-more _ _ _ _ _ (sym (c .before .before .before .if1 .left) ∙ a) (c .before .wide3 .ensures) (c .before .before .string-word2 .ensures),
-      all-more _ _ (i .6) (passed _ _ _ _ _ (i .5) (c .before .before .before .if1 .left) a (c .before .wide3 .ensures ∙ c .before .before .string-word2 .ensures) (omega arith)),
-    )
+loop-again c = search (placed-more, needs)
 
 returns-3 : tie.Need-returns-3 Inv-loop μ-loop
-returns-3 c = let i = c .before .loop .inv in filled _ _ _ _ (omega arith) (i .2) (i .5) (i .6)
+returns-3 c = search (all-placed, needs)
 
 pub end-to-end-spec : {M : Type 1} → statement M
 end-to-end-spec =

@@ -1,19 +1,26 @@
-use Prim.Native.Nat.{_-_, _≤_}
+-- The strings in which a byte does not occur, as a table filled from the front
+use Prim.Native.Nat.{_-_, _≤_, ℕ}
 use borrow.Author.Needs.{needs}
-use lib.ListN.{length}
-use mathlib.Core.Bool.{false}
+use mathlib.Core.Bool.{false, Bool, true}
 use mathlib.Core.Path.{_∙_, _≡_, ap}
 use native.Mathlib.Omega.{arith}
 use Rattle.meaning.specs.Case.{strings, text}
-use Rattle.laws.specs.Tests.{Filled, filled-none}
-use Rattle.meaning.specs.Text.{before, free}
+use Rattle.meaning.specs.Text.{free}
 use Rattle.stringcheck.specs.Mosts.{string-most}
-use Rattle.stringcheck.specs.Tables.{fill-at, filled-all}
+use Rattle.stringcheck.specs.Tables.{Filling, filling-none, filling-more, filling-all}
+use mathlib.Core.List.{List}
+use Rattle.meaning.specs.Check.{mosts}
 use Rattle.stringcheck.proofs.free_strings.Statement.{statement}
 use Rattle.stringcheck.proofs.free_strings.Tie as tie
 
+few : (s : List ℕ) {n : ℕ} → mosts s ≡ true → n ≡ strings s → n ≤ 16384
+few s m e = omega (arith, string-most s m)
+
+free-of : (s t : List ℕ) (k b : ℕ) {r : Bool} → r ≡ free b t → t ≡ text s k → r ≡ free b (text s k)
+free-of s t k b e f = e ∙ ap (free b) f
+
 abbrev Inv-loop : tie.InvT-loop
-Inv-loop s b n out₀ k₀ out k = (k ≤ n) × (n ≡ strings s) × (n ≤ 16384) × (length out ≡ 16384) × Filled false (λ n. free b (text s n)) out k
+Inv-loop s b n out₀ k₀ out k = Filling false (λ n. free b (text s n)) 16384 n out k
 
 abbrev μ-loop : tie.MeasureT-loop
 μ-loop s b n out₀ k₀ out k = n - k
@@ -22,7 +29,7 @@ string-count-requires : tie.Need-string-count-requires Inv-loop μ-loop
 string-count-requires c κs = search needs
 
 loop-holds : tie.Need-loop-holds Inv-loop μ-loop
-loop-holds c = (search needs, search needs, omega (arith, string-most _ (c .before .before .pre .1 .0)), search needs, filled-none)
+loop-holds c = search (filling-none, few, needs)
 
 wide-requires : tie.Need-wide-requires Inv-loop μ-loop
 wide-requires c κs = search needs
@@ -43,12 +50,10 @@ loop-less : tie.Need-loop-less Inv-loop μ-loop
 loop-less c = search needs
 
 loop-again : tie.Need-loop-again Inv-loop μ-loop
-loop-again c =
-    let i = c .before .before .before .before .loop .inv in
-    (search needs, i .1, i .2, search needs, fill-at _ (c .before .before .wide .ensures) (omega arith) (i .4) (c .is-free .ensures ∙ ap (free _) (c .before .text-of .ensures)))
+loop-again c = search (filling-more, free-of, needs)
 
 returns : tie.Need-returns Inv-loop μ-loop
-returns c = let i = c .before .loop .inv in filled-all _ (i .1) (c .loop-test .left) (i .0) (i .4)
+returns c = search (filling-all, needs)
 
 pub free-strings-spec : {M : Type 1} → statement M
 free-strings-spec =

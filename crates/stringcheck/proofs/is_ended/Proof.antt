@@ -1,3 +1,4 @@
+-- Nothing is due any more, by what is due
 use borrow.Author.Needs.{needs}
 use Rattle.meaning.specs.Text.{ended}
 use Rattle.stringcheck.proofs.is_ended.Statement.{statement}

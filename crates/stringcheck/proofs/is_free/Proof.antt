@@ -1,3 +1,4 @@
+-- A byte does not occur in a text: byte by byte
 use borrow.Author.Needs.{needs}
 use mathlib.Core.Path.{_≡_, refl, sym, _∙_, ap}
 use mathlib.Core.Bool.{true, false, not}
@@ -18,15 +19,16 @@ peel : (t : List ℕ) (b i : ℕ) → i < length t → free b (drop i t) ≡ (no
 unfolding free
 peel t b i h = rw (add-one i, drop-cons t i 0 h)
 
-found : (t : List ℕ) (b i : ℕ) → i < length t → getD t i 0 ≡ b → free b (drop i t) ≡ false
-found t b i h e = peel t b i h ∙ stop _ (ap not (eq-eqb _ _ e))
+module _ (t : List ℕ) (b i : ℕ) (is : free b (drop i t) ≡ free b t) where
+  found : i < length t → getD t i 0 ≡ b → false ≡ free b t
+  found h e = sym (sym is ∙ peel t b i h ∙ stop _ (ap not (eq-eqb _ _ e)))
 
-other : (t : List ℕ) (b i : ℕ) → i < length t → (getD t i 0 ≡ b → ⊥) → free b (drop i t) ≡ free b (drop (i + 1) t)
-other t b i h e = peel t b i h ∙ after (ap not (ne-eqb _ _ e))
+  other : i < length t → (getD t i 0 ≡ b → ⊥) → free b (drop (i + 1) t) ≡ free b t
+  other h e = sym (peel t b i h ∙ after (ap not (ne-eqb _ _ e))) ∙ is
 
-ends : (t : List ℕ) (b i : ℕ) → length t ≤ i → true ≡ free b (drop i t)
-unfolding free
-ends t b i h = rw (drop-of-length-le t h)
+  ends : length t ≤ i → true ≡ free b t
+  unfolding free
+  ends h = rw (drop-of-length-le t h) at is
 
 abbrev Inv-loop : tie.InvT-loop
 Inv-loop b t i₀ i = (i ≤ length t) × (free b (drop i t) ≡ free b t)
@@ -41,7 +43,7 @@ shared-slice-read-if1 : tie.Need-shared-slice-read-if1 Inv-loop μ-loop
 shared-slice-read-if1 c = search needs
 
 returns : tie.Need-returns Inv-loop μ-loop
-returns c = sym (found _ _ _ (c .before .before .loop-test .taken) (c .if1 .taken)) ∙ c .before .before .before .loop .inv .1
+returns c = search (found, needs)
 
 add-i : tie.Need-add-i Inv-loop μ-loop
 add-i c = search needs
@@ -50,10 +52,10 @@ loop-less : tie.Need-loop-less Inv-loop μ-loop
 loop-less c = search needs
 
 loop-again : tie.Need-loop-again Inv-loop μ-loop
-loop-again c = (search needs, sym (other _ _ _ (c .before .before .loop-test .taken) (c .if1 .left)) ∙ c .before .before .before .loop .inv .1)
+loop-again c = search (other, needs)
 
 returns-2 : tie.Need-returns-2 Inv-loop μ-loop
-returns-2 c = ends _ _ _ (c .loop-test .left) ∙ c .before .loop .inv .1
+returns-2 c = search (ends, needs)
 
 pub is-free-spec : {M : Type 1} → statement M
 is-free-spec =

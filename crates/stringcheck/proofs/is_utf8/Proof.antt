@@ -1,5 +1,6 @@
+-- A text is UTF-8: what is due after each byte, and nothing at its end
 use borrow.Author.Needs.{needs}
-use mathlib.Core.Path.{_≡_, refl, sym, _∙_}
+use mathlib.Core.Path.{_≡_, sym, _∙_}
 use mathlib.Core.Bool.{Bool}
 use mathlib.Core.List.{List}
 use Prim.Native.Nat.{ℕ, _≤_, _<_, _+_, _-_}
@@ -12,16 +13,17 @@ use Rattle.meaning.specs.Text.{utf8, next, ended}
 use Rattle.stringcheck.proofs.is_utf8.Statement.{statement}
 use Rattle.stringcheck.proofs.is_utf8.Tie as tie
 
-starts : (t : List ℕ) → utf8 Nothing (drop 0 t) ≡ utf8 Nothing t
-starts t = refl
-
-steps : (t : List ℕ) (d e : Due) (i : ℕ) → i < length t → e ≡ next d (getD t i 0) → utf8 d (drop i t) ≡ utf8 e (drop (i + 1) t)
+peel : (t : List ℕ) (d : Due) (i : ℕ) {e : Due} → i < length t → e ≡ next d (getD t i 0) → utf8 d (drop i t) ≡ utf8 e (drop (i + 1) t)
 unfolding utf8
-steps t d e i h f = rw (f, add-one i, drop-cons t i 0 h)
+peel t d i h f = rw (f, add-one i, drop-cons t i 0 h)
 
-ends : (t : List ℕ) (d : Due) (i : ℕ) (r : Bool) → length t ≤ i → r ≡ ended d → utf8 d (drop i t) ≡ utf8 Nothing t → r ≡ utf8 Nothing t
-unfolding utf8
-ends t d i r h e f = e ∙ rw (drop-of-length-le t h) at f
+module _ (t : List ℕ) (d : Due) (i : ℕ) (is : utf8 d (drop i t) ≡ utf8 Nothing t) where
+  steps : {e : Due} → i < length t → e ≡ next d (getD t i 0) → utf8 e (drop (i + 1) t) ≡ utf8 Nothing t
+  steps h f = sym (peel t d i h f) ∙ is
+
+  ends : {r : Bool} → length t ≤ i → r ≡ ended d → r ≡ utf8 Nothing t
+  unfolding utf8
+  ends h e = e ∙ rw (drop-of-length-le t h) at is
 
 abbrev Inv-loop : tie.InvT-loop
 Inv-loop t d₀ i₀ d i = (i ≤ length t) × (utf8 d (drop i t) ≡ utf8 Nothing t)
@@ -30,7 +32,7 @@ abbrev μ-loop : tie.MeasureT-loop
 μ-loop t d₀ i₀ d i = length t - i
 
 loop-holds : tie.Need-loop-holds Inv-loop μ-loop
-loop-holds c = (search needs, starts _)
+loop-holds c = search needs
 
 shared-slice-read-next-due : tie.Need-shared-slice-read-next-due Inv-loop μ-loop
 shared-slice-read-next-due c = search needs
@@ -45,13 +47,13 @@ loop-less : tie.Need-loop-less Inv-loop μ-loop
 loop-less c = search needs
 
 loop-again : tie.Need-loop-again Inv-loop μ-loop
-loop-again c = (search needs, sym (steps _ _ _ _ (c .before .before .loop-test .taken) (c .next-due .ensures)) ∙ c .before .before .before .loop .inv .1)
+loop-again c = search (steps, needs)
 
 is-ended-requires : tie.Need-is-ended-requires Inv-loop μ-loop
 is-ended-requires c κs = search needs
 
 returns : tie.Need-returns Inv-loop μ-loop
-returns c = ends _ _ _ _ (c .before .loop-test .left) (c .is-ended .ensures) (c .before .before .loop .inv .1)
+returns c = search (ends, needs)
 
 pub is-utf8-spec : {M : Type 1} → statement M
 is-utf8-spec =

@@ -1,3 +1,4 @@
+-- How many words the lists have
 use borrow.Author.Needs.{needs}
 use Rattle.laws.specs.Bodies.{long}
 use Rattle.stringcheck.proofs.list_count.Statement.{statement}

@@ -1,3 +1,4 @@
+-- How many members there are
 use borrow.Author.Needs.{needs}
 use Rattle.laws.specs.Bodies.{long}
 use Rattle.stringcheck.proofs.member_count.Statement.{statement}

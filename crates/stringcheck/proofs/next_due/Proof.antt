@@ -1,9 +1,14 @@
+-- What is due after one more byte, by what was due
 use borrow.Author.Needs.{needs}
-use mathlib.Core.Path.{sym, _∙_, ap}
+use mathlib.Core.Path.{sym, _∙_, ap, _≡_}
 use Rattle.meaning.specs.declared.Due.{Due}
 use Rattle.meaning.specs.Text.{next}
+use Prim.Native.Nat.{ℕ}
 use Rattle.stringcheck.proofs.next_due.Statement.{statement}
 use Rattle.stringcheck.proofs.next_due.Tie as tie
+
+due-of : {d is r : Due} (b : ℕ) → d ≡ is → r ≡ next is b → r ≡ next d b
+due-of b e f = f ∙ sym (ap (λ (d : Due). next d b) e)
 
 enum-told : tie.Need-enum-told
 enum-told c = search needs
@@ -58,35 +63,35 @@ enum-told-9 c = search needs
 
 returns : tie.Need-returns
 unfolding next
-returns c = c .first-due .ensures ∙ sym (ap (λ (d : Due). next d (c .before .before .before .args .b)) (c .before .enum-told .given .1))
+returns c = search (due-of, needs)
 
 returns-2 : tie.Need-returns-2
 unfolding next
-returns-2 c = c .follow-due .ensures ∙ sym (ap (λ (d : Due). next d (c .before .before .before .args .b)) (c .before .enum-told2 .given .1))
+returns-2 c = search (due-of, needs)
 
 returns-3 : tie.Need-returns-3
 unfolding next
-returns-3 c = c .follow-due2 .ensures ∙ sym (ap (λ (d : Due). next d (c .before .before .before .args .b)) (c .before .enum-told3 .given .1))
+returns-3 c = search (due-of, needs)
 
 returns-4 : tie.Need-returns-4
 unfolding next
-returns-4 c = c .follow-due3 .ensures ∙ sym (ap (λ (d : Due). next d (c .before .before .before .args .b)) (c .before .enum-told4 .given .1))
+returns-4 c = search (due-of, needs)
 
 returns-5 : tie.Need-returns-5
 unfolding next
-returns-5 c = c .follow-due4 .ensures ∙ sym (ap (λ (d : Due). next d (c .before .before .before .args .b)) (c .before .enum-told5 .given .1))
+returns-5 c = search (due-of, needs)
 
 returns-6 : tie.Need-returns-6
 unfolding next
-returns-6 c = c .follow-due5 .ensures ∙ sym (ap (λ (d : Due). next d (c .before .before .before .args .b)) (c .before .enum-told6 .given .1))
+returns-6 c = search (due-of, needs)
 
 returns-7 : tie.Need-returns-7
 unfolding next
-returns-7 c = c .follow-due6 .ensures ∙ sym (ap (λ (d : Due). next d (c .before .before .before .args .b)) (c .before .enum-told7 .given .1))
+returns-7 c = search (due-of, needs)
 
 returns-8 : tie.Need-returns-8
 unfolding next
-returns-8 c = c .follow-due7 .ensures ∙ sym (ap (λ (d : Due). next d (c .before .before .before .args .b)) (c .before .enum-told8 .given .1))
+returns-8 c = search (due-of, needs)
 
 returns-9 : tie.Need-returns-9
 unfolding next

@@ -1,3 +1,4 @@
+-- How many nodes there are
 use borrow.Author.Needs.{needs}
 use Rattle.laws.specs.Bodies.{long}
 use Rattle.stringcheck.proofs.node_count.Statement.{statement}

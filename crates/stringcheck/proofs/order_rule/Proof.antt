@@ -1,3 +1,4 @@
+-- A string comes after the one before it; the first after none
 use Prim.Native.Nat.{_-_, suc, zero, ℕ}
 use borrow.Author.Needs.{needs}
 use mathlib.Core.Bool.{Bool, true}
@@ -11,17 +12,17 @@ use Rattle.meaning.specs.Text.{before}
 use Rattle.stringcheck.proofs.order_rule.Statement.{statement}
 use Rattle.stringcheck.proofs.order_rule.Tie as tie
 
-first-of : (s : List ℕ) (k : ℕ) → k ≡ 0 → true ≡ orderRule s k
+first-of : (s : List ℕ) {k : ℕ} → k ≡ 0 → true ≡ orderRule s k
 unfolding orderRule rises
-first-of s k e = rw e
+first-of s e = rw e
 
-later : (s x y : List ℕ) (k : ℕ) (r : Bool) → (k ≡ 0 → ⊥) → r ≡ before x y → x ≡ text s (k - 1) → y ≡ text s k → r ≡ orderRule s k
+later : (s : List ℕ) {x y : List ℕ} {k : ℕ} {r : Bool} → r ≡ before x y → x ≡ text s (k - 1) → y ≡ text s k → (k ≡ 0 → ⊥) → r ≡ orderRule s k
 unfolding orderRule rises
-later s x y zero r h e f g = absurd (h refl)
-later s x y (suc k) r h e f g = let q : suc k - 1 ≡ k = omega arith in e ∙ rw (f, g, q)
+later s {k = zero} e f g h = absurd (h refl)
+later s {k = suc k} e f g h = let q : suc k - 1 ≡ k = omega arith in e ∙ rw (f, g, q)
 
 returns : tie.Need-returns
-returns c = first-of _ _ (c .if1 .taken)
+returns c = search (first-of, needs)
 
 sub-t5 : tie.Need-sub-t5
 sub-t5 c = search needs
@@ -36,7 +37,7 @@ is-before-requires : tie.Need-is-before-requires
 is-before-requires c κs = search needs
 
 returns-2 : tie.Need-returns-2
-returns-2 c = later _ _ _ _ _ (c .before .before .before .if1 .left) (c .is-before .ensures) (c .before .before .text-of .ensures) (c .before .text-of2 .ensures)
+returns-2 c = search (later, needs)
 
 pub order-rule-spec : {M : Type 1} → statement M
 order-rule-spec =

@@ -1,3 +1,4 @@
+-- How many points there are
 use borrow.Author.Needs.{needs}
 use Rattle.laws.specs.Bodies.{long}
 use Rattle.stringcheck.proofs.point_count.Statement.{statement}

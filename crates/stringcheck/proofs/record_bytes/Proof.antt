@@ -1,3 +1,4 @@
+-- How many bytes a record of each table has
 use borrow.Author.Needs.{needs}
 use mathlib.Core.Path.{_≡_, sym, ap}
 use mathlib.Core.Logic.{_⊎_, inl, inr, ⊎-elim}
@@ -9,11 +10,13 @@ use Rattle.meaning.specs.Check.{recordBytes}
 use Rattle.stringcheck.proofs.record_bytes.Statement.{statement}
 use Rattle.stringcheck.proofs.record_bytes.Tie as tie
 
-last : (k : ℕ) → k < 7 → (((k ≡ 0) ⊎ (k ≡ 2)) → ⊥) → (k ≡ 1 → ⊥) → (k ≡ 3 → ⊥) → (k ≡ 4 → ⊥) → (k ≡ 5 → ⊥) → k ≡ 6
+last : (k : ℕ) → k < 7 → (((k ≡ 0) ⊎ (k ≡ 2)) → ⊥) → (k ≡ 1 → ⊥) → (k ≡ 3 → ⊥) → (k ≡ 4 → ⊥) → (k ≡ 5 → ⊥) → 1 ≡ recordBytes k
+unfolding pick
 last k h a b c d e =
     let a0 : k ≡ 0 → ⊥ = λ q. a (inl q) in
     let a2 : k ≡ 2 → ⊥ = λ q. a (inr q) in
-    omega arith
+    let six : k ≡ 6 = omega arith in
+    sym (ap recordBytes six)
 
 returns : tie.Need-returns
 unfolding pick
@@ -36,8 +39,7 @@ unfolding pick
 returns-5 c = search needs
 
 returns-6 : tie.Need-returns-6
-unfolding pick
-returns-6 c = let r = c .match .rest in (sym (ap recordBytes (last (c .before .args .k) (c .before .pre) (r .0 .0 .0 .0 .1) (r .0 .0 .0 .1) (r .0 .0 .1) (r .0 .1) (r .1))), lit< tt)
+returns-6 c = search (last, needs)
 
 pub record-bytes-spec : {M : Type 1} → statement M
 record-bytes-spec = tie.close (tie.spec returns returns-2 returns-3 returns-4 returns-5 returns-6)

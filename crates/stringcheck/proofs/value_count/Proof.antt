@@ -1,3 +1,4 @@
+-- How many values there are
 use borrow.Author.Needs.{needs}
 use Rattle.laws.specs.Bodies.{long}
 use Rattle.stringcheck.proofs.value_count.Statement.{statement}

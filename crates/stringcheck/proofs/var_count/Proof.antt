@@ -1,3 +1,4 @@
+-- How many variables there are
 use borrow.Author.Needs.{needs}
 use Rattle.laws.specs.Bodies.{long}
 use Rattle.stringcheck.proofs.var_count.Statement.{statement}

@@ -1,3 +1,4 @@
+-- A node is read of its words, or is Broken beyond the table
 use borrow.Author.Needs.{needs}
 use lib.Dec.{lit<}
 use Rattle.laws.specs.Bodies.{long}

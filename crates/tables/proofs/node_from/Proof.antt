@@ -1,3 +1,4 @@
+-- A node from its kind and its words
 use borrow.Author.Needs.{needs}
 use Rattle.meaning.specs.Case.{nodeFrom, under}
 use Rattle.meaning.specs.Tests.{choose}

@@ -1,10 +1,24 @@
+-- A string's bytes are a part of the file
 use borrow.Author.Needs.{needs}
 use native.Mathlib.Omega.{arith}
-use mathlib.Core.Path.{_∙_}
+use mathlib.Core.Path.{_∙_, _≡_}
 use Rattle.laws.specs.Bodies.{long}
 use Rattle.tables.specs.Laws.{string-fits, text-read}
+use Prim.Native.Nat.{ℕ, _+_, _-_, _≤_}
+use mathlib.Core.Bool.{true}
+use mathlib.Core.List.{List}
+use lib.ListN.{length, take, drop}
+use Rattle.meaning.specs.Case.{offset, stringWord, text}
+use Rattle.meaning.specs.Check.{bodies, endToEnd}
 use Rattle.tables.proofs.text_of.Statement.{statement}
 use Rattle.tables.proofs.text_of.Tie as tie
+
+module _ (s : List ℕ) (n : ℕ) {o p a d b e : ℕ} (ep : p ≡ o) (eo : o ≡ offset s 6) (ed : d ≡ a) (ea : a ≡ stringWord s n 0) (ee : e ≡ b) (eb : b ≡ stringWord s n 1) (h : bodies s ≡ true) (placed : endToEnd s ≡ true) where
+  end-in : p + d + e ≤ length s
+  end-in = omega (arith, string-fits s h placed n)
+
+  bytes-are : take (p + d + e - (p + d)) (drop (p + d) s) ≡ text s n
+  bytes-are = text-read s h placed n p d e (ep ∙ eo) (ed ∙ ea) (ee ∙ eb)
 
 offset-of-requires : tie.Need-offset-of-requires
 offset-of-requires c κs = search (long, needs)
@@ -37,10 +51,10 @@ part-result-start : tie.Need-part-result-start
 part-result-start c = search needs
 
 part-result-end : tie.Need-part-result-end
-part-result-end c = let a = c .before .before .before .before .before .before .before in omega (arith, string-fits _ (a .pre .0) (a .pre .1) (a .args .n .0))
+part-result-end c = search (end-in, needs)
 
 returns : tie.Need-returns
-returns c = let p = c .before .before .before .before .before .before .before .before .pre in text-read _ (p .0) (p .1) _ _ _ _ (c .before .before .before .before .before .wide .ensures ∙ c .before .before .before .before .before .before .offset-of .ensures) (c .before .before .before .wide2 .ensures ∙ c .before .before .before .before .string-word .ensures) (c .before .wide3 .ensures ∙ c .before .before .string-word2 .ensures)
+returns c = search (bytes-are, needs)
 
 pub text-of-spec : {M : Type 1} → statement M
 text-of-spec =

@@ -1,3 +1,4 @@
+-- A value is read of its words
 use borrow.Author.Needs.{needs}
 use Rattle.tables.proofs.Choices.{value-read-at}
 use Rattle.tables.proofs.value_at.Statement.{statement}
@@ -16,7 +17,7 @@ value-from-requires : tie.Need-value-from-requires
 value-from-requires c κs = search needs
 
 returns : tie.Need-returns
-returns c = value-read-at _ _ _ _ _ _ (c .before .before .before .value-word .ensures) (c .before .before .value-word2 .ensures) (c .before .value-word3 .ensures) (c .value-from .ensures)
+returns c = search (value-read-at, needs)
 
 pub value-at-spec : {M : Type 1} → statement M
 value-at-spec =

@@ -1,20 +1,19 @@
+-- An item of an array: no name, and a lower value
 use Prim.Native.Nat.{_+_, ℕ}
 use borrow.Author.Needs.{needs}
 use lib.Dec.{eqb, ltb}
 use mathlib.Core.Bool.{Bool}
 use mathlib.Core.List.{List}
-use mathlib.Core.Path.{_∙_, _≡_, refl}
+use mathlib.Core.Path.{_∙_, _≡_}
 use Rattle.meaning.specs.Case.{memberWord}
 use Rattle.meaning.specs.Check.{arrayItem}
-use Rattle.laws.specs.Tests.{both}
 use Rattle.meaning.specs.Tests.{_and_}
-use Rattle.meaning.specs.Text.{before}
 use Rattle.valuecheck.proofs.array_item.Statement.{statement}
 use Rattle.valuecheck.proofs.array_item.Tie as tie
 
-whole : (s : List ℕ) (v first i f j at n h : ℕ) (r : Bool) → f ≡ first → j ≡ i → at ≡ f + j → n ≡ memberWord s at 0 → h ≡ memberWord s at 1 → r ≡ (eqb n 4294967295 and ltb h v) → r ≡ arrayItem s v first i
+item-read : (s : List ℕ) (v : ℕ) {first i f j n h : ℕ} {r : Bool} → r ≡ (eqb n 4294967295 and ltb h v) → n ≡ memberWord s (f + j) 0 → h ≡ memberWord s (f + j) 1 → f ≡ first → j ≡ i → r ≡ arrayItem s v first i
 unfolding arrayItem
-whole s v first i f j at n h r a b c d e g = g ∙ rw (d, e, c, a, b)
+item-read s v g d e a b = g ∙ rw (d, e, a, b)
 
 wide-requires : tie.Need-wide-requires
 wide-requires c κs = search needs
@@ -35,7 +34,7 @@ both-requires : tie.Need-both-requires
 both-requires c κs = search needs
 
 returns : tie.Need-returns
-returns c = whole _ _ _ _ _ _ _ _ _ _ (c .before .before .before .before .wide .ensures) (c .before .before .before .wide2 .ensures) refl (c .before .before .member-word .ensures) (c .before .member-word2 .ensures) (c .both .ensures)
+returns c = search (item-read, needs)
 
 pub array-item-spec : {M : Type 1} → statement M
 array-item-spec =

@@ -1,51 +1,44 @@
+-- Every item of an array passes, a block at once where what is kept of it says so
 use Prim.Native.Nat.{_%_, _*_, _+_, _-_, _/_, _<_, _≤_, ℕ}
 use borrow.Author.Needs.{needs}
-use borrow.Author.Tests.{ltb-false}
+use borrow.Author.Tests.{ltb-false, lt-ltb, le-ltb}
 use lib.Dec.{ltb}
 use lib.ListN.{getD}
 use mathlib.Core.Bool.{false, true}
 use mathlib.Core.List.{List}
-use mathlib.Core.Path.{_≡_}
+use mathlib.Core.Path.{_≡_, refl, sym, _∙_}
 use native.Mathlib.Omega.{arith}
 use Rattle.meaning.specs.Case.{members}
 use Rattle.meaning.specs.Check.{arrayItem, bodies, mosts}
-use Rattle.laws.specs.Tests.{Filled, all-end, record-no, record-yes}
+use Rattle.laws.specs.Tests.{Filled, Passing, passing-none, passing-more, passing-no, passing-all, passing-block, passing-out}
 use Rattle.meaning.specs.Tests.{allBelow}
-use Rattle.meaning.specs.Text.{before}
 use Rattle.stringcheck.specs.Mosts.{member-most}
 use Rattle.valuecheck.specs.Blocks.{topOf}
-use Rattle.valuecheck.specs.Laws.{array-more, array-stop}
+use Rattle.valuecheck.specs.Laws.{array-top}
 use Rattle.valuecheck.proofs.array_items.Statement.{statement}
 use Rattle.valuecheck.proofs.array_items.Tie as tie
 
-module _ (s tops : List ℕ) (v first items i f j : ℕ) (t : Filled 0 (λ b. topOf s (512 * b)) tops (members s / 512)) (l : first + items ≤ members s) (ef : f ≡ first) (ej : j ≡ i) (a : (f + j) % 512 ≡ 0) (w : ltb (items - i) 512 ≡ false) (h : i < items) (fits : v < 4294967296) where
-  here : 512 * ((f + j) / 512) ≡ f + j
-  here = omega arith
+module _ (s : List ℕ) {tops : List ℕ} (v : ℕ) {first items i f j : ℕ} (p : Passing (arrayItem s v first) items i) (t : Filled 0 (λ b. topOf s (512 * b)) tops (members s / 512)) (l : first + items ≤ members s) (ef : f ≡ first) (ej : j ≡ i) (a : (f + j) % 512 ≡ 0) (w : ltb (items - i) 512 ≡ false) (h : i < items) (fits : v < 4294967296) where
+  top : ltb (getD tops ((f + j) / 512) 0) v ≡ allBelow 512 (λ j. arrayItem s v first (i + j))
+  top = array-top s v first i ((f + j) / 512) t (omega (arith, ltb-false (items - i) 512 w)) (omega arith) fits
 
-  inside : (f + j) / 512 < members s / 512
-  inside = omega (arith, ltb-false (items - i) 512 w)
+  block-no : v ≤ getD tops ((f + j) / 512) 0 → false ≡ allBelow items (arrayItem s v first)
+  block-no d = passing-out p 512 (omega (arith, ltb-false (items - i) 512 w)) (sym top ∙ le-ltb _ _ d) refl
 
-  over : v ≤ getD tops ((f + j) / 512) 0 → false ≡ allBelow items (arrayItem s v first)
-  over d = array-stop s tops v first i (f + j) ((f + j) / 512) (members s / 512) t inside (omega arith) here fits items d (omega (arith, ltb-false (items - i) 512 w))
+  block-more : getD tops ((f + j) / 512) 0 < v → Passing (arrayItem s v first) items (i + 512)
+  block-more d = passing-block p 512 (omega (arith, ltb-false (items - i) 512 w)) (sym top ∙ lt-ltb _ _ d)
 
-  under : getD tops ((f + j) / 512) 0 < v → allBelow i (arrayItem s v first) ≡ true → allBelow (i + 512) (arrayItem s v first) ≡ true
-  under d g = array-more s tops v first i (f + j) ((f + j) / 512) (members s / 512) t inside (omega arith) here fits d g
-
-  next-fits : i + 512 ≤ items
-  next-fits = omega (arith, ltb-false (items - i) 512 w)
-
-in-tops : (s : List ℕ) (first items i f j : ℕ) → bodies s ≡ true → mosts s ≡ true → first + items ≤ members s → f ≡ first → j ≡ i → ltb (items - i) 512 ≡ false → i < items → (f + j) / 512 < 1024
-in-tops s first items i f j b m l ef ej w h = omega (arith, ltb-false (items - i) 512 w, member-most s m b)
+in-tops : (s : List ℕ) (items : ℕ) {first i f j : ℕ} → f ≡ first → j ≡ i → bodies s ≡ true → mosts s ≡ true → first + items ≤ members s → ltb (items - i) 512 ≡ false → i < items → (f + j) / 512 < 1024
+in-tops s items {i = i} ef ej b m l w h = omega (arith, ltb-false (items - i) 512 w, member-most s m b)
 
 abbrev Inv-loop : tie.InvT-loop
-Inv-loop s tops v first items i₀ i = (i ≤ items) × (allBelow i (arrayItem s v first) ≡ true)
+Inv-loop s tops v first items i₀ i = Passing (arrayItem s v first) items i
 
 abbrev μ-loop : tie.MeasureT-loop
 μ-loop s tops v first items i₀ i = items - i
 
 loop-holds : tie.Need-loop-holds Inv-loop μ-loop
-unfolding allBelow
-loop-holds c = search needs
+loop-holds c = search (passing-none, needs)
 
 wide-requires : tie.Need-wide-requires Inv-loop μ-loop
 wide-requires c κs = search needs
@@ -63,7 +56,7 @@ array-item-requires : tie.Need-array-item-requires Inv-loop μ-loop
 array-item-requires c κs = search needs
 
 returns : tie.Need-returns Inv-loop μ-loop
-returns c = record-no _ _ _ _ (c .if3 .taken) (c .before .array-item .ensures) (c .before .before .before .before .before .loop-test .taken)
+returns c = search (passing-no, needs)
 
 add-i : tie.Need-add-i Inv-loop μ-loop
 add-i c = search needs
@@ -72,28 +65,28 @@ loop-less : tie.Need-loop-less Inv-loop μ-loop
 loop-less c = search needs
 
 loop-again : tie.Need-loop-again Inv-loop μ-loop
-loop-again c = (search needs, record-yes _ _ _ (c .if3 .left) (c .before .array-item .ensures) (c .before .before .before .before .before .before .loop .inv .1))
+loop-again c = search (passing-more, needs)
 
 mul-if4 : tie.Need-mul-if4 Inv-loop μ-loop
 mul-if4 c = search needs
 
 element-copy-out-if4 : tie.Need-element-copy-out-if4 Inv-loop μ-loop
-element-copy-out-if4 c = let p = c .before .before .before .before .before .before .before .pre in in-tops _ _ _ _ _ _ (p .0) (p .1 .0) (p .1 .1 .1) (c .before .before .before .wide .ensures) (c .before .before .wide2 .ensures) (c .if2 .left) (c .before .before .before .before .loop-test .taken)
+element-copy-out-if4 c = search (in-tops, needs)
 
 returns-2 : tie.Need-returns-2 Inv-loop μ-loop
-returns-2 c = let p = c .before .before .before .before .before .before .before .before .before .pre in over _ _ _ _ _ _ _ _ (p .1 .1 .0) (p .1 .1 .1) (c .before .before .before .before .before .wide .ensures) (c .before .before .before .before .wide2 .ensures) (c .before .before .before .if1 .left) (c .before .before .if2 .left) (c .before .before .before .before .before .before .loop-test .taken) (c .before .before .before .before .before .before .before .before .before .fits .v .fits) (c .if4 .taken)
+returns-2 c = search (block-no, needs)
 
 add-i-2 : tie.Need-add-i-2 Inv-loop μ-loop
-add-i-2 c = let p = c .before .before .before .before .before .before .before .before .before .pre in let n = next-fits _ _ _ _ _ _ _ _ (p .1 .1 .0) (p .1 .1 .1) (c .before .before .before .before .before .wide .ensures) (c .before .before .before .before .wide2 .ensures) (c .before .before .before .if1 .left) (c .before .before .if2 .left) (c .before .before .before .before .before .before .loop-test .taken) (c .before .before .before .before .before .before .before .before .before .fits .v .fits) in omega arith
+add-i-2 c = omega (arith, ltb-false)
 
 loop-less-2 : tie.Need-loop-less-2 Inv-loop μ-loop
 loop-less-2 c = search needs
 
 loop-again-2 : tie.Need-loop-again-2 Inv-loop μ-loop
-loop-again-2 c = let p = c .before .before .before .before .before .before .before .before .before .pre in (next-fits _ _ _ _ _ _ _ _ (p .1 .1 .0) (p .1 .1 .1) (c .before .before .before .before .before .wide .ensures) (c .before .before .before .before .wide2 .ensures) (c .before .before .before .if1 .left) (c .before .before .if2 .left) (c .before .before .before .before .before .before .loop-test .taken) (c .before .before .before .before .before .before .before .before .before .fits .v .fits), under _ _ _ _ _ _ _ _ (p .1 .1 .0) (p .1 .1 .1) (c .before .before .before .before .before .wide .ensures) (c .before .before .before .before .wide2 .ensures) (c .before .before .before .if1 .left) (c .before .before .if2 .left) (c .before .before .before .before .before .before .loop-test .taken) (c .before .before .before .before .before .before .before .before .before .fits .v .fits) (c .if4 .left) (c .before .before .before .before .before .before .before .loop .inv .1))
+loop-again-2 c = search (block-more, needs)
 
 returns-3 : tie.Need-returns-3 Inv-loop μ-loop
-returns-3 c = all-end _ _ _ (c .loop-test .left) (c .before .loop .inv .0) (c .before .loop .inv .1)
+returns-3 c = search (passing-all, needs)
 
 pub array-items-spec : {M : Type 1} → statement M
 array-items-spec =

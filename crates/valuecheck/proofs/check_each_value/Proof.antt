@@ -1,19 +1,13 @@
-use Prim.Native.Nat.{_*_, _-_, _/_, _≤_}
+-- Every value passes its own rule
+use Prim.Native.Nat.{_-_}
 use borrow.Author.Needs.{needs}
-use mathlib.Core.Bool.{true}
-use mathlib.Core.Path.{_≡_}
-use native.Mathlib.Omega.{arith}
-use Rattle.meaning.specs.Case.{members, values}
 use Rattle.meaning.specs.Check.{valueRule}
-use Rattle.laws.specs.Tests.{Filled, all-end, record-no, record-yes}
-use Rattle.meaning.specs.Tests.{allBelow}
-use Rattle.meaning.specs.Text.{before}
-use Rattle.valuecheck.specs.Blocks.{topOf}
+use Rattle.laws.specs.Tests.{Passing, passing-none, passing-more, passing-no, passing-all}
 use Rattle.valuecheck.proofs.check_each_value.Statement.{statement}
 use Rattle.valuecheck.proofs.check_each_value.Tie as tie
 
 abbrev Inv-loop : tie.InvT-loop
-Inv-loop s n tops v₀ v = (v ≤ n) × (n ≡ values s) × (allBelow v (valueRule s) ≡ true) × Filled 0 (λ b. topOf s (512 * b)) tops (members s / 512)
+Inv-loop s n tops v₀ v = Passing (valueRule s) n v
 
 abbrev μ-loop : tie.MeasureT-loop
 μ-loop s n tops v₀ v = n - v
@@ -25,14 +19,13 @@ block-tops-requires : tie.Need-block-tops-requires Inv-loop μ-loop
 block-tops-requires c κs = search needs
 
 loop-holds : tie.Need-loop-holds Inv-loop μ-loop
-unfolding allBelow
-loop-holds c = search needs
+loop-holds c = search (passing-none, needs)
 
 value-rule-requires : tie.Need-value-rule-requires Inv-loop μ-loop
 value-rule-requires c κs = search needs
 
 returns : tie.Need-returns Inv-loop μ-loop
-returns c = record-no _ _ _ _ (c .if1 .taken) (c .before .value-rule .ensures) (omega arith)
+returns c = search (passing-no, needs)
 
 add-v : tie.Need-add-v Inv-loop μ-loop
 add-v c = search needs
@@ -41,10 +34,10 @@ loop-less : tie.Need-loop-less Inv-loop μ-loop
 loop-less c = search needs
 
 loop-again : tie.Need-loop-again Inv-loop μ-loop
-loop-again c = let i = c .before .before .before .before .loop .inv in (search needs, i .1, record-yes _ _ _ (c .if1 .left) (c .before .value-rule .ensures) (i .2), i .3)
+loop-again c = search (passing-more, needs)
 
 returns-2 : tie.Need-returns-2 Inv-loop μ-loop
-returns-2 c = all-end _ _ _ (omega arith) (omega arith) (c .before .loop .inv .2)
+returns-2 c = search (passing-all, needs)
 
 pub check-each-value-spec : {M : Type 1} → statement M
 check-each-value-spec =

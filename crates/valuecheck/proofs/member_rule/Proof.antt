@@ -1,21 +1,19 @@
+-- A member names a string or nothing, and holds a value
 use Prim.Native.Nat.{ℕ}
 use borrow.Author.Needs.{needs}
 use lib.Dec.{eqb, ltb}
 use mathlib.Core.Bool.{Bool}
 use mathlib.Core.List.{List}
 use mathlib.Core.Path.{_∙_, _≡_}
-use Rattle.meaning.specs.Case.{memberWord}
+use Rattle.meaning.specs.Case.{memberWord, strings, values}
 use Rattle.meaning.specs.Check.{memberRule}
-use Rattle.laws.specs.Tests.{both}
 use Rattle.meaning.specs.Tests.{_and_, _or_}
-use Rattle.meaning.specs.Text.{before}
-use Rattle.meaning.specs.Case.{strings, values}
 use Rattle.valuecheck.proofs.member_rule.Statement.{statement}
 use Rattle.valuecheck.proofs.member_rule.Tie as tie
 
-whole : (s : List ℕ) (m n h k v : ℕ) (x r : Bool) → n ≡ memberWord s m 0 → h ≡ memberWord s m 1 → k ≡ strings s → v ≡ values s → x ≡ (eqb n 4294967295 or ltb n k) → r ≡ (x and ltb h v) → r ≡ memberRule s m
+member-read : (s : List ℕ) (m : ℕ) {n h k v : ℕ} {x r : Bool} → r ≡ (x and ltb h v) → x ≡ (eqb n 4294967295 or ltb n k) → n ≡ memberWord s m 0 → h ≡ memberWord s m 1 → k ≡ strings s → v ≡ values s → r ≡ memberRule s m
 unfolding memberRule
-whole s m n h k v x r a b c d e f = f ∙ rw (e, a, b, c, d)
+member-read s m f e a b c d = f ∙ rw (e, a, b, c, d)
 
 member-word-requires : tie.Need-member-word-requires
 member-word-requires c κs = search needs
@@ -36,7 +34,7 @@ both-requires : tie.Need-both-requires
 both-requires c κs = search needs
 
 returns : tie.Need-returns
-returns c = whole _ _ _ _ _ _ _ _ (c .before .before .before .before .before .member-word .ensures) (c .before .before .before .before .member-word2 .ensures) (c .before .before .before .string-count .ensures) (c .before .before .value-count .ensures) (c .before .either .ensures) (c .both .ensures)
+returns c = search (member-read, needs)
 
 pub member-rule-spec : {M : Type 1} → statement M
 member-rule-spec =

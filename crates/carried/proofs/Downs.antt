@@ -25,7 +25,7 @@ use Rattle.meaning.specs.Number.{seconds, inWindow, window}
 use Rattle.laws.specs.Window.{isInside, inside-is}
 use Rattle.meaning.specs.Case.{pointAt}
 use Rattle.meaning.specs.Carried.{at, nowhere, stopped, ending, passes, met, down, before, bodyTurn, previous, seenFrom, turnAt, scanOf}
-use Rattle.meaning.specs.Carried.{Look as LookBack, End as ScanEnd, Scan as ScanOf, Turn as TurnOf}
+use Rattle.meaning.specs.Carried.{End as ScanEnd, Scan as ScanOf, Turn as TurnOf}
 use Rattle.matching.specs.declared.Earlier.{Earlier}
 use Rattle.matching.specs.declared.Earlier.the-variants as Ear
 use Rattle.matching.specs.Asking.{atIf, pointBefore}

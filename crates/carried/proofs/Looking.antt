@@ -16,7 +16,6 @@ use Rattle.meaning.specs.declared.TimeUnit.the-variants.{Seconds}
 use Rattle.meaning.specs.Tests.{isSome}
 use Rattle.meaning.specs.Case.{places}
 use Rattle.meaning.specs.Carried.{lookOf, looksBack, carriedBy}
-use Rattle.meaning.specs.Carried.{Look as LookBack}
 use Rattle.carried.specs.declared.Look.{Look}
 use Rattle.carried.specs.declared.Look.the-variants as Loo
 use Rattle.carried.specs.Shows.{asLook, windowIn, carriedIn, Points}

@@ -160,9 +160,9 @@ module _ (s : List ℕ) (object : Found) (o : Option ℕ) (path : List ℕ) (eo 
   unfolding supplied foundAt inCells pick
   supplied-none e = let z : o ≡ none = sym eo ∙ ap foundAt e in rw z refl
 
-  pub supplied-found : (v : ValNo) (found : Found) (tag bits : ℕ) → object ≡ At v → foundAt found ≡ lookup (caseOf s) (v .0) path → inCells tag bits ≡ boundAt (caseOf s) (foundAt found) → inCells tag bits ≡ supplied (caseOf s) o path
+  pub supplied-found : (v : ValNo) (tag bits : ℕ) → object ≡ At v → inCells tag bits ≡ boundAt (caseOf s) (lookup (caseOf s) (v .0) path) → inCells tag bits ≡ supplied (caseOf s) o path
   unfolding supplied foundAt
-  supplied-found v found tag bits ev ef h = let z : o ≡ some (v .0) = sym eo ∙ ap foundAt ev in h ∙ rw (z, ef) refl
+  supplied-found v tag bits ev h = let z : o ≡ some (v .0) = sym eo ∙ ap foundAt ev in h ∙ rw z refl
 
 module _ (t u r w : ℕ) where
   pub else-unbound : t ≡ 0 → inCells r w ≡ orElse (inCells t u) (inCells r w)

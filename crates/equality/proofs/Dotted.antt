@@ -1,35 +1,22 @@
 -- Names with dots: a text that joins names, the string behind a name, and the search from member to member
 use mathlib.Core.Path.{_≡_, refl, sym, _∙_, ap, ap₂}
 use mathlib.Core.Bool.{Bool, true, false, not}
-use mathlib.Core.List.{List, [], _∷_, _++_, map, append-nil}
-use mathlib.Core.Option.{Option, none, some}
-use Prim.Native.Nat.{ℕ, zero, suc, _+_, _*_, _-_, _/_, _%_, _<_, _≤_}
+use mathlib.Core.List.{List, [], _∷_, _++_, map}
+use Prim.Native.Nat.{ℕ, zero, suc, _+_, _-_, _<_, _≤_}
 use native.Mathlib.Omega.{arith}
-use lib.Dec.{eqb, ltb, leb}
-use lib.ListN.{length, length-append, getD, set, replicate, take, drop, length-drop, length-set, length-replicate}
-use lib.Seq.{drop-append-seam, drop-drop, getD-set-same, getD-set-other}
-use borrow.Author.Tests.{eqb-true, eqb-false, eq-eqb, ne-eqb, ltb-true, ltb-false, lt-ltb, le-leb, lt-leb, leb-true, not-true, not-false}
+use lib.Dec.{eqb}
+use lib.ListN.{length, length-append, getD, drop, length-drop}
+use lib.Seq.{drop-drop}
+use borrow.Author.Tests.{eqb-true, eq-eqb, ne-eqb, not-true, not-false}
 use Rattle.meaning.specs.declared.Run.{Run}
-use Rattle.meaning.specs.declared.ValNo.{ValNo}
-use Rattle.meaning.specs.Tests.{_and_, _or_, choose, orElse}
-use Rattle.meaning.specs.Text.{before}
-use Rattle.meaning.specs.Case.{Case, Part, strings, list, text, places, valueWord, memberWord, valueAt, partAt, caseOf}
-use Rattle.meaning.specs.Check.{Checked, pathRun}
-use Rattle.meaning.specs.Equal.{sameList}
-use Rattle.meaning.specs.Look.{named, members, dotted, lookup}
+use Rattle.meaning.specs.Tests.{_and_, _or_}
+use Rattle.meaning.specs.Case.{list, text, places, caseOf}
 use Rattle.meaning.specs.Meaning.{names}
-use Rattle.meaning.specs.Laws.Tests.{both, stop, skip, pass, after, yes, no}
-use Rattle.meaning.specs.Laws.Lists.{Every, open-at, shut-at}
-use Rattle.meaning.specs.Laws.Text.{same-list, not-equal, not-before}
-use Rattle.meaning.specs.Laws.Search.{Rising, joined, called, onward, longest, searchBy, search, taken, taken-none, longest-none, one-more}
-use Rattle.meaning.specs.Laws.Searched.{strings-rise, members-rise, lookup-is, search-is, called-number, called-nowhere, names-of, path-plain}
+use Rattle.meaning.specs.Laws.Tests.{both, stop, skip, after, yes, no}
+use Rattle.meaning.specs.Laws.Lists.{open-at, shut-at}
 use Rattle.equality.specs.declared.After.{After}
 use Rattle.equality.specs.declared.After.the-variants.{End, Dot, Other}
-use Rattle.equality.specs.declared.Found.{Found}
-use Rattle.equality.specs.declared.Found.the-variants.{At, Nothing}
-use Rattle.equality.specs.Paths.{foundAt}
-use Rattle.equality.specs.Dotted.{rest, begins, more, ahead, behindName, fromName, joins, counted, Behind, goesOn, mayJoin, keyOf, Failed, Sought}
-use Rattle.equality.proofs.Members.{part, no-members, members-are}
+use Rattle.equality.specs.Dotted.{rest, begins, more, ahead, behindName, fromName, joins, counted, Behind}
 use Rattle.equality.proofs.Reach.{names-are}
 use Rattle.equality.proofs.Steps.{open-place, shut-place}
 

@@ -33,7 +33,7 @@ descend-start s first count v =
     let z : count - 0 ≡ count = omega arith in
     record { inside = omega arith; rest = rw (x, z) refl }
 
-descend-by : (s : List ℕ) (v n : ℕ) (ns : List ℕ) (o : Option ℕ) → named n (members (valueAt s v)) ≡ o → descend (caseOf s) v (n ∷ ns) ≡ elim o as (λ o. Option ℕ) [ none ↦ none | some u ↦ descend (caseOf s) u ns ]
+pub descend-by : (s : List ℕ) (v n : ℕ) (ns : List ℕ) (o : Option ℕ) → named n (members (valueAt s v)) ≡ o → descend (caseOf s) v (n ∷ ns) ≡ elim o as (λ o. Option ℕ) [ none ↦ none | some u ↦ descend (caseOf s) u ns ]
 unfolding descend caseOf
 descend-by s v n ns o e = ap (λ (o : Option ℕ). elim o as (λ o. Option ℕ) [ none ↦ none | some u ↦ descend (caseOf s) u ns ]) e
 
@@ -77,15 +77,18 @@ module _ (s : List ℕ) (found : Found) (tag bits : ℕ) where
   unfolding boundAt foundAt inCells pick
   bound-none e = rw e refl
 
-  module _ (p v : ℕ) (path : Run) (ef : foundAt found ≡ descend (caseOf s) v (names (caseOf s) path)) (h : inCells tag bits ≡ boundAt (caseOf s) (foundAt found)) where
-    pub field-is : v ≡ pointWord s p 6 → inCells tag bits ≡ fieldAt (caseOf s) (pointAt s p) (names (caseOf s) path)
-    unfolding fieldAt pointAt
-    field-is e = h ∙ ap (boundAt (caseOf s)) ef ∙ rw e refl
+  -- of whatever was found
+  pub bound-so : (o : Option ℕ) → foundAt found ≡ o → inCells tag bits ≡ boundAt (caseOf s) (foundAt found) → inCells tag bits ≡ boundAt (caseOf s) o
+  bound-so o e h = h ∙ ap (boundAt (caseOf s)) e
 
-  module _ (p v : ℕ) (path : Run) (ef : foundAt found ≡ lookup (caseOf s) v (names (caseOf s) path)) (h : inCells tag bits ≡ boundAt (caseOf s) (foundAt found)) where
-    pub context-is : v ≡ pointWord s p 7 → inCells tag bits ≡ contextAt (caseOf s) (pointAt s p) (names (caseOf s) path)
-    unfolding contextAt pointAt
-    context-is e = h ∙ ap (boundAt (caseOf s)) ef ∙ rw e refl
+module _ (s : List ℕ) (tag bits p v : ℕ) (path : List ℕ) where
+  pub field-is : inCells tag bits ≡ boundAt (caseOf s) (descend (caseOf s) v path) → v ≡ pointWord s p 6 → inCells tag bits ≡ fieldAt (caseOf s) (pointAt s p) path
+  unfolding fieldAt pointAt
+  field-is h e = h ∙ rw e refl
+
+  pub context-is : inCells tag bits ≡ boundAt (caseOf s) (lookup (caseOf s) v path) → v ≡ pointWord s p 7 → inCells tag bits ≡ contextAt (caseOf s) (pointAt s p) path
+  unfolding contextAt pointAt
+  context-is h e = h ∙ rw e refl
 
 -- ---- the words of two runs
 

@@ -1,34 +1,37 @@
 -- The search from member to member, the last first; plain steps where no string joins a name with the next; and the table of what led nowhere
-use mathlib.Core.Path.{_≡_, refl, sym, _∙_, ap, ap₂}
+use mathlib.Core.Path.{_≡_, refl, sym, _∙_, ap}
 use mathlib.Core.Bool.{Bool, true, false, not}
-use mathlib.Core.List.{List, [], _∷_, _++_, append-nil}
+use mathlib.Core.List.{List, [], _∷_, _++_, map, append-nil}
 use mathlib.Core.Option.{Option, none, some}
 use Prim.Native.Nat.{ℕ, zero, suc, _+_, _*_, _-_, _/_, _%_, _<_, _≤_}
 use native.Mathlib.Omega.{arith}
 use lib.Dec.{eqb, ltb, leb}
 use lib.ListN.{length, length-append, getD, set, replicate, take, drop, length-set, length-replicate}
 use lib.Seq.{drop-append-seam, getD-set-same, getD-set-other}
-use borrow.Author.Tests.{eqb-true, eqb-false, eq-eqb, ltb-true, ltb-false, lt-ltb, le-leb, lt-leb, le-ltb}
+use borrow.Author.Tests.{eqb-true, eqb-false, eq-eqb, ltb-true, ltb-false, lt-ltb, le-leb, lt-leb, le-ltb, not-true}
 use Rattle.meaning.specs.declared.Run.{Run}
 use Rattle.meaning.specs.declared.ValNo.{ValNo}
-use Rattle.meaning.specs.Tests.{_and_, _or_, choose, orElse}
+use Rattle.meaning.specs.Tests.{_and_, _or_, choose, pick, orElse}
 use Rattle.meaning.specs.Text.{before}
 use Rattle.meaning.specs.Case.{Case, Part, size as bodySize, strings, list, text, places, valueWord, memberWord, valueAt, partAt, caseOf}
 use Rattle.meaning.specs.Check.{Checked, pathRun}
-use Rattle.meaning.specs.Equal.{sameList}
-use Rattle.meaning.specs.Look.{named, members, dotted, lookup}
+use Rattle.meaning.specs.Equal.{sameList, boundOf}
+use Rattle.meaning.specs.Look.{named, members, descend, dotted, lookup, boundAt}
+use Rattle.meaning.specs.Rows.{inCells}
 use Rattle.meaning.specs.Meaning.{names}
 use Rattle.meaning.specs.Laws.Tests.{both, stop, skip, pass, after, and-assoc, all-at}
-use Rattle.meaning.specs.Laws.Lists.{Every}
+use Rattle.meaning.specs.Laws.Lists.{Every, every-map}
 use Rattle.meaning.specs.Laws.Text.{same-list, not-equal, not-before}
-use Rattle.meaning.specs.Laws.Search.{Rising, joined, called, onward, longest, searchBy, search, taken, taken-none, longest-none, one-more}
+use Rattle.meaning.specs.Laws.Search.{Rising, joined, onward, longest, searchBy, search, taken, taken-none, longest-none, one-more}
 use Rattle.meaning.specs.Laws.Searched.{strings-rise, members-rise, lookup-is, search-is, called-number, called-nowhere, names-of, path-plain}
+use Rattle.equality.proofs.Steps.{open-place}
 use Rattle.equality.specs.declared.Found.{Found}
 use Rattle.equality.specs.declared.Found.the-variants.{At, Nothing}
 use Rattle.equality.specs.declared.Span.{Span}
 use Rattle.equality.specs.Paths.{foundAt}
-use Rattle.equality.specs.Dotted.{rest, begins, more, behindName, fromName, joins, goesOn, mayJoin, keyOf, Failed, Ready, Spans, Sought, Missed}
+use Rattle.equality.specs.Dotted.{rest, begins, more, behindName, fromName, joins, goesOn, mayJoin, plainNames, keyOf, Failed, Ready, Spans, Sought, Missed}
 use Rattle.equality.proofs.Members.{part, no-members, members-are}
+use Rattle.equality.proofs.Reach.{descend-by, names-are}
 use Rattle.equality.proofs.Dotted.{begun, rest-open, rest-shut, rest-drop, rest-all}
 
 -- ---- a text joins names just if the code counts them
@@ -421,9 +424,11 @@ unfolding pathRun
 path-name c path h i l = ltb-true _ _ (both _ _ (all-at _ _ i (both _ _ h .1) l) .0)
 
 module _ (s : List ℕ) (path : Run) (v : ValNo) (from w : ℕ) (c : Checked s) where
-  pub from-end : from ≡ w → w ≡ path .count → foundAt (At v) ≡ search (caseOf s) (v .0) (rest s path from)
-  unfolding foundAt
-  from-end e ew = sym (ap (search (caseOf s) (v .0)) (rest-shut s path from (omega arith)) ∙ search-ends s c (v .0))
+  pub from-end : (tag bits : ℕ) → from ≡ w → w ≡ path .count → inCells tag bits ≡ some (boundOf (v .0) (valueAt s (v .0))) → inCells tag bits ≡ boundAt (caseOf s) (search (caseOf s) (v .0) (rest s path from))
+  from-end tag bits e ew h = h ∙ sym (ap (boundAt (caseOf s)) (ap (search (caseOf s) (v .0)) (rest-shut s path from (omega arith)) ∙ search-ends s c (v .0)) ∙ cells)
+    where
+      cells : boundAt (caseOf s) (some (v .0)) ≡ some (boundOf (v .0) (valueAt s (v .0)))
+      cells = unfold boundAt caseOf in refl
 
   module _ (h : pathRun s (path .first) (path .count) ≡ true) (l : from ≤ path .count) (ne : from ≡ w → ⊥) (ew : w ≡ path .count) (name f : ℕ) (ef : f ≡ path .first) (en : name ≡ list s (f + from)) where
     less : from < path .count
@@ -442,26 +447,98 @@ module _ (s : List ℕ) (path : Run) (v : ValNo) (from w : ℕ) (c : Checked s) 
           ∙ plain-step c name from-string (v .0) (sym ej ∙ off) (rest s path (from + 1))
           ∙ ap (λ (o : Option ℕ). onward (search (caseOf s)) o (rest s path (from + 1))) (sym e)
 
-      pub from-found : (u : ValNo) → found ≡ At u → (r : Found) → foundAt r ≡ search (caseOf s) (u .0) (rest s path (from + 1)) → foundAt r ≡ search (caseOf s) (v .0) (rest s path from)
+      pub from-found : (u : ValNo) → found ≡ At u → (tag bits : ℕ) → inCells tag bits ≡ boundAt (caseOf s) (search (caseOf s) (u .0) (rest s path (from + 1))) → inCells tag bits ≡ boundAt (caseOf s) (search (caseOf s) (v .0) (rest s path from))
       unfolding foundAt onward
-      from-found u q r er = er ∙ sym (stepped ∙ rw q refl)
+      from-found u q tag bits h = h ∙ ap (boundAt (caseOf s)) (sym (stepped ∙ rw q refl))
 
-      pub from-none : found ≡ Nothing → foundAt Nothing ≡ search (caseOf s) (v .0) (rest s path from)
-      unfolding foundAt onward
-      from-none q = sym (stepped ∙ rw q refl)
+      pub from-none : found ≡ Nothing → inCells 0 0 ≡ boundAt (caseOf s) (search (caseOf s) (v .0) (rest s path from))
+      unfolding foundAt onward boundAt inCells pick
+      from-none q = let z : search (caseOf s) (v .0) (rest s path from) ≡ none = stepped ∙ rw q refl in rw z refl
+
+-- ---- a path of which no string joins a name with the next
+
+-- the names that are not looked at yet
+pub record PlainFrom (s : List ℕ) (first count at left : ℕ) : Type 0 where
+  pub inside : at + left ≡ first + count
+  pub known : Every (λ n. n < strings s) (map (list s) (places at 1 left))
+  pub same : plainNames s (map (list s) (places at 1 left)) ≡ plainNames s (map (list s) (places first 1 count))
+
+strings-of : {s : List ℕ} → Checked s → (path : Run) → pathRun s (path .first) (path .count) ≡ true → Every (λ n. n < strings s) (names (caseOf s) path)
+strings-of {s} c path h = every-map (names (caseOf s) path) (λ n e. e .0) (names-of c path h)
+
+pub plain-start : (s : List ℕ) (path : Run) (first count : ℕ) → Checked s → pathRun s (path .first) (path .count) ≡ true → first ≡ path .first → count ≡ path .count → PlainFrom s first count first count
+plain-start s path first count c h ef ec =
+    record { inside = refl; known = rw (names-are s path first count ef ec) at (strings-of c path h); same = refl }
+
+module _ (s : List ℕ) (first count at left : ℕ) (g : PlainFrom s first count at left) where
+  whole : (path : Run) → first ≡ path .first → count ≡ path .count → plainNames s (map (list s) (places at 1 left)) ≡ plainNames s (names (caseOf s) path)
+  whole path ef ec = g .same ∙ ap (plainNames s) (sym (names-are s path first count ef ec))
+
+  module _ (h : 1 < left) (name : ℕ) (en : name ≡ list s at) where
+    cut : map (list s) (places at 1 left) ≡ name ∷ map (list s) (places (at + 1) 1 (left - 1))
+    cut =
+        let x : left - 0 ≡ left = omega arith in
+        rw en (rw x at (ap (map (list s)) (open-place at 1 left 0 (at + 1) (omega arith) refl)))
+
+    first-of : plainNames s (map (list s) (places at 1 left)) ≡ (not (mayJoin s name) and plainNames s (map (list s) (places (at + 1) 1 (left - 1))))
+    first-of = rw en (go left h)
+      where
+        go : (left : ℕ) → 1 < left → plainNames s (map (list s) (places at 1 left)) ≡ (not (mayJoin s (list s at)) and plainNames s (map (list s) (places (at + 1) 1 (left - 1))))
+        go zero h = absurd (omega arith)
+        go (suc zero) h = absurd (omega arith)
+        go (suc (suc k)) h = let z : suc (suc k) - 1 ≡ suc k = omega arith in rw z (unfold plainNames places in refl)
+
+    pub plain-string : name < strings s
+    plain-string = (rw cut at (g .known)) .0
+
+    module _ (join : Bool) (ej : join ≡ mayJoin s name) where
+      pub plain-next : join ≡ false → PlainFrom s first count (at + 1) (left - 1)
+      plain-next e =
+          let apart : not (mayJoin s name) ≡ true = rw (← ej, e) refl in
+          record { inside = omega (arith, g .inside); known = (rw cut at (g .known)) .1; same = sym (sym (g .same) ∙ first-of ∙ after apart) }
+
+      pub plain-no : (path : Run) → first ≡ path .first → count ≡ path .count → join ≡ true → false ≡ plainNames s (names (caseOf s) path)
+      plain-no path ef ec e =
+          let joined : not (mayJoin s name) ≡ false = rw (← ej, e) refl in
+          sym (sym (whole path ef ec) ∙ first-of ∙ stop _ joined)
+
+  pub plain-yes : (path : Run) → first ≡ path .first → count ≡ path .count → left ≤ 1 → true ≡ plainNames s (names (caseOf s) path)
+  plain-yes path ef ec h = sym (sym (whole path ef ec) ∙ go left h)
+    where
+      go : (left : ℕ) → left ≤ 1 → plainNames s (map (list s) (places at 1 left)) ≡ true
+      go zero h = unfold plainNames places in refl
+      go (suc zero) h = unfold plainNames places in refl
+      go (suc (suc k)) h = absurd (omega arith)
+
+-- it is descended
+plain-descends : {s : List ℕ} → Checked s → (ns : List ℕ) → Every (λ n. n < strings s) ns → plainNames s ns ≡ true → (v : ℕ) → search (caseOf s) v ns ≡ descend (caseOf s) v ns
+plain-descends {s} c [] every e v = search-ends s c v ∙ (unfold descend in refl)
+plain-descends {s} c (n ∷ []) every e v = last-step c n (every .0) v ∙ sym (descend-by s v n [] (named n (members (valueAt s v))) refl ∙ ends (named n (members (valueAt s v))))
+  where
+    ends : (o : Option ℕ) → elim o as (λ o. Option ℕ) [ none ↦ none | some u ↦ descend (caseOf s) u [] ] ≡ o
+    ends none = refl
+    ends (some u) = unfold descend in refl
+plain-descends {s} c (n ∷ m ∷ ns) every e v =
+    let h = both (not (mayJoin s n)) (plainNames s (m ∷ ns)) (unfold plainNames in e) in
+    plain-step c n (every .0) v (not-true (mayJoin s n) (h .0)) (m ∷ ns)
+    ∙ below (named n (members (valueAt s v))) (plain-descends c (m ∷ ns) (every .1) (h .1))
+    ∙ sym (descend-by s v n (m ∷ ns) (named n (members (valueAt s v))) refl)
+  where
+    below : (o : Option ℕ) → ((u : ℕ) → search (caseOf s) u (m ∷ ns) ≡ descend (caseOf s) u (m ∷ ns)) → onward (search (caseOf s)) o (m ∷ ns) ≡ elim o as (λ o. Option ℕ) [ none ↦ none | some u ↦ descend (caseOf s) u (m ∷ ns) ]
+    below none f = unfold onward in refl
+    below (some u) f = unfold onward in f u
 
 -- ---- the whole path
 
-module _ (s : List ℕ) (path : Run) (v : ℕ) (r : Found) (c : Checked s) (h : pathRun s (path .first) (path .count) ≡ true) where
-  pub looked-up : foundAt r ≡ search (caseOf s) v (rest s path 0) → foundAt r ≡ lookup (caseOf s) v (names (caseOf s) path)
-  looked-up e = e ∙ ap (search (caseOf s) v) (rest-all s path) ∙ sym (lookup-is c v (names (caseOf s) path) (path-plain c path h))
+module _ (s : List ℕ) (path : Run) (tag bits v : ℕ) (c : Checked s) (h : pathRun s (path .first) (path .count) ≡ true) where
+  searched : lookup (caseOf s) v (names (caseOf s) path) ≡ search (caseOf s) v (names (caseOf s) path)
+  searched = lookup-is c v (names (caseOf s) path) (path-plain c path h)
 
-  pub one-name : path .count ≡ 1 → (name f : ℕ) → f ≡ path .first → name ≡ list s f → foundAt r ≡ named name (members (valueAt s v)) → foundAt r ≡ lookup (caseOf s) v (names (caseOf s) path)
-  one-name e name f ef en er =
-      let z : path .first + 0 ≡ path .first = omega arith in
-      let n : list s (path .first + 0) ≡ name = ap (list s) (z ∙ sym ef) ∙ sym en in
-      let all : rest s path 0 ≡ name ∷ [] = rest-open s path 0 (omega arith) ∙ ap₂ (λ (a : ℕ) (l : List ℕ). a ∷ l) n (rest-shut s path 1 (omega arith)) in
-      looked-up (er ∙ sym (ap (search (caseOf s) v) all ∙ last-step c name (rw n at (path-name c path h 0 (omega arith))) v))
+  pub looked-up : inCells tag bits ≡ boundAt (caseOf s) (search (caseOf s) v (rest s path 0)) → inCells tag bits ≡ boundAt (caseOf s) (lookup (caseOf s) v (names (caseOf s) path))
+  looked-up e = e ∙ ap (boundAt (caseOf s)) (ap (search (caseOf s) v) (rest-all s path) ∙ sym searched)
+
+  pub plain-is : (r : Bool) → r ≡ plainNames s (names (caseOf s) path) → r ≡ true → inCells tag bits ≡ boundAt (caseOf s) (descend (caseOf s) v (names (caseOf s) path)) → inCells tag bits ≡ boundAt (caseOf s) (lookup (caseOf s) v (names (caseOf s) path))
+  plain-is r er e q = q ∙ ap (boundAt (caseOf s)) (sym (searched ∙ plain-descends c (names (caseOf s) path) (strings-of c path h) (sym er ∙ e) v))
 
 -- ---- the string behind a name
 

@@ -1,8 +1,8 @@
 -- Names with dots: the names that are left, a text that joins some of them, the string behind a name, and a table of what led nowhere
 use mathlib.Core.Path.{_≡_}
-use mathlib.Core.Bool.{Bool, true, false}
+use mathlib.Core.Bool.{Bool, true, false, not}
 use mathlib.Core.List.{List, [], _∷_, map}
-use mathlib.Core.Option.{Option, none}
+use mathlib.Core.Option.{none}
 use Prim.Native.Nat.{ℕ, zero, suc, _+_, _*_, _-_, _<_, _≤_}
 use lib.Dec.{eqb, ltb, leb}
 use lib.ListN.{length, getD, drop}
@@ -75,6 +75,12 @@ goesOn (x ∷ name) (y ∷ t) = eqb y x and goesOn name t
 
 unfoldable pub mayJoin : List ℕ → ℕ → Bool
 mayJoin s n = ltb (n + 1) (strings s) and goesOn (text s n) (text s (n + 1))
+
+-- no string joins one of the names with the next
+unfoldable pub plainNames : List ℕ → List ℕ → Bool
+plainNames s [] = true
+plainNames s (n ∷ []) = true
+plainNames s (n ∷ m ∷ ns) = not (mayJoin s n) and plainNames s (m ∷ ns)
 
 -- ---- the table
 

@@ -33,7 +33,7 @@ ghost use Rattle.meaning.specs.Rows.{inCells};
 ghost use Rattle.meaning.specs.Meaning.{names, sameEvent};
 ghost use Rattle.meaning.specs.Laws.Search.{search};
 ghost use Rattle.equality.specs.Paths.{foundAt};
-ghost use Rattle.equality.specs.Dotted.{rest, begins, joins, Behind, goesOn, mayJoin, keyOf, Failed, Ready, Spans, Sought, Missed};
+ghost use Rattle.equality.specs.Dotted.{rest, begins, joins, Behind, goesOn, mayJoin, plainNames, keyOf, Failed, Ready, Spans, Sought, Missed};
 
 // ---- objects
 
@@ -91,6 +91,25 @@ pub fn path_descend(s: &[u8], v: ValNo, path: Run) -> Found
         }
     }
     Found::At(at)
+}
+
+fn binding_found(s: &[u8], found: Found) -> Binding
+    requires { ⌜ Checked (now s) ⌝ }
+    ensures { λ r. ⌜ inCells (r .tag) (r .bits) ≡ boundAt (caseOf (now (s .entry))) (foundAt found) ⌝ }
+{
+    match found {
+        Found::At(v) => binding_of(s, v),
+        Found::Nothing => Binding { tag: 0, bits: 0 },
+    }
+}
+
+// what a path reaches from value v
+fn reached(s: &[u8], v: ValNo, path: Run) -> Binding
+    requires { ⌜ Checked (now s) ⌝ }
+    ensures { λ r. ⌜ inCells (r .tag) (r .bits) ≡ boundAt (caseOf (now (s .entry))) (descend (caseOf (now (s .entry))) (v .0) (names (caseOf (now (s .entry))) path)) ⌝ }
+{
+    let found = path_descend(s, v, path);
+    binding_found(s, found)
 }
 
 // ---- names with dots: what a path gives in context and attributes
@@ -288,48 +307,57 @@ fn look_far(s: &[u8], path: Run, v: ValNo, from: usize) -> Found
     look(s, &mut failed, path, v, from)
 }
 
-// the same, name by name as long as no string joins a name with the next
-fn look_from(s: &[u8], path: Run, v: ValNo, from: usize) -> Found
+// what they give, name by name as long as no string joins a name with the next
+fn look_from(s: &[u8], path: Run, v: ValNo, from: usize) -> Binding
     requires { ⌜ Checked (now s) ⌝ }
     requires { ⌜ pathRun (now s) (path .first) (path .count) ≡ true ⌝ }
     requires { ⌜ from ≤ path .count ⌝ }
-    ensures { λ r. ⌜ foundAt r ≡ search (caseOf (now (s .entry))) (v .0) (rest (now (s .entry)) path from) ⌝ }
+    ensures { λ r. ⌜ inCells (r .tag) (r .bits) ≡ boundAt (caseOf (now (s .entry))) (search (caseOf (now (s .entry))) (v .0) (rest (now (s .entry)) path from)) ⌝ }
 {
     if from == wide(path.count) {
-        return Found::At(v);
+        return binding_of(s, v);
     }
     let name = list_at(s, wide(path.first) + from);
     if may_join(s, StrNo(name)) {
-        return look_far(s, path, v, from);
+        let found = look_far(s, path, v, from);
+        return binding_found(s, found);
     }
     let found = member_named(s, v, StrNo(name));
     match found {
         Found::At(u) => look_from(s, path, u, from + 1),
-        Found::Nothing => Found::Nothing,
-    }
-}
-
-// the value that a path gives in value v; one name joins nothing
-fn path_lookup(s: &[u8], v: ValNo, path: Run) -> Found
-    requires { ⌜ Checked (now s) ⌝ }
-    requires { ⌜ pathRun (now s) (path .first) (path .count) ≡ true ⌝ }
-    ensures { λ r. ⌜ foundAt r ≡ lookup (caseOf (now (s .entry))) (v .0) (names (caseOf (now (s .entry))) path) ⌝ }
-{
-    if path.count == 1 {
-        let name = list_at(s, wide(path.first));
-        return member_named(s, v, StrNo(name));
-    }
-    look_from(s, path, v, 0)
-}
-
-fn binding_found(s: &[u8], found: Found) -> Binding
-    requires { ⌜ Checked (now s) ⌝ }
-    ensures { λ r. ⌜ inCells (r .tag) (r .bits) ≡ boundAt (caseOf (now (s .entry))) (foundAt found) ⌝ }
-{
-    match found {
-        Found::At(v) => binding_of(s, v),
         Found::Nothing => Binding { tag: 0, bits: 0 },
     }
+}
+
+// whether no string joins a name of the path with the next
+fn plain_path(s: &[u8], path: Run) -> bool
+    requires { ⌜ Checked (now s) ⌝ }
+    requires { ⌜ pathRun (now s) (path .first) (path .count) ≡ true ⌝ }
+    ensures { λ r. ⌜ _≡_ {A = Bool} r (plainNames (now (s .entry)) (names (caseOf (now (s .entry))) path)) ⌝ }
+{
+    let mut at = wide(path.first);
+    let mut left = wide(path.count);
+    while 1 < left {
+        let name = list_at(s, at);
+        if may_join(s, StrNo(name)) {
+            return false;
+        }
+        at += 1;
+        left -= 1;
+    }
+    true
+}
+
+// what a path gives in value v; a plain one, and so one of a single name, as a logged field's
+fn path_lookup(s: &[u8], v: ValNo, path: Run) -> Binding
+    requires { ⌜ Checked (now s) ⌝ }
+    requires { ⌜ pathRun (now s) (path .first) (path .count) ≡ true ⌝ }
+    ensures { λ r. ⌜ inCells (r .tag) (r .bits) ≡ boundAt (caseOf (now (s .entry))) (lookup (caseOf (now (s .entry))) (v .0) (names (caseOf (now (s .entry))) path)) ⌝ }
+{
+    if plain_path(s, path) {
+        return reached(s, v, path);
+    }
+    look_from(s, path, v, 0)
 }
 
 // ---- at a point
@@ -339,8 +367,7 @@ pub fn field_at(s: &[u8], p: usize, path: Run) -> Binding
     ensures { λ r. ⌜ inCells (r .tag) (r .bits) ≡ fieldAt (caseOf (now (s .entry))) (pointAt (now (s .entry)) p) (names (caseOf (now (s .entry))) path) ⌝ }
 {
     let v = point_word(s, p, 6);
-    let found = path_descend(s, ValNo(v), path);
-    binding_found(s, found)
+    reached(s, ValNo(v), path)
 }
 
 pub fn context_at(s: &[u8], p: usize, path: Run) -> Binding
@@ -349,8 +376,7 @@ pub fn context_at(s: &[u8], p: usize, path: Run) -> Binding
     ensures { λ r. ⌜ inCells (r .tag) (r .bits) ≡ contextAt (caseOf (now (s .entry))) (pointAt (now (s .entry)) p) (names (caseOf (now (s .entry))) path) ⌝ }
 {
     let v = point_word(s, p, 7);
-    let found = path_lookup(s, ValNo(v), path);
-    binding_found(s, found)
+    path_lookup(s, ValNo(v), path)
 }
 
 // the attribute object that point p has of an entity
@@ -434,10 +460,7 @@ fn supplied(s: &[u8], p: usize, t: StrNo, i: StrNo, path: Run) -> Binding
 {
     let object = attributes_of(s, p, t, i);
     match object {
-        Found::At(v) => {
-            let found = path_lookup(s, v, path);
-            binding_found(s, found)
-        }
+        Found::At(v) => path_lookup(s, v, path),
         Found::Nothing => Binding { tag: 0, bits: 0 },
     }
 }

@@ -10,12 +10,8 @@ point-word-requires c κs = search (checked-bodies, needs)
 path-lookup-requires : tie.Need-path-lookup-requires
 path-lookup-requires c κs = search needs
 
-binding-found-requires : tie.Need-binding-found-requires
-binding-found-requires c κs = search needs
-
 returns : tie.Need-returns
 returns c = search (context-is, needs)
 
 pub context-at-spec : {M : Type 1} → statement M
-context-at-spec =
-    tie.close (tie.spec point-word-requires path-lookup-requires binding-found-requires returns)
+context-at-spec = tie.close (tie.spec point-word-requires path-lookup-requires returns)

@@ -1,20 +1,16 @@
-use Rattle.meaning.specs.Laws.Checked.{checked-bodies}
-use Rattle.equality.proofs.Searching.{one-name, looked-up}
 use borrow.Author.Needs.{needs}
+use Rattle.equality.proofs.Searching.{plain-is, looked-up}
 use Rattle.equality.proofs.paths.path_lookup.Statement.{statement}
 use Rattle.equality.proofs.paths.path_lookup.Tie as tie
 
-wide-requires : tie.Need-wide-requires
-wide-requires c κs = search needs
+plain-path-requires : tie.Need-plain-path-requires
+plain-path-requires c κs = search needs
 
-list-at-requires : tie.Need-list-at-requires
-list-at-requires c κs = search (checked-bodies, needs)
-
-member-named-requires : tie.Need-member-named-requires
-member-named-requires c κs = search needs
+reached-requires : tie.Need-reached-requires
+reached-requires c κs = search needs
 
 returns : tie.Need-returns
-returns c = search (one-name, needs)
+returns c = search (plain-is, needs)
 
 look-from-requires : tie.Need-look-from-requires
 look-from-requires c κs = search needs
@@ -24,11 +20,4 @@ returns-2 c = search (looked-up, needs)
 
 pub path-lookup-spec : {M : Type 1} → statement M
 path-lookup-spec =
-    tie.close
-    (tie.spec
-    wide-requires
-    list-at-requires
-    member-named-requires
-    returns
-    look-from-requires
-    returns-2)
+    tie.close (tie.spec plain-path-requires reached-requires returns look-from-requires returns-2)

@@ -13,9 +13,6 @@ enum-known-object c = search needs
 path-lookup-requires : tie.Need-path-lookup-requires
 path-lookup-requires c κs = search needs
 
-binding-found-requires : tie.Need-binding-found-requires
-binding-found-requires c κs = search needs
-
 enum-told : tie.Need-enum-told
 enum-told c = search needs
 
@@ -32,7 +29,6 @@ supplied-spec =
     attributes-of-requires
     enum-known-object
     path-lookup-requires
-    binding-found-requires
     enum-told
     returns
     returns-2)

@@ -25,7 +25,7 @@ use Rattle.equality.specs.declared.Pair.{Pair}
 use Rattle.equality.specs.declared.Seen.{Seen}
 use Rattle.equality.specs.declared.Seen.the-variants.{Same, Differ, Open}
 use Rattle.equality.specs.Joined.{Holders, Headed, Told, Paired, Glanced, Looked}
-use Rattle.equality.proofs.Steps.{open-place, shut-place}
+use Rattle.equality.specs.Places.{open-place, shut-place}
 use Rattle.laws.specs.Text.{list-same}
 
 true-false : true ≡ false → ⊥

@@ -19,12 +19,8 @@ use Rattle.laws.specs.Tests.{stop}
 use Rattle.laws.specs.Values.{value-beyond}
 use Rattle.laws.specs.Checked.{checked-bodies, checked-values, values-most, sameValue-is}
 use Rattle.equality.specs.Cells.{valueIn, Settled}
+use Rattle.equality.specs.Places.{value-as}
 use Rattle.equality.proofs.Alike.{kind-is, alike-leaf, one-same}
-
--- a value by its words
-pub value-as : (s : List ℕ) (v n k a b : ℕ) → k ≡ valueWord s v 0 → a ≡ valueWord s v 1 → b ≡ valueWord s v 2 → k ≡ n → valueAt s v ≡ valueFrom (partAt s) n a b
-unfolding valueAt
-value-as s v n k a b ek ea eb e = rw (← ek, ← ea, ← eb, e) refl
 
 -- ---- a value's cells
 

@@ -1,11 +1,4 @@
-pub mod Steps
 pub mod Alike
 pub mod Joining
 pub mod Cells
-pub mod Rising
-pub mod Members
-pub mod Reach
-pub mod Dotted
-pub mod Searching
-pub mod Attributes
 pub mod Hashing

@@ -1,5 +1,4 @@
+pub mod Places
 pub mod Cells
-pub mod Paths
-pub mod Dotted
 pub mod Hashes
 pub mod Joined

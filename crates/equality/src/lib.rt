@@ -1,39 +1,16 @@
-// Equality of values, the number by which cells are found, and what paths reach: what the evaluator asks of a checked case, each equal to its definition.
+// Equality of values and of cells, and the number by which cells are found, each equal to its definition.
 use meaning::ValNo;
 
 mod hashes;
-mod paths;
 mod values;
 
 pub use hashes::binding_hash;
 pub use hashes::mix;
-pub use paths::context_at;
-pub use paths::field_at;
-pub use paths::path_descend;
-pub use paths::same_event;
-pub use paths::scope_at;
 pub use values::binding_eq;
 pub use values::binding_of;
+pub use values::both;
 pub use values::dom_eq;
-
-// a value that a path reaches
-pub enum Found {
-    At(ValNo),
-    Nothing,
-}
-
-// what is behind a name in a text: the end, a dot and the byte after it, or something else
-enum After {
-    End,
-    Dot(usize),
-    Other,
-}
-
-// a run of members: the first one's number, and the one after the last's
-struct Span {
-    first: usize,
-    end: usize,
-}
+pub use values::long;
 
 // what two values show at once: the answer, or two runs of n members from p and from q on
 struct Heads {

@@ -29,8 +29,8 @@ pub fn leaf_of(s: &[u8], asked: usize, env: Env, node: Node) -> Binding
 {
     match node {
         Node::Literal(v) => equality::binding_of(s, v),
-        Node::Context(path) => equality::context_at(s, asked, path),
-        Node::Scope(root, path) => equality::scope_at(s, asked, root, path),
+        Node::Context(path) => lookup::context_at(s, asked, path),
+        Node::Scope(root, path) => lookup::scope_at(s, asked, root, path),
         Node::Variable(x) => rows::env::bound_at(env, wide(x)),
         _ => Binding { tag: 0, bits: 0 },
     }

@@ -11,6 +11,8 @@ use crate::written::write;
 const STRINGS: usize = 16_384;
 const MANY: usize = 500_000;
 const MOST_BYTES: usize = 4_194_304;
+/// What an empty room is refused with.
+const NO_ROOM: u32 = 10;
 
 /// What is written: its name, and its strings.
 type Shape = (&'static str, fn() -> Vec<String>);
@@ -71,6 +73,11 @@ impl Lent {
     }
 }
 
+/// The call with no room: it sorts and joins, and then refuses 10.
+fn sorted_alone(unsorted: &[u8]) -> Result<usize, u32> {
+    write(unsorted, &[], &mut [], &mut [])
+}
+
 /// The different strings, as Rust sorts them: slices of the same text.
 fn sorted<'a>(strings: &[&'a [u8]]) -> Vec<&'a [u8]> {
     let mut strings = strings.to_vec();
@@ -81,8 +88,8 @@ fn sorted<'a>(strings: &[&'a [u8]]) -> Vec<&'a [u8]> {
 
 /// Milliseconds of processor time.
 pub fn print_table() -> Result<bool, String> {
-    println!("| strings | the writer | Rust's sort and dedup | ratio | a copy of the bytes |");
-    println!("|---|---|---|---|---|");
+    println!("| strings | the writer | its sorting | Rust's sort and dedup | sorting to Rust | a copy of the bytes |");
+    println!("|---|---|---|---|---|---|");
     for (name, strings) in SHAPES {
         let strings = strings();
         let bytes = unsorted(&strings);
@@ -94,14 +101,19 @@ pub fn print_table() -> Result<bool, String> {
         if written != different {
             return Err(format!("{name}: {written} strings written, {different} are different"));
         }
-        let (ours, theirs) = by_turns(|| lent.written(&bytes), || sorted(&slices));
+        if sorted_alone(&bytes) != Err(NO_ROOM) {
+            return Err(format!("{name}: an empty room is not refused"));
+        }
+        let whole = by_itself(|| lent.written(&bytes));
+        let (ours, theirs) = by_turns(|| sorted_alone(&bytes), || sorted(&slices));
         let mut copy = vec![1; bytes.len()];
         let copied = by_itself(|| {
             copy.copy_from_slice(black_box(&bytes));
             black_box(&mut copy)[0]
         });
         let shown = |time: f64| format!("{:.2}", time / 1e6);
-        println!("| {name} | {} | {} | {:.2} | {} |", shown(ours), shown(theirs), ours / theirs, shown(copied));
+        let [whole, sorting, rust, copied] = [whole, ours, theirs, copied].map(shown);
+        println!("| {name} | {whole} | {sorting} | {rust} | {:.2} | {copied} |", ours / theirs);
     }
     Ok(true)
 }

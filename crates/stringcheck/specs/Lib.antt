@@ -1,2 +1,3 @@
 pub mod Mosts
 pub mod Tables
+pub mod Eight

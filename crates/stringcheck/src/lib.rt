@@ -9,12 +9,14 @@ use tables::text_of;
 use tables::wide;
 ghost use mathlib.Core.Path.{_≡_};
 ghost use mathlib.Core.Bool.{Bool, true, false};
-ghost use Prim.Native.Nat.{_<_};
+ghost use Prim.Native.Nat.{_+_, _<_, _≤_};
+ghost use lib.ListN.{length};
 ghost use Rattle.meaning.specs.Tests.{_and_, _or_, allBelow};
 ghost use Rattle.meaning.specs.Text.{before, free, utf8, first, follow, next, ended};
 ghost use Rattle.meaning.specs.Case.{strings, values, members, points, nodes, lists, vars, text};
 ghost use Rattle.meaning.specs.Check.{recordBytes, bodies, mosts, endToEnd, utf8Rule, orderRule, stringRules};
 ghost use Rattle.laws.specs.Tests.{Filled};
+ghost use Rattle.stringcheck.specs.Eight.{Lesser, eightOf, Eight};
 
 // ---- rules of several parts
 
@@ -281,7 +283,8 @@ fn check_utf8(s: &[u8]) -> bool
     true
 }
 
-pub fn is_before(x: &[u8], y: &[u8]) -> bool
+// byte by byte
+fn bytes_before(x: &[u8], y: &[u8]) -> bool
     ensures { λ r. ⌜ _≡_ {A = Bool} r (before (now (x .entry)) (now (y .entry))) ⌝ }
 {
     let mut i = 0;
@@ -298,6 +301,58 @@ pub fn is_before(x: &[u8], y: &[u8]) -> bool
         i += 1;
     }
     i < y.len()
+}
+
+// eight bytes as one number, the first the highest
+fn eight(a: u8, b: u8, c: u8, d: u8, e: u8, f: u8, g: u8, h: u8) -> u64
+    ensures { λ r. ⌜ r ≡ eightOf a b c d e f g h ⌝ }
+{
+    let high = (c as u64) + 256 * ((b as u64) + 256 * (a as u64));
+    let middle = (f as u64) + 256 * ((e as u64) + 256 * ((d as u64) + 256 * high));
+    (h as u64) + 256 * ((g as u64) + 256 * middle)
+}
+
+fn eight_at(s: &[u8], i: usize) -> u64
+    requires { ⌜ i + 8 ≤ length (now s) ⌝ }
+    ensures { λ r. ⌜ Eight (now (s .entry)) i r ⌝ }
+{
+    eight(
+        s[i],
+        s[i + 1],
+        s[i + 2],
+        s[i + 3],
+        s[i + 4],
+        s[i + 5],
+        s[i + 6],
+        s[i + 7],
+    )
+}
+
+fn lesser(a: usize, b: usize) -> usize
+    ensures { λ r. ⌜ Lesser a b r ⌝ }
+{
+    if a < b { a } else { b }
+}
+
+// in byte order? eight bytes at a time: the last eight may have been compared in part before
+pub fn is_before(x: &[u8], y: &[u8]) -> bool
+    ensures { λ r. ⌜ _≡_ {A = Bool} r (before (now (x .entry)) (now (y .entry))) ⌝ }
+{
+    let n = lesser(x.len(), y.len());
+    if n < 8 {
+        return bytes_before(x, y);
+    }
+    let mut i = 0;
+    while i < n {
+        let at = lesser(i, n - 8);
+        let a = eight_at(x, at);
+        let b = eight_at(y, at);
+        if a != b {
+            return a < b;
+        }
+        i = at + 8;
+    }
+    x.len() < y.len()
 }
 
 // string k comes after the one before it

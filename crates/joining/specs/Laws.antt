@@ -5,11 +5,11 @@ use mathlib.Core.List.{List, [], _∷_, _++_, map}
 use Prim.Native.Nat.{ℕ, zero, suc, _+_, _-_, _<_, _≤_}
 use native.Mathlib.Omega.{arith}
 use lib.Dec.{ltb}
-use lib.ListN.{length, take, drop, getD, set, length-set, length-map, length-append, length-drop, List·getD-append}
-use lib.Seq.{length-take-le, getD-take, getD-drop, getD-append-add, getD-set-same, getD-set-other, ext-getD}
+use lib.ListN.{length, take, drop, getD, length-map, length-append, length-drop, List·getD-append}
+use lib.Seq.{length-take-le, getD-take, getD-drop, getD-append-add, ext-getD}
 use borrow.Author.Tests.{ltb-true, ltb-false}
 use Rattle.meaning.specs.Case.{text}
-use Rattle.joining.specs.Order.{listed, Moved}
+use Rattle.joining.specs.Order.{listed, Put}
 
 map-at : {A B : Type 0} (f : A → B) (l : List A) (i : ℕ) (d : A) (e : B) → i < length l → getD (map f l) i e ≡ f (getD l i d)
 map-at f [] i d e h = absurd (omega arith)
@@ -24,6 +24,24 @@ pub listed-at : (s order : List ℕ) (n i : ℕ) → n ≤ length order → i < 
 unfolding listed
 listed-at s order n i h l =
     map-at (text s) (take n order) i 0 [] (omega (arith, length-take-le n order h)) ∙ ap (text s) (getD-take n order i 0 l)
+
+-- the texts of a part
+pub listed-part : (s order : List ℕ) (n low w : ℕ) → n ≤ length order → low + w ≤ n → listed s (drop low order) w ≡ take w (drop low (listed s order n))
+listed-part s order n low w h k =
+    ext-getD [] (listed s (drop low order) w) (take w (drop low (listed s order n)))
+    (omega (arith, many, length-take-le w (drop low (listed s order n)) (omega (arith, length-drop low (listed s order n), listed-long s order n h))))
+    (λ i l. each i (omega (arith, many)))
+  where
+    many : length (listed s (drop low order) w) ≡ w
+    many = listed-long s (drop low order) w (omega (arith, length-drop low order))
+
+    each : (i : ℕ) → i < w → getD (listed s (drop low order) w) i [] ≡ getD (take w (drop low (listed s order n))) i []
+    each i l =
+        listed-at s (drop low order) w i (omega (arith, length-drop low order)) l
+        ∙ ap (text s) (getD-drop low order i 0)
+        ∙ sym (listed-at s order n (low + i) h (omega arith))
+        ∙ sym (getD-drop low (listed s order n) i [])
+        ∙ sym (getD-take w (drop low (listed s order n)) i [] l)
 
 -- ---- one more among them
 
@@ -52,10 +70,9 @@ module _ {A : Type 0} (l : List A) (x d : A) (p : ℕ) (h : p ≤ length l) wher
       ∙ getD-drop p l (i - p) d
       ∙ ap (λ (n : ℕ). getD l n d) z
 
--- the others have moved up, and the new entry is stored
-pub listed-more : (s old new : List ℕ) (p n k : ℕ) → Moved p n old new → n < length old → p ≤ n → listed s (set new p k) (n + 1) ≡ take p (listed s old n) ++ (text s k ∷ drop p (listed s old n))
+pub listed-more : (s old new : List ℕ) (p n k : ℕ) → Put p n k old new → n < length old → p ≤ n → listed s new (n + 1) ≡ take p (listed s old n) ++ (text s k ∷ drop p (listed s old n))
 listed-more s old new p n k m room le =
-    ext-getD [] (listed s (set new p k) (n + 1)) (take p (listed s old n) ++ (text s k ∷ drop p (listed s old n)))
+    ext-getD [] (listed s new (n + 1)) (take p (listed s old n) ++ (text s k ∷ drop p (listed s old n)))
     (omega (arith, many, more-long l (text s k) [] p inside, lots))
     (λ i h. each i (omega (arith, many)) (ltb i p) refl (ltb p i) refl)
   where
@@ -68,36 +85,32 @@ listed-more s old new p n k m room le =
     inside : p ≤ length l
     inside = omega (arith, lots)
 
-    wide : length (set new p k) ≡ length old
-    wide = length-set new p k ∙ m .long
+    many : length (listed s new (n + 1)) ≡ n + 1
+    many = listed-long s new (n + 1) (omega (arith, m .long))
 
-    many : length (listed s (set new p k) (n + 1)) ≡ n + 1
-    many = listed-long s (set new p k) (n + 1) (omega (arith, wide))
+    entry : (i : ℕ) → i < n + 1 → getD (listed s new (n + 1)) i [] ≡ text s (getD new i 0)
+    entry i h = listed-at s new (n + 1) i (omega (arith, m .long)) h
 
-    entry : (i : ℕ) → i < n + 1 → getD (listed s (set new p k) (n + 1)) i [] ≡ text s (getD (set new p k) i 0)
-    entry i h = listed-at s (set new p k) (n + 1) i (omega (arith, wide)) h
-
-    after : (i j : ℕ) → i ≡ suc j → p ≤ j → j < n → getD (listed s (set new p k) (n + 1)) i [] ≡ getD (take p l ++ (text s k ∷ drop p l)) i []
+    after : (i j : ℕ) → i ≡ suc j → p ≤ j → j < n → getD (listed s new (n + 1)) i [] ≡ getD (take p l ++ (text s k ∷ drop p l)) i []
     after i j q lo hi =
         let z : i ≡ j + 1 = omega arith in
         entry i (omega arith)
-        ∙ ap (text s) (getD-set-other new p i k 0 (λ e. absurd (omega arith)) ∙ ap (λ (t : ℕ). getD new t 0) z ∙ m .moved j lo hi)
+        ∙ ap (text s) (ap (λ (t : ℕ). getD new t 0) z ∙ m .upper j lo hi)
         ∙ sym (listed-at s old n j (omega arith) hi)
         ∙ sym (more-after l (text s k) [] p inside j lo)
         ∙ ap (λ (t : ℕ). getD (take p l ++ (text s k ∷ drop p l)) t []) (sym q)
 
-    each : (i : ℕ) → i < n + 1 → (a : Bool) → ltb i p ≡ a → (b : Bool) → ltb p i ≡ b → getD (listed s (set new p k) (n + 1)) i [] ≡ getD (take p l ++ (text s k ∷ drop p l)) i []
+    each : (i : ℕ) → i < n + 1 → (a : Bool) → ltb i p ≡ a → (b : Bool) → ltb p i ≡ b → getD (listed s new (n + 1)) i [] ≡ getD (take p l ++ (text s k ∷ drop p l)) i []
     each i h true e b f =
         let lt : i < p = ltb-true i p e in
         entry i h
-        ∙ ap (text s) (getD-set-other new p i k 0 (λ e. absurd (omega arith)) ∙ m .lower i (omega arith))
+        ∙ ap (text s) (m .lower i lt)
         ∙ sym (listed-at s old n i (omega arith) (omega arith))
         ∙ sym (more-before l (text s k) [] p inside i lt)
     each i h false e true f = let lt : p < i = ltb-true p i f in after i (i - 1) (omega arith) (omega arith) (omega arith)
     each i h false e false f =
         let q : i ≡ p = omega (arith, ltb-false i p e, ltb-false p i f) in
-        let w : p < length new = omega (arith, m .long) in
         entry i h
-        ∙ ap (text s) (ap (λ (t : ℕ). getD (set new p k) t 0) q ∙ getD-set-same new p k 0 w)
+        ∙ ap (text s) (ap (λ (t : ℕ). getD new t 0) q ∙ m .here)
         ∙ sym (more-there l (text s k) [] p inside)
         ∙ ap (λ (t : ℕ). getD (take p l ++ (text s k ∷ drop p l)) t []) (sym q)

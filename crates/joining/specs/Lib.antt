@@ -1,2 +1,5 @@
 pub mod Order
+pub mod Fresh
 pub mod Laws
+pub mod Insert
+pub mod Run

@@ -56,9 +56,16 @@ pub record Sorted (s order : List ℕ) (n : ℕ) : Type 0 where
   pub fits : n ≤ length order
   pub is : listed s order n ≡ texts s
 
--- the entries from `at` on, up to n, have moved one up; all others are as they were
-pub record Moved (at n : ℕ) (old new : List ℕ) : Type 0 where
+-- the entries from `at` on, up to n, have moved up by so many; all others are as they were
+pub record Moved (at n by : ℕ) (old new : List ℕ) : Type 0 where
   pub long : length new ≡ length old
-  pub lower : (k : ℕ) → k ≤ at → getD new k 0 ≡ getD old k 0
-  pub moved : (k : ℕ) → at ≤ k → k < n → getD new (k + 1) 0 ≡ getD old k 0
-  pub above : (k : ℕ) → n < k → getD new k 0 ≡ getD old k 0
+  pub lower : (k : ℕ) → k < at + by → getD new k 0 ≡ getD old k 0
+  pub moved : (k : ℕ) → at ≤ k → k < n → getD new (k + by) 0 ≡ getD old k 0
+  pub above : (k : ℕ) → n + by ≤ k → getD new k 0 ≡ getD old k 0
+
+-- k stands at place p, and what stood there has moved one up
+pub record Put (p n k : ℕ) (old new : List ℕ) : Type 0 where
+  pub long : length new ≡ length old
+  pub lower : (i : ℕ) → i < p → getD new i 0 ≡ getD old i 0
+  pub here : getD new p 0 ≡ k
+  pub upper : (i : ℕ) → p ≤ i → i < n → getD new (i + 1) 0 ≡ getD old i 0

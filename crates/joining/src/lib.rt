@@ -7,14 +7,17 @@ use tables::size_of;
 use tables::string_word;
 use tables::wide;
 ghost use mathlib.Core.Path.{_≡_};
-ghost use mathlib.Core.Bool.{true};
-ghost use Prim.Native.Nat.{_<_, _≤_};
+ghost use mathlib.Core.Bool.{Bool, true};
+ghost use Prim.Native.Nat.{_+_, _-_, _<_, _≤_};
 ghost use lib.ListN.{length};
-ghost use Rattle.meaning.specs.Case.{text};
+ghost use Rattle.meaning.specs.Tests.{choose};
+ghost use Rattle.meaning.specs.Case.{text, strings};
 ghost use Rattle.meaning.specs.Check.{bodies};
 ghost use Rattle.encode.specs.Join.{insertNew};
 ghost use Rattle.encode.specs.Unsorted.{number, texts};
-ghost use Rattle.joining.specs.Order.{Least, Cut, Place, Stands, listed, InOrder, Joins, Sorted, Moved};
+ghost use Rattle.joining.specs.Order.{Least, Cut, Place, Stands, listed, InOrder, Joins, Sorted, Moved, Put};
+ghost use Rattle.joining.specs.Fresh.{Fresh, together, Floor, Roof, Beside, Keeps, Reaches, Ready, Merged, Upto};
+ghost use Rattle.joining.specs.Run.{onward, Run, Counted, Begun};
 
 fn least(a: usize, b: usize) -> usize
     ensures { λ r. ⌜ Least a b r ⌝ }
@@ -69,17 +72,17 @@ fn stands_at(s: &[u8], order: &[u32], n: usize, p: usize, x: &[u8]) -> bool
     !is_before(x, text_in(s, StrNo(k)))
 }
 
-// the entries from..n move one up
-fn move_up(a: &mut [u32], from: usize, n: usize)
-    requires { ⌜ n < length (now a) ⌝ }
+// the entries from..n move up by so many
+fn move_up(a: &mut [u32], from: usize, n: usize, by: usize)
+    requires { ⌜ n + by ≤ length (now a) ⌝ }
     requires { ⌜ from ≤ n ⌝ }
-    ensures { λ _. ⌜ Moved from n (now (a .entry)) (now (a .exit)) ⌝ }
+    requires { ⌜ 0 < by ⌝ }
+    ensures { λ _. ⌜ Moved from n by (now (a .entry)) (now (a .exit)) ⌝ }
 {
     let mut j = n;
     while from < j {
-        let k = j - 1;
-        a[j] = a[k];
-        j = k;
+        j -= 1;
+        a[j + by] = a[j];
     }
 }
 
@@ -88,23 +91,221 @@ pub enum Joined {
     TooMany,
 }
 
-// string k joins the n texts in order
-fn join_one(s: &[u8], order: &mut [u32], n: usize, k: u32) -> Joined
+// the place of the fresh one before the q-th
+fn floor_at(places: &[u32], q: usize) -> usize
+    requires { ⌜ q ≤ length (now places) ⌝ }
+    ensures { λ r. ⌜ Floor (now (places .entry)) q r ⌝ }
+{
+    if q == 0 {
+        return 0;
+    }
+    wide(places[q - 1])
+}
+
+// the place of the q-th fresh one of m; where there is none, the end
+fn roof_at(places: &[u32], m: usize, n: usize, q: usize) -> usize
+    requires { ⌜ m ≤ length (now places) ⌝ }
+    ensures { λ r. ⌜ Roof (now (places .entry)) m n q r ⌝ }
+{
+    if m <= q {
+        return n;
+    }
+    wide(places[q])
+}
+
+// k goes to place p of n, and what stood there moves one up
+fn put_at(a: &mut [u32], p: usize, n: usize, k: u32)
+    requires { ⌜ n < length (now a) ⌝ }
+    requires { ⌜ p ≤ n ⌝ }
+    ensures { λ _. ⌜ Put p n k (now (a .entry)) (now (a .exit)) ⌝ }
+{
+    move_up(a, p, n, 1);
+    a[p] = k;
+}
+
+// how many of the n in order are before x, which goes to place q of the m fresh ones
+fn place_beside(
+    s: &[u8],
+    order: &[u32],
+    n: usize,
+    places: &[u32],
+    m: usize,
+    q: usize,
+    x: &[u8],
+) -> usize
     requires { ⌜ bodies (now s) ≡ true ⌝ }
     requires { ⌜ InOrder (now s) (now order) n ⌝ }
-    ensures { λ r. ⌜ Joins (now (s .entry)) (now (order .exit)) (insertNew (text (now (s .entry)) k) (listed (now (s .entry)) (now (order .entry)) n)) r ⌝ }
+    requires { ⌜ m ≤ length (now places) ⌝ }
+    requires { ⌜ q ≤ m ⌝ }
+    requires { ⌜ Beside (now s) (now order) n (now places) m q (now x) ⌝ }
+    ensures { λ r. ⌜ Place (now (x .entry)) (listed (now (s .entry)) (now (order .entry)) n) n r ⌝ }
+{
+    let low = floor_at(places, q);
+    let high = roof_at(places, m, n, q);
+    let part = &order[low..];
+    low + place_of(s, part, high - low, x)
+}
+
+// string k joins the m fresh texts, unless it stands there or in order
+fn join_one(
+    s: &[u8],
+    order: &[u32],
+    n: usize,
+    fresh: &mut [u32],
+    places: &mut [u32],
+    m: usize,
+    k: u32,
+) -> Joined
+    requires { ⌜ bodies (now s) ≡ true ⌝ }
+    requires { ⌜ Fresh (now s) (now order) n (now fresh) (now places) m ⌝ }
+    requires { ⌜ m < length (now fresh) ⌝ }
+    requires { ⌜ n ≤ 4294967295 ⌝ }
+    ensures { λ r. ⌜ Keeps (now (s .entry)) (now (order .entry)) n (now (fresh .exit)) (now (places .exit)) (insertNew (text (now (s .entry)) k) (together (now (s .entry)) (now (order .entry)) n (now (fresh .entry)) m)) r ⌝ }
 {
     let x = text_in(s, StrNo(k));
-    let p = place_of(s, order, n, x);
-    if stands_at(s, order, n, p, x) {
-        return Joined::Made(n);
+    let q = place_of(s, fresh, m, x);
+    if stands_at(s, fresh, m, q, x) {
+        return Joined::Made(m);
     }
-    if order.len() <= n {
+    let p = place_beside(s, order, n, places, m, q, x);
+    if stands_at(s, order, n, p, x) {
+        return Joined::Made(m);
+    }
+    if order.len() <= n + m {
         return Joined::TooMany;
     }
-    move_up(order, p, n);
-    order[p] = k;
-    Joined::Made(n + 1)
+    put_at(fresh, q, m, k);
+    put_at(places, q, m, narrow(p));
+    Joined::Made(m + 1)
+}
+
+pub enum Filled {
+    Till(u32, usize),
+    NoRoom,
+}
+
+// strings from `from` on are joined, until there are as many fresh ones as fit
+fn fill(
+    s: &[u8],
+    order: &[u32],
+    n: usize,
+    fresh: &mut [u32],
+    places: &mut [u32],
+    from: u32,
+) -> Filled
+    requires { ⌜ bodies (now s) ≡ true ⌝ }
+    requires { ⌜ Upto (now s) (now order) n from ⌝ }
+    requires { ⌜ from < strings (now s) ⌝ }
+    requires { ⌜ 0 < length (now fresh) ⌝ }
+    requires { ⌜ length (now places) ≡ length (now fresh) ⌝ }
+    ensures { λ r. ⌜ Reaches (now (s .entry)) (now (order .entry)) n (now (fresh .exit)) (now (places .exit)) from r ⌝ }
+{
+    let many = string_count(s);
+    let mut k = from;
+    let mut m = 0;
+    while k < many {
+        if fresh.len() <= m {
+            return Filled::Till(k, m);
+        }
+        let joined = join_one(s, order, n, fresh, places, m, k);
+        match joined {
+            Joined::Made(more) => {
+                m = more;
+            }
+            Joined::TooMany => {
+                return Filled::NoRoom;
+            }
+        }
+        k += 1;
+    }
+    Filled::Till(k, m)
+}
+
+// the m fresh entries go between the n in order, each to its place, from the last to the first
+fn merge(order: &mut [u32], n: usize, fresh: &[u32], places: &[u32], m: usize)
+    requires { ⌜ Ready (now order) n (now fresh) (now places) m ⌝ }
+    ensures { λ _. ⌜ Merged (now (order .entry)) n (now (fresh .entry)) (now (places .entry)) m (now (order .exit)) ⌝ }
+{
+    let mut end = n;
+    let mut j = m;
+    while 0 < j {
+        let by = j;
+        j -= 1;
+        let at = wide(places[j]);
+        move_up(order, at, end, by);
+        order[at + j] = fresh[j];
+        end = at;
+    }
+}
+
+// is string k + 1 before string k, or after it?
+fn goes_on(s: &[u8], k: u32, down: bool) -> bool
+    requires { ⌜ bodies (now s) ≡ true ⌝ }
+    requires { ⌜ k < 4294967295 ⌝ }
+    ensures { λ r. ⌜ _≡_ {A = Bool} r (onward (now (s .entry)) down k) ⌝ }
+{
+    let x = text_in(s, StrNo(k));
+    let y = text_in(s, StrNo(k + 1));
+    if down {
+        is_before(y, x)
+    } else {
+        is_before(x, y)
+    }
+}
+
+// how many strings, up to `many`, rise or fall from the first on
+fn run_length(s: &[u8], many: u32, down: bool) -> u32
+    requires { ⌜ bodies (now s) ≡ true ⌝ }
+    requires { ⌜ 0 < many ⌝ }
+    ensures { λ r. ⌜ Run (now (s .entry)) many down r ⌝ }
+{
+    let mut k = 1;
+    while k < many {
+        if !goes_on(s, k - 1, down) {
+            return k;
+        }
+        k += 1;
+    }
+    k
+}
+
+// the i-th of 0 to n - 1, rising or falling
+fn nth_of(n: u32, down: bool, i: u32) -> u32
+    requires { ⌜ i < n ⌝ }
+    ensures { λ r. ⌜ r ≡ choose down (n - 1 - i) i ⌝ }
+{
+    if down { n - 1 - i } else { i }
+}
+
+// all of them
+fn put_run(order: &mut [u32], n: u32, down: bool)
+    requires { ⌜ n ≤ length (now order) ⌝ }
+    ensures { λ _. ⌜ Counted down n n (now (order .exit)) ⌝ }
+{
+    let mut i = 0;
+    while i < n {
+        let at = wide(i);
+        order[at] = nth_of(n, down, i);
+        i += 1;
+    }
+}
+
+// the strings at the front that rise or fall, at once
+fn first_run(s: &[u8], order: &mut [u32]) -> u32
+    requires { ⌜ bodies (now s) ≡ true ⌝ }
+    ensures { λ r. ⌜ Begun (now (s .entry)) (now (order .exit)) r ⌝ }
+{
+    let all = string_count(s);
+    if all < 2 {
+        return 0;
+    }
+    let down = goes_on(s, 0, true);
+    let n = run_length(s, all, down);
+    if order.len() < wide(n) {
+        return 0;
+    }
+    put_run(order, n, down);
+    n
 }
 
 // all strings in order, each text once: how many there are
@@ -113,19 +314,22 @@ pub fn join_strings(s: &[u8], order: &mut [u32]) -> Joined
     ensures { λ r. ⌜ Joins (now (s .entry)) (now (order .exit)) (texts (now (s .entry))) r ⌝ }
 {
     let many = string_count(s);
-    let mut n = 0;
-    let mut k = 0;
+    let mut fresh = [0u32; 256];
+    let mut places = [0u32; 256];
+    let mut k = first_run(s, order);
+    let mut n = wide(k);
     while k < many {
-        let joined = join_one(s, order, n, k);
-        match joined {
-            Joined::Made(m) => {
-                n = m;
+        let filled = fill(s, order, n, &mut fresh, &mut places, k);
+        match filled {
+            Filled::Till(next, m) => {
+                merge(order, n, &fresh, &places, m);
+                n += m;
+                k = next;
             }
-            Joined::TooMany => {
+            Filled::NoRoom => {
                 return Joined::TooMany;
             }
         }
-        k += 1;
     }
     Joined::Made(n)
 }

@@ -6,7 +6,7 @@ use Prim.Native.Nat.{ℕ, zero, suc, _+_, _<_, _≤_}
 use native.Mathlib.Omega.{arith}
 use lib.Dec.{ltb, eqb}
 use lib.ListN.{length, take, drop, getD}
-use borrow.Author.Tests.{ltb-true, ltb-false, lt-ltb, le-ltb, eqb-true, eqb-false, eq-eqb}
+use borrow.Author.Tests.{ltb-true, ltb-false, lt-ltb, le-ltb, eqb-true, eqb-false, eq-eqb, ne-eqb}
 use Rattle.meaning.specs.Tests.{_and_, _or_, choose}
 use Rattle.meaning.specs.Text.{before}
 use Rattle.laws.specs.Lists.{Every, every-map}
@@ -100,7 +100,7 @@ insert-every P x (y ∷ ys) p e = go (before y x) (before x y) (insert-every P x
     go false true r = (p, e)
     go false false r = e
 
-insert-rises : (x : List ℕ) (l : List (List ℕ)) → Rising l → Rising (insertNew x l)
+pub insert-rises : (x : List ℕ) (l : List (List ℕ)) → Rising l → Rising (insertNew x l)
 unfolding insertNew choose
 insert-rises x [] r = (tt, tt)
 insert-rises x (y ∷ ys) r = go (before y x) (before x y) refl refl (insert-rises x ys (r .1))

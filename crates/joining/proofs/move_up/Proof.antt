@@ -1,25 +1,32 @@
-use borrow.Author.Needs.{needs}
-use Rattle.joining.proofs.Moves.{Moving, moving-none, moving-more, moving-all}
 use Rattle.joining.proofs.move_up.Statement.{statement}
 use Rattle.joining.proofs.move_up.Tie as tie
+use Rattle.joining.proofs.move_up.Reads as reads
+use Rattle.joining.proofs.move_up.Lts as lts
+use borrow.Author.Needs.{needs}
+use Rattle.joining.proofs.Moves.{Moving, moving-none, moving-more, moving-all}
 
 abbrev Inv-loop : tie.InvT-loop
-Inv-loop a₀ from n j₀ a j = Moving from n j a₀ a
+Inv-loop a₀ from n by j₀ a j = Moving from n by j a₀ a
 
 abbrev μ-loop : tie.MeasureT-loop
-μ-loop a₀ from n j₀ a j = j
+μ-loop a₀ from n by j₀ a j = j
 
 loop-holds : tie.Need-loop-holds Inv-loop μ-loop
 loop-holds c = search (moving-none, needs)
 
-sub-k : tie.Need-sub-k Inv-loop μ-loop
-sub-k c = search needs
+-- src/lib.rt:82:9
+sub-j : tie.Need-sub-j Inv-loop μ-loop
+sub-j c = search needs
 
 mul-a : tie.Need-mul-a Inv-loop μ-loop
 mul-a c = search needs
 
 slice-read-a : tie.Need-slice-read-a Inv-loop μ-loop
 slice-read-a c = search needs
+
+-- src/lib.rt:83:11
+add-a : tie.Need-add-a Inv-loop μ-loop
+add-a c = search needs
 
 mul-a-2 : tie.Need-mul-a-2 Inv-loop μ-loop
 mul-a-2 c = search needs
@@ -46,9 +53,10 @@ move-up-spec =
     Inv-loop
     μ-loop
     loop-holds
-    sub-k
+    sub-j
     mul-a
     slice-read-a
+    add-a
     mul-a-2
     slice-write-a
     loop-less

@@ -14,7 +14,7 @@ use Rattle.meaning.specs.Case.{text, strings}
 use Rattle.encode.specs.Join.{below, insertNew, joined}
 use Rattle.encode.specs.Laws.Join.{joined-rises, place-above, place-below, place-inside, insert-at}
 use Rattle.joining.specs.Order.{listed, Cut}
-use Rattle.joining.specs.Fresh.{New, Upto}
+use Rattle.joining.specs.Fresh.{New}
 use Rattle.joining.specs.Run.{onward, Run, Counted, Begun}
 use Rattle.joining.specs.Laws.{listed-long, listed-at, more-long, more-before, more-there, more-after}
 use Rattle.joining.specs.Insert.{before-after}

@@ -44,7 +44,7 @@ same-length-5 : tie.Need-same-length-5
 same-length-5 c = search needs
 
 returns-3 : tie.Need-returns-3
-returns-3 c = keeps-none (c .before .before .before .before .before .before .before .before .before .before .before .before .before .before .before .pre .1 .0) (c .before .before .before .before .before .before .before .before .before .before .text-in .ensures) (c .before .before .before .before .before .before .before .before .place-of .ensures) (c .before .before .before .before .before .before .stands-at .ensures) (c .before .before .before .before .before .if1 .left) (c .before .before .before .place-beside .ensures) (c .before .before .stands-at2 .ensures) (c .before .if2 .left) (c .if3 .taken)
+returns-3 c = keeps-none (c .before .before .before .before .before .before .before .before .before .before .before .before .before .before .before .pre .1 .0) (c .before .before .before .before .before .before .before .before .before .before .text-in .ensures) (c .before .before .before .before .before .before .before .before .place-of .ensures) (c .before .before .before .before .before .before .stands-at .ensures) (c .before .before .before .before .before .if1 .left) (c .before .before .before .place-beside .ensures) (c .before .before .stands-at2 .ensures) (c .before .if2 .left) (omega (arith, c .if3 .taken))
 
 put-at-requires : tie.Need-put-at-requires
 put-at-requires c κs = search needs
@@ -65,7 +65,7 @@ same-length-7 : tie.Need-same-length-7
 same-length-7 c = search needs
 
 returns-4 : tie.Need-returns-4
-returns-4 c = keeps-more (c .before .before .before .before .before .before .before .before .before .before .before .before .before .before .before .before .before .before .before .before .before .before .before .before .pre .1 .0) (c .before .before .before .before .before .before .before .before .before .before .before .before .before .before .before .before .before .before .before .text-in .ensures) (c .before .before .before .before .before .before .before .before .before .before .before .before .before .before .before .before .before .place-of .ensures) (c .before .before .before .before .before .before .before .before .before .before .before .before .before .before .before .stands-at .ensures) (c .before .before .before .before .before .before .before .before .before .before .before .before .before .before .if1 .left) (c .before .before .before .before .before .before .before .before .before .before .before .before .place-beside .ensures) (c .before .before .before .before .before .before .before .before .before .before .before .stands-at2 .ensures) (c .before .before .before .before .before .before .before .before .before .before .if2 .left) (c .before .before .before .before .before .before .before .before .before .if3 .left) (c .before .before .before .before .before .before .before .before .before .before .before .before .before .before .before .before .before .before .before .before .before .before .before .before .pre .1 .1 .0) (c .before .before .before .before .before .before .before .put-at .ensures) (c .before .before .put-at2 .ensures) (c .before .before .before .narrow .ensures)
+returns-4 c = keeps-more (c .before .before .before .before .before .before .before .before .before .before .before .before .before .before .before .before .before .before .before .before .before .before .before .before .pre .1 .0) (c .before .before .before .before .before .before .before .before .before .before .before .before .before .before .before .before .before .before .before .text-in .ensures) (c .before .before .before .before .before .before .before .before .before .before .before .before .before .before .before .before .before .place-of .ensures) (c .before .before .before .before .before .before .before .before .before .before .before .before .before .before .before .stands-at .ensures) (c .before .before .before .before .before .before .before .before .before .before .before .before .before .before .if1 .left) (c .before .before .before .before .before .before .before .before .before .before .before .before .place-beside .ensures) (c .before .before .before .before .before .before .before .before .before .before .before .stands-at2 .ensures) (c .before .before .before .before .before .before .before .before .before .before .if2 .left) (omega (arith, c .before .before .before .before .before .before .before .before .before .if3 .left)) (c .before .before .before .before .before .before .before .before .before .before .before .before .before .before .before .before .before .before .before .before .before .before .before .before .pre .1 .1 .0) (c .before .before .before .before .before .before .before .put-at .ensures) (c .before .before .put-at2 .ensures) (c .before .before .before .narrow .ensures)
 
 pub join-one-spec : {M : Type 1} → statement M
 join-one-spec =

@@ -1,13 +1,13 @@
 -- A string's bytes, cut where text ends
 use mathlib.Core.Path.{_≡_, refl, sym, _∙_, ap}
 use mathlib.Core.Bool.{Bool, true, false}
-use mathlib.Core.List.{List, []}
+use mathlib.Core.List.{List}
 use Prim.Native.Nat.{ℕ, _+_, _-_, _<_, _≤_}
 use native.Mathlib.Omega.{arith}
 use lib.Dec.{ltb, lit<}
 use lib.ListN.{length, take, drop, length-drop, drop-of-length-le}
-use lib.Seq.{take-all, take-nil, drop-drop, length-take-le}
-use borrow.Author.Tests.{ltb-true, ltb-false, lt-ltb, le-ltb}
+use lib.Seq.{take-all, drop-drop, length-take-le}
+use borrow.Author.Tests.{ltb-false, lt-ltb, le-ltb}
 use Rattle.meaning.specs.Tests.{choose}
 use Rattle.meaning.specs.Case.{offset, size, body, stringWord, text}
 use Rattle.meaning.specs.Check.{bodies}

@@ -27,6 +27,13 @@ pub struct Matched {
     pub row: Env,
 }
 
+// what a field asks of the row: it is as it was, or a variable is newly bound; or the field does not fit
+pub enum Fits {
+    No,
+    Yes,
+    Binds(u32, Binding),
+}
+
 // an unbound variable, or what is none
 pub enum Variable {
     Is(u32),

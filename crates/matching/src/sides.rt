@@ -16,11 +16,25 @@ ghost use Rattle.meaning.specs.Rows.{inCells};
 ghost use Rattle.meaning.specs.Meaning.{both, compared};
 ghost use Rattle.numbers.specs.Numbers.{orders};
 ghost use Rattle.rows.specs.Slots.{Sized};
-ghost use Rattle.matching.specs.Asking.{Standing, leafValue, unboundAt, variableOf, integerIn, combined};
+ghost use Rattle.matching.specs.Asking.{Standing, leafValue, Fixes, unboundAt, variableOf, integerIn, combined};
 
 // ---- terms
 
-// what a node resolves to without a walk; context and scope come from the point asked about
+// what a node that is no variable resolves to without a walk; context and scope come from the point asked about
+pub fn fixed_of(s: &[u8], asked: usize, node: Node) -> Binding
+    requires { ⌜ Checked (now s) ⌝ }
+    requires { ⌜ Standing (now s) node ⌝ }
+    ensures { λ r. ⌜ Fixes (now (s .entry)) asked node (inCells (r .tag) (r .bits)) ⌝ }
+{
+    match node {
+        Node::Literal(v) => equality::binding_of(s, v),
+        Node::Context(path) => lookup::context_at(s, asked, path),
+        Node::Scope(root, path) => lookup::scope_at(s, asked, root, path),
+        _ => Binding { tag: 0, bits: 0 },
+    }
+}
+
+// what a node resolves to without a walk
 pub fn leaf_of(s: &[u8], asked: usize, env: Env, node: Node) -> Binding
     requires { ⌜ Checked (now s) ⌝ }
     requires { ⌜ Sized env ⌝ }
@@ -28,11 +42,8 @@ pub fn leaf_of(s: &[u8], asked: usize, env: Env, node: Node) -> Binding
     ensures { λ r. ⌜ inCells (r .tag) (r .bits) ≡ leafValue (now (s .entry)) asked env node ⌝ }
 {
     match node {
-        Node::Literal(v) => equality::binding_of(s, v),
-        Node::Context(path) => lookup::context_at(s, asked, path),
-        Node::Scope(root, path) => lookup::scope_at(s, asked, root, path),
         Node::Variable(x) => rows::env::bound_at(env, wide(x)),
-        _ => Binding { tag: 0, bits: 0 },
+        _ => fixed_of(s, asked, node),
     }
 }
 

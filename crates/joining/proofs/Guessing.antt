@@ -21,7 +21,7 @@ use Rattle.joining.specs.Fresh.{insertAll}
 use Rattle.joining.specs.Run.{Begun}
 use Rattle.joining.specs.Laws.{listed-long, listed-at, listed-more}
 use Rattle.joining.specs.Insert.{before-after, commute, again, all-below, all-more}
-use Rattle.joining.specs.Guess.{Bounds, Runs, Picks, Capped, Few, Follows, Repeats, Grows, Seen, Takes}
+use Rattle.joining.specs.Guess.{Bounds, Runs, Picks, Capped, Follows, Repeats, Grows, Seen, Takes}
 use Rattle.joining.specs.declared.Joined.the-variants.{Made}
 use Rattle.joining.specs.declared.Next.{Next}
 use Rattle.joining.specs.declared.Next.the-variants as nexts
@@ -78,9 +78,6 @@ pass-bounds a b h = record { low-middle = a .low; middle-high = b .low; inside =
 
 pub pass-less : {low middle high n width : ℕ} → Capped low width n middle → Capped middle width n high → low < n → 0 < width → n - high < n - low
 pass-less a b h w = omega (arith, a .on w h, b .low, b .high)
-
-pub few-is : {s order : List ℕ} {many k w : ℕ} → many ≡ strings s → k < many → many ≤ 16384 → w ≡ many → w ≤ length order → Few s many order
-few-is e h l q r = record { all = e; some = omega arith; few = l; room = omega arith }
 
 -- ---- one string behind those in order
 
@@ -267,9 +264,6 @@ module _ {s first order : List ℕ} {seen : List Bool} {many n i : ℕ} (g : Gat
 
 pub takes-none : {s order : List ℕ} → Takes s order (takes.First 0)
 takes-none = record { is = begun-none }
-
-pub takes-first : {s order : List ℕ} {k : ℕ} → Begun s order k → Takes s order (takes.First k)
-takes-first b = record { is = b }
 
 pub took-all : {s order : List ℕ} {r : Taken} {n : ℕ} → Takes s order r → r ≡ takes.All n → Joins s order (texts s) (Made n)
 took-all t e = record { is = (rw e at t) .is }

@@ -2,6 +2,7 @@
 use super::least;
 use super::text_in;
 use meaning::StrNo;
+use stringcheck::either;
 use stringcheck::is_before;
 use tables::wide;
 ghost use mathlib.Core.Path.{_≡_};
@@ -89,17 +90,33 @@ fn start_of(s: &[u8], n: u32) -> &[u8]
     &first[from..most]
 }
 
-// ---- entries: a key and a number below 65,536
+// ---- entries: a key, whether it leaves something to tell, and a number below 32,768
 
-fn entry_of(key: u64, k: u32) -> u64
+fn entry_of(key: u64, more: bool, k: u32) -> u64
     requires { ⌜ key ≤ 281474976710655 ⌝ }
     requires { ⌜ k < 16384 ⌝ }
 {
-    key * 65536 + (k as u64)
+    let low = k as u64;
+    if more {
+        return key * 65536 + 32768 + low;
+    }
+    key * 65536 + low
 }
 
 pub fn number_in(entry: u64) -> u32 {
-    (entry % 65536) as u32
+    (entry % 32768) as u32
+}
+
+// string k's
+fn entry_at(s: &[u8], start: &[u8], k: u32) -> u64
+    requires { ⌜ bodies (now s) ≡ true ⌝ }
+    requires { ⌜ k < 16384 ⌝ }
+{
+    let x = text_in(s, StrNo(k));
+    let key = key_of(start, x);
+    let rest = x.len() - least(start.len(), x.len());
+    let far = either(key == 0, key == 281474976710655);
+    entry_of(key, either(far, 6 < rest), k)
 }
 
 // an entry for each of the first n strings
@@ -110,21 +127,24 @@ fn put_entries(s: &[u8], start: &[u8], n: u32, table: &mut [u64; 16384])
     let mut k = 0;
     while k < n {
         let at = wide(k);
-        table[at] = entry_of(key_of(start, text_in(s, StrNo(k))), k);
+        table[at] = entry_at(s, start, k);
         k += 1;
     }
 }
 
 // ---- merging
 
-// a goes first? by their keys, and where these are the same by their texts
+// a goes first? by their keys, and where these are the same and leave something to tell by their texts
 fn goes_first(s: &[u8], a: u64, b: u64) -> bool
     requires { ⌜ bodies (now s) ≡ true ⌝ }
 {
-    let x = a / 65536;
-    let y = b / 65536;
+    let x = a / 32768;
+    let y = b / 32768;
     if x != y {
         return x < y;
+    }
+    if x % 2 == 0 {
+        return true;
     }
     !is_before(
         text_in(s, StrNo(number_in(b))),
@@ -219,4 +239,63 @@ pub fn guess(s: &[u8], n: u32, table: &mut [u64; 16384])
         merge_pass(s, &other, table, many, 2 * width);
         width = 4 * width;
     }
+}
+
+// ---- whether it is worth it: for many strings, of which few are the same and no long run stands first
+
+fn is_same(x: &[u8], y: &[u8]) -> bool {
+    if is_before(x, y) {
+        return false;
+    }
+    !is_before(y, x)
+}
+
+// is the text of string k that of an earlier one, a step, two or more before it?
+fn is_repeated(s: &[u8], k: u32, step: u32) -> bool
+    requires { ⌜ bodies (now s) ≡ true ⌝ }
+    requires { ⌜ k ≤ 16384 ⌝ }
+    requires { ⌜ 0 < step ⌝ }
+    requires { ⌜ step ≤ 16384 ⌝ }
+{
+    let mut j = 0;
+    while j < k {
+        if is_same(text_in(s, StrNo(j)), text_in(s, StrNo(k))) {
+            return true;
+        }
+        j += step;
+    }
+    false
+}
+
+// how many of the strings, a step apart, are
+fn repeated(s: &[u8], n: u32, step: u32) -> u32
+    requires { ⌜ bodies (now s) ≡ true ⌝ }
+    requires { ⌜ n ≤ 16384 ⌝ }
+    requires { ⌜ 0 < step ⌝ }
+    requires { ⌜ step ≤ 16384 ⌝ }
+{
+    let mut many = 0;
+    let mut k = 0;
+    while k < n {
+        if is_repeated(s, k, step) {
+            many += 1;
+            k += step;
+        } else {
+            k += step;
+        }
+    }
+    many
+}
+
+pub fn is_worth(s: &[u8], n: u32, run: u32) -> bool
+    requires { ⌜ bodies (now s) ≡ true ⌝ }
+    requires { ⌜ n ≤ 16384 ⌝ }
+{
+    if n < 512 {
+        return false;
+    }
+    if n / 4 < run {
+        return false;
+    }
+    repeated(s, n, n / 32) < 3
 }

@@ -2,6 +2,7 @@
 mod guess;
 
 use guess::guess;
+use guess::is_worth;
 use guess::number_in;
 use meaning::StrNo;
 use stringcheck::is_before;
@@ -429,7 +430,7 @@ fn take_guessed(s: &[u8], many: u32, order: &mut [u32]) -> Taken
     gather(s, &table, many, order)
 }
 
-// those at the front that rise or fall; where there are more, all by a guess
+// those at the front that rise or fall; or all by a guess, where that is worth it
 fn take_first(s: &[u8], order: &mut [u32]) -> Taken
     requires { ⌜ bodies (now s) ≡ true ⌝ }
     ensures { λ r. ⌜ Takes (now (s .entry)) (now (order .exit)) r ⌝ }
@@ -443,6 +444,9 @@ fn take_first(s: &[u8], order: &mut [u32]) -> Taken
         return Taken::First(k);
     }
     if order.len() < wide(many) {
+        return Taken::First(k);
+    }
+    if !is_worth(s, many, k) {
         return Taken::First(k);
     }
     take_guessed(s, many, order)

@@ -1,11 +1,12 @@
-use Prim.Native.Nat.{_-_, _≤_}
-use borrow.Author.Needs.{needs}
 use Rattle.joining.proofs.guess.put_entries.Statement.{statement}
 use Rattle.joining.proofs.guess.put_entries.Tie as tie
+use Rattle.joining.proofs.guess.entry_at.Reads as entry-at-reads
+use Rattle.tables.proofs.wide.Reads as wide-reads
+use Prim.Native.Nat.{_-_, _≤_}
+use borrow.Author.Needs.{needs}
 use Rattle.joining.proofs.guess.entry_of.Reads as entry-of-reads
 use Rattle.joining.proofs.guess.key_of.Reads as key-of-reads
 use Rattle.joining.proofs.text_in.Reads as text-in-reads
-use Rattle.tables.proofs.wide.Reads as wide-reads
 
 abbrev Inv-loop : tie.InvT-loop
 Inv-loop s start n table₀ k₀ table k = k ≤ n
@@ -19,14 +20,8 @@ loop-holds c = search needs
 wide-requires : tie.Need-wide-requires Inv-loop μ-loop
 wide-requires c κs = search needs
 
-text-in-requires : tie.Need-text-in-requires Inv-loop μ-loop
-text-in-requires c κs = search needs
-
-key-of-requires : tie.Need-key-of-requires Inv-loop μ-loop
-key-of-requires c κs = search needs
-
-entry-of-requires : tie.Need-entry-of-requires Inv-loop μ-loop
-entry-of-requires c κs = search needs
+entry-at-requires : tie.Need-entry-at-requires Inv-loop μ-loop
+entry-at-requires c κs = search needs
 
 mul-table : tie.Need-mul-table Inv-loop μ-loop
 mul-table c = search needs
@@ -54,9 +49,7 @@ put-entries-spec =
     μ-loop
     loop-holds
     wide-requires
-    text-in-requires
-    key-of-requires
-    entry-of-requires
+    entry-at-requires
     mul-table
     element-write-table
     add-k

@@ -104,7 +104,7 @@ module _ {s order x : List ℕ} {n k p : ℕ} {r : Bool} (o : InOrder s order n)
   new : r ≡ false → New x (listed s order n)
   new e lt = ap (λ (i : ℕ). before x (getD (listed s order n) i [])) (sym (at .is)) ∙ next e (omega (arith, at .is, lots))
 
-  put : r ≡ false → insertNew (text s k) (listed s order n) ≡ take p (listed s order n) ++ (text s k ∷ drop p (listed s order n))
+  pub put : r ≡ false → insertNew (text s k) (listed s order n) ≡ take p (listed s order n) ++ (text s k ∷ drop p (listed s order n))
   put e =
       ap (λ (y : List ℕ). insertNew y (listed s order n)) (sym (is .is))
       ∙ insert-at x (listed s order n) (new e)

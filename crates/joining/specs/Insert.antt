@@ -41,7 +41,7 @@ swap a b (z ∷ zs) h = go (before z b) (before b z) (before z a) (before a z) r
     go true q false false e f g i rest = rw (g, i, e) refl
     go false q false false e f g i rest = let k = before-neither z a g i in cc
 
-commute : (x y : List ℕ) (l : List (List ℕ)) → insertNew x (insertNew y l) ≡ insertNew y (insertNew x l)
+pub commute : (x y : List ℕ) (l : List (List ℕ)) → insertNew x (insertNew y l) ≡ insertNew y (insertNew x l)
 commute x y l = go (before x y) (before y x) refl refl
   where
     go : (p q : Bool) → before x y ≡ p → before y x ≡ q → insertNew x (insertNew y l) ≡ insertNew y (insertNew x l)
@@ -49,7 +49,7 @@ commute x y l = go (before x y) (before y x) refl refl
     go false true e f = sym (swap y x l f)
     go false false e f = let k : x ≡ y = before-neither x y e f in rw k refl
 
-again : (x : List ℕ) (l : List (List ℕ)) → insertNew x (insertNew x l) ≡ insertNew x l
+pub again : (x : List ℕ) (l : List (List ℕ)) → insertNew x (insertNew x l) ≡ insertNew x l
 unfolding insertNew choose
 again x [] = rw (before-not x) refl
 again x (z ∷ zs) = go (before z x) (before x z) refl refl (again x zs)

@@ -3,3 +3,4 @@ pub mod Fresh
 pub mod Laws
 pub mod Insert
 pub mod Run
+pub mod Guess

@@ -1,4 +1,9 @@
 // Strings sorted by their bytes, equal ones joined, and the new number of each.
+mod guess;
+
+use guess::guess;
+use guess::is_worth;
+use guess::number_in;
 use meaning::StrNo;
 use stringcheck::is_before;
 use stringcheck::string_count;
@@ -18,6 +23,7 @@ ghost use Rattle.encode.specs.Unsorted.{number, texts};
 ghost use Rattle.joining.specs.Order.{Least, Cut, Place, Stands, listed, InOrder, Joins, Sorted, Moved, Put};
 ghost use Rattle.joining.specs.Fresh.{Fresh, together, Floor, Roof, Beside, Keeps, Reaches, Ready, Merged, Upto};
 ghost use Rattle.joining.specs.Run.{onward, Run, Counted, Begun};
+ghost use Rattle.joining.specs.Guess.{Few, Follows, Repeats, Grows, Seen, Takes};
 
 fn least(a: usize, b: usize) -> usize
     ensures { λ r. ⌜ Least a b r ⌝ }
@@ -308,15 +314,156 @@ fn first_run(s: &[u8], order: &mut [u32]) -> u32
     n
 }
 
-// all strings in order, each text once: how many there are
-pub fn join_strings(s: &[u8], order: &mut [u32]) -> Joined
+// ---- a guess, checked
+
+// is x after all of the n in order?
+fn follows(s: &[u8], order: &[u32], n: usize, x: &[u8]) -> bool
     requires { ⌜ bodies (now s) ≡ true ⌝ }
+    requires { ⌜ InOrder (now s) (now order) n ⌝ }
+    ensures { λ r. ⌜ Follows (now (x .entry)) (listed (now (s .entry)) (now (order .entry)) n) n r ⌝ }
+{
+    if n == 0 {
+        return true;
+    }
+    let k = order[n - 1];
+    is_before(text_in(s, StrNo(k)), x)
+}
+
+// is x the last of the n in order?
+fn repeats(s: &[u8], order: &[u32], n: usize, x: &[u8]) -> bool
+    requires { ⌜ bodies (now s) ≡ true ⌝ }
+    requires { ⌜ InOrder (now s) (now order) n ⌝ }
+    ensures { λ r. ⌜ Repeats (now (x .entry)) (listed (now (s .entry)) (now (order .entry)) n) r ⌝ }
+{
+    if n == 0 {
+        return false;
+    }
+    let k = order[n - 1];
+    let y = text_in(s, StrNo(k));
+    if is_before(x, y) {
+        return false;
+    }
+    !is_before(y, x)
+}
+
+pub enum Next {
+    Upto(usize),
+    Not,
+}
+
+// string k behind the n in order, where it goes there
+fn take_one(s: &[u8], order: &mut [u32], n: usize, k: u32) -> Next
+    requires { ⌜ bodies (now s) ≡ true ⌝ }
+    requires { ⌜ InOrder (now s) (now order) n ⌝ }
+    requires { ⌜ n < length (now order) ⌝ }
+    ensures { λ r. ⌜ Grows (now (s .entry)) (now (order .entry)) n k (now (order .exit)) r ⌝ }
+{
+    let x = text_in(s, StrNo(k));
+    if follows(s, order, n, x) {
+        order[n] = k;
+        return Next::Upto(n + 1);
+    }
+    if repeats(s, order, n, x) {
+        return Next::Upto(n);
+    }
+    Next::Not
+}
+
+// are the first n seen?
+fn all_seen(seen: &[bool; 16384], n: usize) -> bool
+    requires { ⌜ n ≤ 16384 ⌝ }
+    ensures { λ r. ⌜ Seen (now (seen .entry)) n r ⌝ }
+{
+    let mut i = 0;
+    while i < n {
+        if !seen[i] {
+            return false;
+        }
+        i += 1;
+    }
+    true
+}
+
+// all strings are in order, each text once; or the first so many are joined
+pub enum Taken {
+    All(usize),
+    First(u32),
+}
+
+// the strings as the table has them, as long as they rise: nothing, where one is missing
+fn gather(s: &[u8], table: &[u64; 16384], many: u32, order: &mut [u32]) -> Taken
+    requires { ⌜ bodies (now s) ≡ true ⌝ }
+    requires { ⌜ Few (now s) many (now order) ⌝ }
+    ensures { λ r. ⌜ Takes (now (s .entry)) (now (order .exit)) r ⌝ }
+{
+    let mut seen = [false; 16384];
+    let mut n = 0;
+    let mut i = 0;
+    while i < wide(many) {
+        let k = number_in(table[i]);
+        if many <= k {
+            return Taken::First(0);
+        }
+        let next = take_one(s, order, n, k);
+        let Next::Upto(more) = next else {
+            return Taken::First(0);
+        };
+        n = more;
+        let at = wide(k);
+        seen[at] = true;
+        i += 1;
+    }
+    if all_seen(&seen, wide(many)) {
+        return Taken::All(n);
+    }
+    Taken::First(0)
+}
+
+// by a guess
+fn take_guessed(s: &[u8], many: u32, order: &mut [u32]) -> Taken
+    requires { ⌜ bodies (now s) ≡ true ⌝ }
+    requires { ⌜ Few (now s) many (now order) ⌝ }
+    ensures { λ r. ⌜ Takes (now (s .entry)) (now (order .exit)) r ⌝ }
+{
+    let mut table = [0u64; 16384];
+    guess(s, many, &mut table);
+    gather(s, &table, many, order)
+}
+
+// those at the front that rise or fall; or all by a guess, where that is worth it
+fn take_first(s: &[u8], order: &mut [u32]) -> Taken
+    requires { ⌜ bodies (now s) ≡ true ⌝ }
+    ensures { λ r. ⌜ Takes (now (s .entry)) (now (order .exit)) r ⌝ }
+{
+    let many = string_count(s);
+    let k = first_run(s, order);
+    if many <= k {
+        return Taken::First(k);
+    }
+    if 16384 < many {
+        return Taken::First(k);
+    }
+    if order.len() < wide(many) {
+        return Taken::First(k);
+    }
+    if !is_worth(s, many, k) {
+        return Taken::First(k);
+    }
+    take_guessed(s, many, order)
+}
+
+// ---- all strings
+
+// with the first so many joined
+fn join_from(s: &[u8], order: &mut [u32], from: u32) -> Joined
+    requires { ⌜ bodies (now s) ≡ true ⌝ }
+    requires { ⌜ Begun (now s) (now order) from ⌝ }
     ensures { λ r. ⌜ Joins (now (s .entry)) (now (order .exit)) (texts (now (s .entry))) r ⌝ }
 {
     let many = string_count(s);
     let mut fresh = [0u32; 256];
     let mut places = [0u32; 256];
-    let mut k = first_run(s, order);
+    let mut k = from;
     let mut n = wide(k);
     while k < many {
         let filled = fill(s, order, n, &mut fresh, &mut places, k);
@@ -332,6 +479,18 @@ pub fn join_strings(s: &[u8], order: &mut [u32]) -> Joined
         }
     }
     Joined::Made(n)
+}
+
+// all strings in order, each text once: how many there are
+pub fn join_strings(s: &[u8], order: &mut [u32]) -> Joined
+    requires { ⌜ bodies (now s) ≡ true ⌝ }
+    ensures { λ r. ⌜ Joins (now (s .entry)) (now (order .exit)) (texts (now (s .entry))) r ⌝ }
+{
+    let taken = take_first(s, order);
+    match taken {
+        Taken::All(n) => Joined::Made(n),
+        Taken::First(k) => join_from(s, order, k),
+    }
 }
 
 pub fn narrow(n: usize) -> u32

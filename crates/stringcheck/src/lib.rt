@@ -307,9 +307,9 @@ fn bytes_before(x: &[u8], y: &[u8]) -> bool
 fn eight(a: u8, b: u8, c: u8, d: u8, e: u8, f: u8, g: u8, h: u8) -> u64
     ensures { λ r. ⌜ r ≡ eightOf a b c d e f g h ⌝ }
 {
-    let high = (c as u64) + 256 * ((b as u64) + 256 * (a as u64));
-    let middle = (f as u64) + 256 * ((e as u64) + 256 * ((d as u64) + 256 * high));
-    (h as u64) + 256 * ((g as u64) + 256 * middle)
+    let high = (d as u64) + 256 * ((c as u64) + 256 * ((b as u64) + 256 * (a as u64)));
+    let low = (h as u64) + 256 * ((g as u64) + 256 * ((f as u64) + 256 * (e as u64)));
+    low + 4294967296 * high
 }
 
 fn eight_at(s: &[u8], i: usize) -> u64

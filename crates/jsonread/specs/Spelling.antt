@@ -1,0 +1,67 @@
+-- The bytes that a string stands for, one after another
+use mathlib.Core.Path.{_≡_}
+use mathlib.Core.Bool.{Bool}
+use mathlib.Core.List.{List, [], _∷_, _++_}
+use Prim.Native.Nat.{ℕ, zero, suc, _+_, _*_, _-_, _/_, _%_, _<_, _≤_}
+use lib.Dec.{ltb}
+use lib.ListN.{length, drop}
+use Rattle.meaning.specs.Tests.{choose}
+use Rattle.meaning.specs.Equal.{sameList}
+use Rattle.meaning.specs.declared.Due.{Due}
+use Rattle.jsontext.specs.Reading.{Read, got}
+use Rattle.jsontext.specs.Strings.{utf8Of, chars, string}
+use Rattle.jsonread.specs.declared.names.Cursor.{Cursor}
+use Rattle.jsonread.specs.declared.names.Order.{Order}
+use Rattle.jsonread.specs.declared.names.Order.the-variants.{Less, Same, More}
+use Rattle.jsonread.specs.declared.names.Out.{Out}
+use Rattle.jsonread.specs.declared.names.Out.the-variants.{Byte, Ended}
+
+-- the last bytes of a character in UTF-8, so many
+unfoldable pub lastOf : ℕ → ℕ → List ℕ
+lastOf u zero = []
+lastOf u (suc zero) = (128 + u % 64) ∷ []
+lastOf u (suc (suc zero)) = (128 + u / 64 % 64) ∷ (128 + u % 64) ∷ []
+lastOf u (suc (suc (suc k))) = (128 + u / 4096 % 64) ∷ (128 + u / 64 % 64) ∷ (128 + u % 64) ∷ []
+
+-- the first byte of a character, with the others left
+pub record Begins (u at : ℕ) (r : Out) : Type 0 where
+  pub byte : ℕ
+  pub left : ℕ
+  pub few : left ≤ 3
+  pub is : r ≡ Byte byte (record { at = at; character = u; left = left })
+  pub bytes : utf8Of u ≡ byte ∷ lastOf u left
+
+-- these bytes are left to give
+pub record Spelt (line : List ℕ) (c : Cursor) (bytes : List ℕ) : Type 0 where
+  pub turns : ℕ
+  pub due : Due
+  pub text : List ℕ
+  pub rest : List ℕ
+  pub few : c .left ≤ 3
+  pub is : chars turns due (drop (c .at) line) ≡ got text rest
+  pub all : bytes ≡ lastOf (c .character) (c .left) ++ text
+
+pub record Yielded (line : List ℕ) (n : Cursor) (b : ℕ) (bytes : List ℕ) : Type 0 where
+  pub others : List ℕ
+  pub is : bytes ≡ b ∷ others
+  pub spelt : Spelt line n others
+
+pub record NextTold (line : List ℕ) (c : Cursor) (r : Out) : Type 0 where
+  pub less : (b : ℕ) (n : Cursor) → r ≡ Byte b n → 4 * (length line - n .at) + n .left < 4 * (length line - c .at) + c .left
+  pub ended : r ≡ Ended → (bytes : List ℕ) → Spelt line c bytes → bytes ≡ []
+  pub yields : (b : ℕ) (n : Cursor) → r ≡ Byte b n → (bytes : List ℕ) → Spelt line c bytes → Yielded line n b bytes
+
+-- byte order, a prefix first
+unfoldable pub orderOf : List ℕ → List ℕ → Order
+orderOf [] [] = Same
+orderOf [] (b ∷ t) = Less
+orderOf (a ∷ s) [] = More
+orderOf (a ∷ s) (b ∷ t) = choose (ltb a b) Less (choose (ltb b a) More (orderOf s t))
+
+-- of two strings that read well: their order
+abbrev pub OrderTold : List ℕ → ℕ → ℕ → Order → Type 0
+OrderTold line a b r = (m n s t : List ℕ) → string (drop a line) ≡ got m s → string (drop b line) ≡ got n t → r ≡ orderOf m n
+
+-- of a string that reads well: it is this word
+abbrev pub WordTold : List ℕ → ℕ → List ℕ → Bool → Type 0
+WordTold line at word r = (n rest : List ℕ) → string (drop at line) ≡ got n rest → r ≡ sameList n word

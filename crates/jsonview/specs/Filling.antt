@@ -48,7 +48,7 @@ placed-append at (x ∷ xs) ys =
     more : at + length x + length (flat xs) ≡ at + length (x ++ flat xs)
     more = omega (arith, length-append x (flat xs))
 
-map-append : {A B : Type 0} (f : A → B) (xs ys : List A) → map f (xs ++ ys) ≡ map f xs ++ map f ys
+pub map-append : {A B : Type 0} (f : A → B) (xs ys : List A) → map f (xs ++ ys) ≡ map f xs ++ map f ys
 map-append f [] ys = refl
 map-append f (x ∷ xs) ys = ap (λ (l : List _). f x ∷ l) (map-append f xs ys)
 

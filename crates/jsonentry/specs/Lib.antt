@@ -1,0 +1,4 @@
+pub mod Marks
+pub mod Marking
+pub mod Fields
+pub mod Entries

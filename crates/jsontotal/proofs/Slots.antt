@@ -9,15 +9,15 @@ use lib.ListN.{length, getD, set}
 use lib.Seq.{getD-set-other}
 use Rattle.jsontext.specs.Values.{J, Parts}
 use Rattle.jsontext.specs.Events.{Item, Event, Field, Time, Namespace, Action, Kind, Logged, Context, Principal, Resource, Entities, Found, with, found, have, whole}
-use Rattle.jsontrace.specs.Count.{Count, nothing, _⊞_, aString, aPoint, listWords, counted, countedMaybe, countedStrings, countedEntities, countedEvent}
+use Rattle.jsontrace.specs.Count.{Count, nothing, _⊞_, aString, aPoint, listWords, countedMaybe, countedStrings, countedEntities, countedEvent}
 use Rattle.jsonlines.specs.Fields.{fieldOf}
 use Rattle.jsonlines.specs.Events.{numberOf}
 use Rattle.jsoncount.specs.Tally.{sizes}
 use Rattle.jsoncount.specs.Sizes.{textsSize, fieldsSize}
 use Rattle.jsoncount.proofs.Sums.{sum-comm, sum-none, sum-assoc}
 use Rattle.jsontotal.specs.Fields.{timeSize, fieldSize, entrySize, entriesSize}
-use Rattle.jsontotal.proofs.Apart.{Fresh, nowhere, not-first, Apart, alone, apart-from}
-use Rattle.jsontotal.proofs.Names.{named-once, Named, no-more, named-and}
+use Rattle.jsontotal.proofs.Apart.{Fresh, not-first, Apart, apart-from}
+use Rattle.jsontotal.proofs.Names.{named-once, Named, named-and}
 
 -- ---- a list of counts
 

@@ -15,7 +15,7 @@ use Rattle.jsontext.specs.Values.{due}
 use Rattle.jsontext.specs.Events.{Event, Field, fieldReaders, isField, fieldBy, found, whole, complete, event, ended, line as lineOf, cut, Log, events, refused, withEvent, lines, log}
 use Rattle.jsonread.specs.Told.{Blanks}
 use Rattle.jsonread.proofs.Spelling.{never}
-use Rattle.jsontrace.specs.Count.{Count, nothing, _⊞_, aPoint, countedEvent, countedEvents}
+use Rattle.jsontrace.specs.Count.{nothing, _⊞_, aPoint, countedEvent, countedEvents}
 use Rattle.jsonlines.specs.Events.{lineLength, LogIs}
 use Rattle.jsonlines.proofs.Lines.{lineFrom, end-within, line-long, cut-line, lineBy, lines-is, no-lines}
 use Rattle.jsonruns.specs.Good.{Good}

@@ -1,7 +1,7 @@
 -- A field's value, by its place in a point's record: what it adds
 use mathlib.Core.Path.{_≡_, refl, sym, ap, _∙_}
 use mathlib.Core.List.{List, _∷_}
-use Prim.Native.Nat.{ℕ, _+_, _<_, _≤_}
+use Prim.Native.Nat.{ℕ, _+_, _<_}
 use native.Mathlib.Omega.{arith}
 use lib.Dec.{eqb}
 use lib.ListN.{length, drop, length-drop}
@@ -9,11 +9,11 @@ use Rattle.jsontext.specs.declared.Fault.{Fault}
 use Rattle.jsontext.specs.declared.Fault.the-variants.{BadField}
 use Rattle.jsontext.specs.declared.Step.{Step}
 use Rattle.jsontext.specs.declared.Step.the-variants.{At, Bad}
-use Rattle.jsontext.specs.Reading.{Read, got, then, mapped, want}
+use Rattle.jsontext.specs.Reading.{Read, got, then, want}
 use Rattle.jsontext.specs.Numbers.{number}
 use Rattle.jsontext.specs.Strings.{string}
 use Rattle.jsontext.specs.Values.{numeral, due, text, array, value, fields}
-use Rattle.jsontext.specs.Events.{Field, Time, Namespace, Action, Kind, Logged, Context, Principal, Resource, Entities, listed}
+use Rattle.jsontext.specs.Events.{Time, Namespace, Action, Kind, Logged, Context, Principal, Resource, Entities, listed}
 use Rattle.jsonread.specs.Told.{Told}
 use Rattle.jsonread.proofs.Places.{byte-at}
 use Rattle.jsonread.proofs.Spelling.{never}

@@ -14,7 +14,8 @@ pub fn count_line(line: &[u8], t: Tally) -> Tally
     requires { ⌜ Good (now line) 0 (lineOf (now line)) ⌝ }
     ensures { λ r. ⌜ LineAdds (now (line .entry)) t r ⌝ }
 {
-    let r = count_entries(line, skip_blanks(line, 0) + 1, with_point(t));
+    let point = with_point(t);
+    let r = count_entries(line, skip_blanks(line, 0) + 1, point);
     r.tally
 }
 

@@ -3,14 +3,14 @@ use borrow.Author.Needs.{needs}
 use Rattle.jsontotal.proofs.lines.count_line.Statement.{statement}
 use Rattle.jsontotal.proofs.lines.count_line.Tie as tie
 
+with-point-requires : tie.Need-with-point-requires
+with-point-requires c κs = search needs
+
 skip-blanks-requires : tie.Need-skip-blanks-requires
 skip-blanks-requires c κs = search needs
 
 add-count-entries : tie.Need-add-count-entries
 add-count-entries c = search needs
-
-with-point-requires : tie.Need-with-point-requires
-with-point-requires c κs = search needs
 
 count-entries-requires : tie.Need-count-entries-requires
 count-entries-requires c κs = search (line-entries, needs)
@@ -22,8 +22,8 @@ pub count-line-spec : {M : Type 1} → statement M
 count-line-spec =
     tie.close
     (tie.spec
+    with-point-requires
     skip-blanks-requires
     add-count-entries
-    with-point-requires
     count-entries-requires
     returns)

@@ -64,7 +64,7 @@ lists-first a x z t e = same-tables (ap (λ (l : List (List ℕ)). l ++ (t .text
 
 -- ---- an entity
 
-shaped-named : (t : List ℕ) (k : Next·Trace) → Shaped (namedTables t k)
+pub shaped-named : (t : List ℕ) (k : Next·Trace) → Shaped (namedTables t k)
 unfolding namedTables
 shaped-named t k = shaped-texts (t ∷ []) then shaped-lists ((k .string, 1) ∷ [])
 

@@ -1,1 +1,3 @@
 // The entities of an event, sorted and written.
+pub mod entity;
+pub mod keys;

@@ -7,7 +7,6 @@ use native.Mathlib.Omega.{arith}
 use lib.Dec.{ltb}
 use lib.ListN.{length, drop, getD}
 use borrow.Author.Tests.{ltb-true, ltb-false}
-use Rattle.meaning.specs.Text.{before}
 use Rattle.jsontext.specs.Reading.{got, blanks}
 use Rattle.jsontext.specs.Strings.{string}
 use Rattle.jsontext.specs.Events.{Item}
@@ -24,7 +23,7 @@ use Rattle.jsonnames.specs.Sorted.{Inserted}
 use Rattle.jsonnames.proofs.Order.{order-equal, order-flip}
 use Rattle.jsonsort.proofs.Cells.{less-before}
 use Rattle.jsonentities.specs.declared.sorting.Pair.{Pair}
-use Rattle.jsonentities.specs.Order.{before-type, before-id, behind-type, behind-id, behind-equal, item-between, item-not}
+use Rattle.jsonentities.specs.Order.{before-type, before-id, behind-type, behind-id, behind-equal, item-not}
 use Rattle.jsonentities.specs.Sort.{Stands, Keys, PairTold, BeforeTold, InOrder, CellTold, ItemPut}
 
 -- ---- type and id

@@ -21,9 +21,8 @@ use Rattle.jsoncount.specs.Sizes.{entityRead}
 use Rattle.jsonview.specs.Room.{numbers}
 use Rattle.jsonview.specs.Showing.{adds-none}
 use Rattle.jsonview.specs.Rows.{plus-assoc, plus-none, none-plus}
-use Rattle.jsonadds.specs.Place.{Stays, named}
+use Rattle.jsonadds.specs.Place.{Stays}
 use Rattle.jsonadds.proofs.Named.{named-ordered}
-use Rattle.jsonentry.specs.declared.Several.{Several}
 use Rattle.jsonentry.specs.Marks.{MarkReady, MarkAdds}
 use Rattle.jsonentry.specs.Marking.{mark-none, mark-then, mark-ready-first, mark-ready-second}
 use Rattle.jsonentry.specs.Entries.{namedEntities, EntitiesDue, EntitiesWritten}

@@ -18,7 +18,6 @@ use Rattle.jsonruns.specs.Good.{Good, Ends, Signed, BeginTold, PartTold}
 use Rattle.jsonruns.specs.Run.{Listed, Item as ItemOf}
 use Rattle.jsonruns.proofs.Runs.{same-got, Turn, turn, array-listed}
 use Rattle.jsoncount.specs.Sizes.{entityRead}
-use Rattle.jsonadds.specs.Place.{Spare, named}
 use Rattle.jsonadds.proofs.Items.{Others, others-of}
 use Rattle.jsonadds.proofs.Passing.{Passing, PartEnds, pass-signed, pass-none, pass-empty, pass-start, pass-after, pass-last, pass-closed, pass-again, pass-less}
 use Rattle.jsonentry.specs.Entries.{namedEntities}
@@ -104,8 +103,8 @@ module _ {line names after : List ℕ} {stop at : ℕ} (p : ItemPut line names a
       told : {b : Bool} → itemBefore x (d .item) ≡ b → itemBefore (arrangedItem x) y ≡ b
       told t = ap (itemBefore (arrangedItem x)) (d .is) ∙ arranged-before x (d .item) ∙ t
 
-      shift : (b : Bool) → ltb k (p .cell) ≡ false → (i : ℕ) → i < suc (length ys) → getD after (suc k + i) 0 ≡ getD names (k + i) 0
-      shift b q i l = let g : k + i + 1 ≡ suc k + i = omega arith in rw g at (p .inserted .moved (k + i) (omega (arith, ltb-false k (p .cell) q)) (omega arith))
+      shift : ltb k (p .cell) ≡ false → (i : ℕ) → i < suc (length ys) → getD after (suc k + i) 0 ≡ getD names (k + i) 0
+      shift q i l = let g : k + i + 1 ≡ suc k + i = omega arith in rw g at (p .inserted .moved (k + i) (omega (arith, ltb-false k (p .cell) q)) (omega arith))
 
       go : (suc k ≤ p .cell → suc k + length ys ≡ stop → ItemCells line names (suc k) ys → ItemCells line after (suc k) (insertBehind (arrangedItem x) ys)) → (b : Bool) → ltb k (p .cell) ≡ b → ItemCells line after k (insertBehind (arrangedItem x) (y ∷ ys))
       go r true q =
@@ -115,7 +114,7 @@ module _ {line names after : List ℕ} {stop at : ℕ} (p : ItemPut line names a
       go r false q =
           let l : k ≡ p .cell = omega (arith, ltb-false k (p .cell) q) in
           subst (λ (zs : List Item). ItemCells line after k zs) (sym (behind-here (arrangedItem x) y ys (told (p .told .above x s k (d .item) (omega arith) (omega arith) (d .stands)))))
-          (more (new k l) (cells-moved k (suc k) (y ∷ ys) (shift true q) (more d c)))
+          (more (new k l) (cells-moved k (suc k) (y ∷ ys) (shift q) (more d c)))
 
 -- ---- the loop
 

@@ -25,7 +25,7 @@ use Rattle.jsonview.specs.Rows.{adds-next, string-words}
 use Rattle.jsonadds.specs.Place.{Due, WroteTo, nameTables}
 use Rattle.jsonentry.specs.Marks.{MarkReady, MarkAdds}
 use Rattle.jsonentry.specs.Marking.{mark-none, mark-then, mark-ready-first, mark-ready-second}
-use Rattle.jsonentities.specs.Put.{MarkDue, MarkWrote, SignedDue, SignedWritten, Attributes, KeysWritten, namedTables, keysTables}
+use Rattle.jsonentities.specs.Put.{MarkDue, MarkWrote, SignedDue, SignedWritten, KeysWritten, namedTables, keysTables}
 use Rattle.jsonentities.specs.Lists.{list-adds, ready-lists, mark-numbers, shaped-named}
 
 -- ---- a string and its word

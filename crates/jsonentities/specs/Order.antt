@@ -83,7 +83,7 @@ item-trans a b c p q =
     go (by-id e x) (by-id f y) = by-id (e ∙ f) (before-trans (a .id) (b .id) (c .id) x y)
 
 -- not past one, before another: the one is before the other
-pub item-between : (m a b : Item) → itemBefore m a ≡ false → itemBefore m b ≡ true → itemBefore a b ≡ true
+item-between : (m a b : Item) → itemBefore m a ≡ false → itemBefore m b ≡ true → itemBefore a b ≡ true
 item-between m a b p q =
     of-less a b (go (not-less m a p) (less-of m b q))
   where

@@ -1,7 +1,7 @@
 -- A string that is named by a list word, an entity, and entities: what is due, and what was written
 use mathlib.Core.Path.{_≡_}
 use mathlib.Core.List.{List, [], _∷_}
-use Prim.Native.Nat.{ℕ, _+_, _≤_}
+use Prim.Native.Nat.{ℕ, _≤_}
 use lib.ListN.{length, drop}
 use Rattle.jsontext.specs.Reading.{Read, got, blanks}
 use Rattle.jsontext.specs.Strings.{string}

@@ -1,10 +1,11 @@
--- How much of a line is left behind what was read: a string takes two bytes at least, a form, a number and a word none more than they have
+-- What is left of a line behind a string, a number, a word: a string takes two bytes at least
 use mathlib.Core.Path.{_≡_, refl}
 use mathlib.Core.Bool.{Bool, true, false}
 use mathlib.Core.List.{List, [], _∷_, _++_}
 use mathlib.Core.Option.{Option, none, some}
-use Prim.Native.Nat.{ℕ, zero, suc, _+_, _*_, _-_, _≤_}
+use Prim.Native.Nat.{ℕ, zero, suc, _+_, _*_, _-_, _<_, _≤_}
 use native.Mathlib.Omega.{arith}
+use lib.IntN.{ℤ}
 use lib.Dec.{eqb, ltb}
 use lib.ListN.{length}
 use Rattle.meaning.specs.Tests.{_and_, _or_, choose}
@@ -20,33 +21,33 @@ use Rattle.jsontext.specs.Strings.{hexDigit, hexDigits, hex4, utf8Of, isHigh, i
 use Rattle.jsontext.specs.Values.{J, spelt}
 use Rattle.jsonread.proofs.Spelling.{never}
 
--- where something is read, at most k bytes are left
-abbrev pub Left : {A : Type 0} → ℕ → Read A → Type 0
-Left {A} k m = (a : A) (rest : List ℕ) → m ≡ got a rest → length rest ≤ k
+-- where something is read, fewer than k bytes are left
+abbrev Leaves : {A : Type 0} → ℕ → Read A → Type 0
+Leaves {A} k m = (a : A) (rest : List ℕ) → m ≡ got a rest → length rest < k
 
-left-got : {A : Type 0} {k : ℕ} (a : A) (s : List ℕ) → length s ≤ k → Left k (got a s)
-left-got a s h b rest e = let z : s ≡ rest = cc in rw z at h
+leaves-got : {A : Type 0} {k : ℕ} (a : A) (s : List ℕ) → length s < k → Leaves k (got a s)
+leaves-got a s h b rest e = let z : s ≡ rest = cc in rw z at h
 
-left-fault : {A : Type 0} {k : ℕ} (w : Fault) (p q : ℕ) → Left {A = A} k (fault w p q)
-left-fault w p q a rest e = absurd (never e)
+leaves-fault : {A : Type 0} {k : ℕ} (w : Fault) (p q : ℕ) → Leaves {A = A} k (fault w p q)
+leaves-fault w p q a rest e = absurd (never e)
 
-left-then : {A B : Type 0} {k j : ℕ} (m : Read A) {f : A → List ℕ → Read B} → Left k m → ((a : A) (rest : List ℕ) → length rest ≤ k → Left j (f a rest)) → Left j (then m f)
+leaves-then : {A B : Type 0} {k j : ℕ} (m : Read A) {f : A → List ℕ → Read B} → Leaves k m → ((a : A) (rest : List ℕ) → length rest < k → Leaves j (f a rest)) → Leaves j (then m f)
 unfolding then
-left-then (got a rest) h g = g a rest (h a rest refl)
-left-then (fault w p q) h g = left-fault w p q
+leaves-then (got a rest) h g = g a rest (h a rest refl)
+leaves-then (fault w p q) h g = leaves-fault w p q
 
-left-mapped : {A B : Type 0} {k : ℕ} (m : Read A) (f : A → B) → Left k m → Left k (mapped f m)
-left-mapped m f h = left-then m h (λ a rest l. left-got (f a) rest l)
+leaves-mapped : {A B : Type 0} {k : ℕ} (m : Read A) (f : A → B) → Leaves k m → Leaves k (mapped f m)
+leaves-mapped m f h = leaves-then m h (λ a rest l. leaves-got (f a) rest l)
 
-left-choose : {A : Type 0} {k : ℕ} (b : Bool) {m n : Read A} → Left k m → Left k n → Left k (choose b m n)
+leaves-choose : {A : Type 0} {k : ℕ} (b : Bool) {m n : Read A} → Leaves k m → Leaves k n → Leaves k (choose b m n)
 unfolding choose
-left-choose true h g = h
-left-choose false h g = g
+leaves-choose true h g = h
+leaves-choose false h g = g
 
-left-or : {A B : Type 0} {k : ℕ} (o : Option A) (s : List ℕ) {f : A → Read B} → ((a : A) → Left k (f a)) → Left k (orWrong o s f)
+leaves-or : {A B : Type 0} {k : ℕ} (o : Option A) (s : List ℕ) {f : A → Read B} → ((a : A) → Leaves k (f a)) → Leaves k (orWrong o s f)
 unfolding orWrong
-left-or none s g = left-fault NotJson (length s) (length s)
-left-or (some a) s g = g a
+leaves-or none s g = leaves-fault NotJson (length s) (length s)
+leaves-or (some a) s g = g a
 
 -- ---- blanks, a byte, a word
 
@@ -60,77 +61,77 @@ blanks-left (c ∷ s) =
     go true h = omega (arith, h)
     go false h = omega arith
 
-want-left : {k : ℕ} (b : ℕ) (s : List ℕ) → length s ≤ suc k → Left k (want b s)
+want-leaves : {k : ℕ} (b : ℕ) (s : List ℕ) → length s ≤ k → Leaves k (want b s)
 unfolding want
-want-left b [] h = left-fault NotJson 0 0
-want-left b (c ∷ s) h = left-choose (eqb c b) (left-got c s (omega arith)) (left-fault NotJson (length (c ∷ s)) (length (c ∷ s)))
+want-leaves b [] h = leaves-fault NotJson 0 0
+want-leaves b (c ∷ s) h = leaves-choose (eqb c b) (leaves-got c s (omega arith)) (leaves-fault NotJson (length (c ∷ s)) (length (c ∷ s)))
 
-pub spelt-left : {k : ℕ} (bs : List ℕ) (j : J) (s : List ℕ) → length s ≤ k → Left k (spelt bs j s)
+spelt-leaves : {k : ℕ} (bs : List ℕ) (j : J) (s : List ℕ) → length s < k → Leaves k (spelt bs j s)
 unfolding spelt
-spelt-left [] j s h = left-got j s h
-spelt-left {k = k} (b ∷ bs) j s h = left-then (want b s) (want-left {k = k} b s (omega arith)) (λ c rest l. spelt-left bs j rest l)
+spelt-leaves [] j s h = leaves-got j s h
+spelt-leaves {k = k} (b ∷ bs) j s h = leaves-then (want b s) (want-leaves {k = k} b s (omega arith)) (λ c rest l. spelt-leaves bs j rest l)
 
 -- ---- strings
 
-hex-left : {k : ℕ} (d n : ℕ) (s : List ℕ) → length s ≤ k → Left k (hexDigits d n s)
+hex-leaves : {k : ℕ} (d n : ℕ) (s : List ℕ) → length s < k → Leaves k (hexDigits d n s)
 unfolding hexDigits
-hex-left zero n s h = left-got n s h
-hex-left (suc d) n [] h = left-fault NotJson 0 0
-hex-left (suc d) n (c ∷ s) h = left-or (hexDigit c) (c ∷ s) (λ x. hex-left d (16 * n + x) s (omega arith))
+hex-leaves zero n s h = leaves-got n s h
+hex-leaves (suc d) n [] h = leaves-fault NotJson 0 0
+hex-leaves (suc d) n (c ∷ s) h = leaves-or (hexDigit c) (c ∷ s) (λ x. hex-leaves d (16 * n + x) s (omega arith))
 
-low-left : {k : ℕ} (s : List ℕ) → length s ≤ k → Left k (lowHalf s)
+low-leaves : {k : ℕ} (s : List ℕ) → length s < k → Leaves k (lowHalf s)
 unfolding lowHalf lowUnit
-low-left {k = k} s h = left-then (want 92 s) (want-left {k = k} 92 s (omega arith)) (λ b r l. left-then (want 117 r) (want-left {k = k} 117 r (omega arith)) (λ u t j. left-then (hex4 t) (hex-left {k = k} 4 0 t j) (λ low rest g. left-choose (isLow low) (left-got low rest g) (left-fault NotJson (length rest) (length rest)))))
+low-leaves {k = k} s h = leaves-then (want 92 s) (want-leaves {k = k} 92 s (omega arith)) (λ b r l. leaves-then (want 117 r) (want-leaves {k = k} 117 r (omega arith)) (λ u t j. leaves-then (hex4 t) (hex-leaves {k = k} 4 0 t j) (λ low rest g. leaves-choose (isLow low) (leaves-got low rest g) (leaves-fault NotJson (length rest) (length rest)))))
 
-pair-left : {k : ℕ} (left high : ℕ) (m : Read ℕ) → Left k m → Left k (pair left high m)
+pair-leaves : {k : ℕ} (left high : ℕ) (m : Read ℕ) → Leaves k m → Leaves k (pair left high m)
 unfolding pair
-pair-left left high (got low rest) h = left-got (utf8Of (joined high low)) rest (h low rest refl)
-pair-left left high (fault w p q) h = left-fault NotJson left left
+pair-leaves left high (got low rest) h = leaves-got (utf8Of (joined high low)) rest (h low rest refl)
+pair-leaves left high (fault w p q) h = leaves-fault NotJson left left
 
-character-left : {k : ℕ} (left u : ℕ) (s : List ℕ) → length s ≤ k → Left k (character left u s)
+character-leaves : {k : ℕ} (left u : ℕ) (s : List ℕ) → length s < k → Leaves k (character left u s)
 unfolding character
-character-left left u s h = left-choose (isLow u) (left-fault NotJson left left) (left-choose (isHigh u) (pair-left left u (lowHalf s) (low-left s h)) (left-got (utf8Of u) s h))
+character-leaves left u s h = leaves-choose (isLow u) (leaves-fault NotJson left left) (leaves-choose (isHigh u) (pair-leaves left u (lowHalf s) (low-leaves s h)) (leaves-got (utf8Of u) s h))
 
-escape-left : {k : ℕ} (s : List ℕ) → length s ≤ k → Left k (escape s)
+escape-leaves : {k : ℕ} (s : List ℕ) → length s < k → Leaves k (escape s)
 unfolding escape
-escape-left [] h = left-fault NotJson 0 0
-escape-left {k = k} (c ∷ s) h = left-choose (eqb c 117) (left-then (hex4 s) (hex-left {k = k} 4 0 s (omega arith)) (λ u rest l. character-left (suc (suc (length s))) u rest l)) (left-or (simple c) (c ∷ s) (λ b. left-got (b ∷ []) s (omega arith)))
+escape-leaves [] h = leaves-fault NotJson 0 0
+escape-leaves {k = k} (c ∷ s) h = leaves-choose (eqb c 117) (leaves-then (hex4 s) (hex-leaves {k = k} 4 0 s (omega arith)) (λ u rest l. character-leaves (suc (suc (length s))) u rest l)) (leaves-or (simple c) (c ∷ s) (λ b. leaves-got (b ∷ []) s (omega arith)))
 
-chars-left : {k : ℕ} (turns : ℕ) (d : Due) (s : List ℕ) → length s ≤ suc k → Left k (chars turns d s)
+chars-leaves : {k : ℕ} (turns : ℕ) (d : Due) (s : List ℕ) → length s ≤ k → Leaves k (chars turns d s)
 unfolding chars
-chars-left zero d s h = left-fault NotJson (length s) (length s)
-chars-left (suc turns) d [] h = left-fault NotJson 0 0
-chars-left {k = k} (suc turns) d (c ∷ s) h =
-    left-choose (ended d and eqb c 34) (left-got [] s (omega arith))
-    (left-choose (ended d and eqb c 92) (left-then (escape s) (escape-left {k = k} s (omega arith)) (λ b rest l. left-mapped (chars turns Nothing rest) (λ t. b ++ t) (chars-left turns Nothing rest (omega arith))))
-    (left-choose (ended d and ltb c 32) (left-fault NotJson (length (c ∷ s)) (length (c ∷ s)))
-    (left-choose (isWrong (next d c)) (left-fault NotJson (length (c ∷ s)) (length (c ∷ s))) (left-mapped (chars turns (next d c) s) (λ t. c ∷ t) (chars-left turns (next d c) s (omega arith))))))
+chars-leaves zero d s h = leaves-fault NotJson (length s) (length s)
+chars-leaves (suc turns) d [] h = leaves-fault NotJson 0 0
+chars-leaves {k = k} (suc turns) d (c ∷ s) h =
+    leaves-choose (ended d and eqb c 34) (leaves-got [] s (omega arith))
+    (leaves-choose (ended d and eqb c 92) (leaves-then (escape s) (escape-leaves {k = k} s (omega arith)) (λ b rest l. leaves-mapped (chars turns Nothing rest) (λ t. b ++ t) (chars-leaves turns Nothing rest (omega arith))))
+    (leaves-choose (ended d and ltb c 32) (leaves-fault NotJson (length (c ∷ s)) (length (c ∷ s)))
+    (leaves-choose (isWrong (next d c)) (leaves-fault NotJson (length (c ∷ s)) (length (c ∷ s))) (leaves-mapped (chars turns (next d c) s) (λ t. c ∷ t) (chars-leaves turns (next d c) s (omega arith))))))
 
-pub string-left : {k : ℕ} (s : List ℕ) → length s ≤ suc (suc k) → Left k (string s)
+string-leaves : {k : ℕ} (s : List ℕ) → length s ≤ suc k → Leaves k (string s)
 unfolding string
-string-left {k = k} s h = left-then (want 34 s) (want-left {k = suc k} 34 s h) (λ q rest l. chars-left (suc (length rest)) Nothing rest l)
+string-leaves {k = k} s h = leaves-then (want 34 s) (want-leaves {k = suc k} 34 s h) (λ q rest l. chars-leaves (suc (length rest)) Nothing rest (omega arith))
 
 -- ---- numbers
 
-digits-left : {k : ℕ} (n : ℕ) (s : List ℕ) → length s ≤ k → Left k (digits n s)
+digits-leaves : {k : ℕ} (n : ℕ) (s : List ℕ) → length s < k → Leaves k (digits n s)
 unfolding digits
-digits-left n [] h = left-got n [] h
-digits-left n (c ∷ s) h = left-choose (isDigit c) (digits-left (10 * n + (c - 48)) s (omega arith)) (left-got n (c ∷ s) h)
+digits-leaves n [] h = leaves-got n [] h
+digits-leaves n (c ∷ s) h = leaves-choose (isDigit c) (digits-leaves (10 * n + (c - 48)) s (omega arith)) (leaves-got n (c ∷ s) h)
 
-some-left : {k : ℕ} (s : List ℕ) → length s ≤ k → Left k (someDigits s)
+some-leaves : {k : ℕ} (s : List ℕ) → length s < k → Leaves k (someDigits s)
 unfolding someDigits
-some-left [] h = left-fault NotJson 0 0
-some-left (c ∷ s) h = left-choose (isDigit c) (digits-left (c - 48) s (omega arith)) (left-fault NotJson (length (c ∷ s)) (length (c ∷ s)))
+some-leaves [] h = leaves-fault NotJson 0 0
+some-leaves (c ∷ s) h = leaves-choose (isDigit c) (digits-leaves (c - 48) s (omega arith)) (leaves-fault NotJson (length (c ∷ s)) (length (c ∷ s)))
 
-int-left : {k : ℕ} (s : List ℕ) → length s ≤ k → Left k (int s)
+int-leaves : {k : ℕ} (s : List ℕ) → length s < k → Leaves k (int s)
 unfolding int
-int-left [] h = left-fault NotJson 0 0
-int-left (c ∷ s) h = left-choose (eqb c 48) (left-got 0 s (omega arith)) (some-left (c ∷ s) h)
+int-leaves [] h = leaves-fault NotJson 0 0
+int-leaves (c ∷ s) h = leaves-choose (eqb c 48) (leaves-got 0 s (omega arith)) (some-leaves (c ∷ s) h)
 
-frac-left : {k : ℕ} (s : List ℕ) → length s ≤ k → Left k (frac s)
+frac-leaves : {k : ℕ} (s : List ℕ) → length s < k → Leaves k (frac s)
 unfolding frac
-frac-left [] h = left-got false [] h
-frac-left {k = k} (c ∷ s) h = left-choose (eqb c 46) (left-then (someDigits s) (some-left {k = k} s (omega arith)) (λ n rest l. left-got true rest l)) (left-got false (c ∷ s) h)
+frac-leaves [] h = leaves-got false [] h
+frac-leaves {k = k} (c ∷ s) h = leaves-choose (eqb c 46) (leaves-then (someDigits s) (some-leaves {k = k} s (omega arith)) (λ n rest l. leaves-got true rest l)) (leaves-got false (c ∷ s) h)
 
 unsigned-left : (s : List ℕ) → length (unsigned s) ≤ length s
 unfolding unsigned choose
@@ -142,20 +143,31 @@ unsigned-left (c ∷ s) =
     go true = omega arith
     go false = omega arith
 
-exp-left : {k : ℕ} (s : List ℕ) → length s ≤ k → Left k (exp s)
+exp-leaves : {k : ℕ} (s : List ℕ) → length s < k → Leaves k (exp s)
 unfolding exp
-exp-left [] h = left-got false [] h
-exp-left {k = k} (c ∷ s) h = left-choose (eqb c 101 or eqb c 69) (left-then (someDigits (unsigned s)) (some-left {k = k} (unsigned s) (omega (arith, unsigned-left s))) (λ n rest l. left-got true rest l)) (left-got false (c ∷ s) h)
+exp-leaves [] h = leaves-got false [] h
+exp-leaves {k = k} (c ∷ s) h = leaves-choose (eqb c 101 or eqb c 69) (leaves-then (someDigits (unsigned s)) (some-leaves {k = k} (unsigned s) (omega (arith, unsigned-left s))) (λ n rest l. leaves-got true rest l)) (leaves-got false (c ∷ s) h)
 
-magnitude-left : {k : ℕ} (left : ℕ) (minus : Bool) (s : List ℕ) → length s ≤ k → Left k (magnitude left minus s)
+magnitude-leaves : {k : ℕ} (left : ℕ) (minus : Bool) (s : List ℕ) → length s < k → Leaves k (magnitude left minus s)
 unfolding magnitude parts integer
-magnitude-left {k = k} left minus s h =
-    left-then (int s) (int-left {k = k} s h) λ n r l.
-    left-then (frac r) (frac-left {k = k} r l) λ f t j.
-    left-then (exp t) (exp-left {k = k} t j) λ e rest g.
-    left-choose (f or e) (left-fault BadNumber left left) (left-choose (fits minus n) (left-got (signed minus n) rest g) (left-fault BadNumber left left))
+magnitude-leaves {k = k} left minus s h =
+    leaves-then (int s) (int-leaves {k = k} s h) λ n r l.
+    leaves-then (frac r) (frac-leaves {k = k} r l) λ f t j.
+    leaves-then (exp t) (exp-leaves {k = k} t j) λ e rest g.
+    leaves-choose (f or e) (leaves-fault BadNumber left left) (leaves-choose (fits minus n) (leaves-got (signed minus n) rest g) (leaves-fault BadNumber left left))
 
-pub number-left : {k : ℕ} (s : List ℕ) → length s ≤ k → Left k (number s)
+number-leaves : {k : ℕ} (s : List ℕ) → length s < k → Leaves k (number s)
 unfolding number
-number-left [] h = left-fault NotJson 0 0
-number-left (c ∷ s) h = left-choose (eqb c 45) (magnitude-left (suc (length s)) true s (omega arith)) (magnitude-left (suc (length s)) false (c ∷ s) h)
+number-leaves [] h = leaves-fault NotJson 0 0
+number-leaves (c ∷ s) h = leaves-choose (eqb c 45) (magnitude-leaves (suc (length s)) true s (omega arith)) (magnitude-leaves (suc (length s)) false (c ∷ s) h)
+
+-- ---- at least
+
+pub string-takes : (s : List ℕ) {t rest : List ℕ} → string s ≡ got t rest → suc (suc (length rest)) ≤ length s
+string-takes s {t} {rest} e = omega (arith, string-leaves {k = length s - 1} s (omega arith) t rest e)
+
+pub number-takes : (s : List ℕ) {z : ℤ} {rest : List ℕ} → number s ≡ got z rest → length rest ≤ length s
+number-takes s {z} {rest} e = omega (arith, number-leaves {k = suc (length s)} s (omega arith) z rest e)
+
+pub spelt-takes : (bs : List ℕ) (j : J) (s : List ℕ) {k : J} {rest : List ℕ} → spelt bs j s ≡ got k rest → length rest ≤ length s
+spelt-takes bs j s {k} {rest} e = omega (arith, spelt-leaves {k = suc (length s)} bs j s (omega arith) k rest e)

@@ -5,22 +5,20 @@ use mathlib.Core.List.{List, [], _∷_}
 use mathlib.Core.Option.{Option, none, some}
 use Prim.Native.Nat.{ℕ, zero, suc, _+_, _-_, _<_, _≤_}
 use native.Mathlib.Omega.{arith}
-use lib.IntN.{ℤ}
 use lib.Dec.{eqb}
 use lib.ListN.{length, drop, getD, set, length-set, length-drop}
-use borrow.Author.Tests.{ne-eqb}
 use Rattle.jsontext.specs.declared.Fault.the-variants.{BadField}
-use Rattle.jsontext.specs.Reading.{got, then, blanks, want}
+use Rattle.jsontext.specs.Reading.{got, blanks, want}
 use Rattle.jsontext.specs.Numbers.{number}
-use Rattle.jsontext.specs.Values.{J, Parts, numeral, due, text, array, object, value, fields}
-use Rattle.jsontext.specs.Events.{Item, Event, Field, Time, Namespace, Action, Kind, Logged, Context, Principal, Resource, Entities, listed, fieldReaders, isField, fieldBy, Found, found, have, whole, complete, event, ended, line as lineOf}
+use Rattle.jsontext.specs.Values.{numeral, due, text, array, object, fields}
+use Rattle.jsontext.specs.Events.{Event, Field, Time, Namespace, Action, Kind, Logged, Context, Principal, Resource, Entities, listed, fieldReaders, isField, fieldBy, Found, found, have, whole, complete, event, ended, line as lineOf}
 use Rattle.jsonread.specs.Told.{Blanks}
 use Rattle.jsonread.proofs.Places.{byte-at}
 use Rattle.jsonread.proofs.Spelling.{never}
 use Rattle.jsonruns.specs.declared.Part.{Part as Position}
 use Rattle.jsonruns.specs.declared.Part.the-variants.{Next, Closed}
 use Rattle.jsonruns.specs.Good.{Good, Signed, PartTold}
-use Rattle.jsonruns.specs.Run.{Run, Member}
+use Rattle.jsonruns.specs.Run.{Run}
 use Rattle.jsonruns.proofs.Runs.{then-of, due-of, wanted, same-got, object-listed, Turn, turn}
 use Rattle.jsoncount.specs.Sizes.{entityRead}
 use Rattle.jsonlines.specs.Fields.{readerAt}

@@ -1,4 +1,4 @@
-pub mod Ending
+pub mod Valued
 pub mod Members
 pub mod Slots
 pub mod Events

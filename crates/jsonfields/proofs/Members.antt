@@ -1,13 +1,10 @@
 -- A member of an event: its field, its value, where it ends
-use mathlib.Core.Path.{_≡_, refl, sym, ap, subst, _∙_}
-use mathlib.Core.Bool.{true}
+use mathlib.Core.Path.{_≡_, refl, sym, ap, _∙_}
 use mathlib.Core.List.{List, _∷_}
 use Prim.Native.Nat.{ℕ, _<_}
 use native.Mathlib.Omega.{arith}
-use lib.Dec.{eqb, ltb}
-use lib.ListN.{length, drop}
+use lib.ListN.{drop}
 use borrow.Author.Tests.{eq-eqb, ne-eqb, ltb-true}
-use Rattle.meaning.specs.Tests.{choose}
 use Rattle.laws.specs.Tests.{yes, no as otherwise}
 use Rattle.jsontext.specs.Reading.{got, blanks}
 use Rattle.jsontext.specs.Strings.{string}

@@ -1,5 +1,5 @@
 -- J16: what was read has at most a quarter as many names as it took bytes
-use mathlib.Core.Path.{_≡_, refl, sym, ap, _∙_}
+use mathlib.Core.Path.{_≡_, refl, ap, _∙_}
 use mathlib.Core.Bool.{Bool, true, false, not}
 use mathlib.Core.List.{List, [], _∷_}
 use mathlib.Core.Option.{Option, none, some}
@@ -15,15 +15,16 @@ use Rattle.jsontext.specs.declared.Form.the-variants.{Plain, Entity, Extension}
 use Rattle.jsontext.specs.Reading.{Read, got, then, no, mapped, blanks, want}
 use Rattle.jsontext.specs.Numbers.{number}
 use Rattle.jsontext.specs.Strings.{string}
-use Rattle.jsontext.specs.Values.{J, Null, Truth, Int, Text, EntityOf, Decimal, Array, Object, Parts, itemParts, memberParts, numeral, due, text, array, object, memberOf, «type», «id», «fn», «arg», «decimal», form, only, both, entity, argument, extension, spelt, braced, valueOf, value, bare, fields}
-use Rattle.jsontext.specs.Events.{Item, comma, closing, triple, unlessNone, listed}
+use Rattle.jsontext.specs.Values.{J, Null, Truth, Int, Text, EntityOf, Decimal, Array, Object, Parts, itemParts, memberParts, numeral, due, text, array, object, memberOf, «type», «id», «fn», «arg», «decimal», form, only, both, entity, argument, extension, spelt, braced, valueOf, value, fields}
+use Rattle.jsontext.specs.Events.{Item, listed}
 use Rattle.jsontrace.specs.Trace.{many}
 use Rattle.jsonread.proofs.Spelling.{never, came}
 use Rattle.jsonruns.specs.Run.{Run, last, more, Listed, Item as ItemOf, Member}
 use Rattle.jsonruns.proofs.Runs.{then-of, due-of, text-string, wanted, array-listed, object-listed}
 use Rattle.jsoncount.specs.Sizes.{objectRead, entityRead}
 use Rattle.jsoncount.proofs.Flat.{spelt-says}
-use Rattle.jsonadds.specs.Place.{named, inside, namedItems, namedMembers}
+use Rattle.jsoncount.proofs.Triples.{fielded, tripled}
+use Rattle.jsonadds.specs.Place.{named, namedItems, namedMembers}
 use Rattle.jsonentry.specs.Fields.{Stands}
 use Rattle.jsonentry.specs.Entries.{namedEntities}
 use Rattle.jsonfields.specs.Left.{blanks-left, string-takes, number-takes, spelt-takes}
@@ -203,89 +204,32 @@ few-object levels s rest ms e = few-members (λ t. value levels t) (λ t left j 
 
 -- an object that is no form, from its brace on
 pub few-fields : (levels : ℕ) (s rest : List ℕ) (ps : Parts) → fields levels s ≡ got ps rest → 4 * named (Object ps) + length rest ≤ length s
-unfolding fields
 few-fields levels s rest ps e =
-    let b = then-of (want 123 s) (due-of BadField (λ c. eqb c 123) (λ t. then (want 123 t) λ brace u. bare (λ v. value levels v) (form u) t) s e) in
-    go (form (b .left)) (b .next)
-  where
-    go : (x : Form) → bare (λ u. value levels u) x s ≡ got ps rest → 4 * named (Object ps) + length rest ≤ length s
-    go Plain f =
-        unfold bare objectRead in
-        let k = then-of (want 123 s) f in
-        let m = came memberParts (objectRead levels (k .left)) (k .next) in
-        omega (arith, want-takes 123 s (k .is), few-object levels (k .left) rest (m .what) (m .is), ap (λ (qs : Parts). named (Object qs)) (m .makes))
-    go Entity f = unfold bare in absurd (never f)
-    go Extension f = unfold bare in absurd (never f)
+    let f = fielded levels s e in
+    omega (arith, ap length (f .brace), few-object levels (f .inside) rest (f .made .what) (f .made .is), ap (λ (qs : Parts). named (Object qs)) (f .made .makes))
 
 -- ---- entities
-
-comma-takes : (s : List ℕ) {c : ℕ} {rest : List ℕ} → comma s ≡ got c rest → suc (length rest) ≤ length s
-unfolding comma choose
-comma-takes [] e = absurd (never e)
-comma-takes (x ∷ s) {c} {rest} e =
-    go (eqb x 93) e
-  where
-    go : (y : Bool) → choose y (no BadField (x ∷ s)) (want 44 (x ∷ s)) ≡ got c rest → suc (length rest) ≤ length (x ∷ s)
-    go true f = absurd (never f)
-    go false f = want-takes 44 (x ∷ s) f
-
-closing-takes : (s : List ℕ) {c : ℕ} {rest : List ℕ} → closing s ≡ got c rest → suc (length rest) ≤ length s
-unfolding closing choose
-closing-takes [] e = absurd (never e)
-closing-takes (x ∷ s) {c} {rest} e =
-    go (eqb x 44) e
-  where
-    go : (y : Bool) → choose y (no BadField (x ∷ s)) (want 93 (x ∷ s)) ≡ got c rest → suc (length rest) ≤ length (x ∷ s)
-    go true f = absurd (never f)
-    go false f = want-takes 93 (x ∷ s) f
 
 abbrev weighs : Item → ℕ
 weighs i = 4 * suc (named (Object (i .attributes)))
 
 -- two strings and the commas behind them
-few-triple : (s rest : List ℕ) (i : Item) → triple s ≡ got i rest → weighs i + length rest ≤ length s
-unfolding triple
-few-triple s rest i e =
-    let t = then-of (text s) e in
-    let c = then-of (comma (blanks (t .left))) (t .next) in
-    let d = then-of (text (blanks (c .left))) (c .next) in
-    let f = then-of (comma (blanks (d .left))) (d .next) in
-    let a = then-of (fields 31 (blanks (f .left))) (f .next) in
-    let k = then-of (closing (blanks (a .left))) (a .next) in
-    let made : i ≡ record { type = t .what; id = d .what; attributes = a .what } = cc (k .next) in
-    let ends : k .left ≡ rest = cc (k .next) in
+few-entity : (s rest : List ℕ) (i : Item) → entityRead s ≡ got i rest → weighs i + length rest ≤ length s
+few-entity s rest i e =
+    let t = tripled s e in
     omega (
       arith,
-      string-takes s (text-string s (t .is)),
-      blanks-left (t .left),
-      comma-takes (blanks (t .left)) (c .is),
-      blanks-left (c .left),
-      string-takes (blanks (c .left)) (text-string (blanks (c .left)) (d .is)),
-      blanks-left (d .left),
-      comma-takes (blanks (d .left)) (f .is),
-      blanks-left (f .left),
-      few-fields 31 (blanks (f .left)) (a .left) (a .what) (a .is),
-      blanks-left (a .left),
-      closing-takes (blanks (a .left)) {c = k .what} {rest = k .left} (k .is),
-      ap (λ (x : Item). named (Object (x .attributes))) made,
-      ap length {x = k .left} ends,
+      ap length (t .bracket),
+      blanks-left (t .inside),
+      string-takes (blanks (t .inside)) (t .type-is),
+      sign-takes (t .after-type) (t .first),
+      blanks-left (t .to-id),
+      string-takes (blanks (t .to-id)) (t .id-is),
+      sign-takes (t .after-id) (t .second),
+      blanks-left (t .to-attributes),
+      few-fields 31 (blanks (t .to-attributes)) (t .left) (i .attributes) (t .attributes-are),
+      sign-takes (t .left) (t .close),
     )
-
-few-there : (s rest : List ℕ) (i : Item) → unlessNone s ≡ got i rest → weighs i + length rest ≤ length s
-unfolding unlessNone choose
-few-there [] rest i e = absurd (never e)
-few-there (x ∷ s) rest i e =
-    go (eqb x 93) e
-  where
-    go : (y : Bool) → choose y (no BadField (x ∷ s)) (triple (x ∷ s)) ≡ got i rest → weighs i + length rest ≤ length (x ∷ s)
-    go true f = absurd (never f)
-    go false f = few-triple (x ∷ s) rest i f
-
-few-entity : (s rest : List ℕ) (i : Item) → entityRead s ≡ got i rest → weighs i + length rest ≤ length s
-unfolding entityRead
-few-entity s rest i e =
-    let b = then-of (want 91 s) (due-of BadField (λ c. eqb c 91) (λ t. then (want 91 t) λ bracket u. unlessNone (blanks u)) s e) in
-    omega (arith, want-takes 91 s (b .is), blanks-left (b .left), few-there (blanks (b .left)) rest i (b .next))
 
 weighed-entities : (is : List Item) → weighed weighs is ≡ 4 * namedEntities is
 unfolding weighed namedEntities

@@ -15,7 +15,7 @@ use Rattle.meaning.specs.declared.Due.{Due}
 use Rattle.meaning.specs.declared.Due.the-variants.{Nothing}
 use Rattle.jsontext.specs.declared.Fault.{Fault}
 use Rattle.jsontext.specs.declared.Fault.the-variants.{NotJson, BadNumber}
-use Rattle.jsontext.specs.Reading.{Read, got, fault, then, no, mapped, isBlank, blanks, want, orWrong}
+use Rattle.jsontext.specs.Reading.{Read, got, fault, then, mapped, isBlank, blanks, want, orWrong}
 use Rattle.jsontext.specs.Numbers.{digits, someDigits, int, frac, unsigned, exp, fits, signed, integer, parts, magnitude, number}
 use Rattle.jsontext.specs.Strings.{hexDigit, hexDigits, hex4, utf8Of, isHigh, isLow, joined, lowUnit, lowHalf, pair, character, simple, escape, isWrong, chars, string}
 use Rattle.jsontext.specs.Values.{J, spelt}

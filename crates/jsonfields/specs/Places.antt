@@ -2,21 +2,21 @@
 use mathlib.Core.Path.{_≡_}
 use mathlib.Core.List.{List}
 use Prim.Native.Nat.{ℕ, _<_, _≤_}
-use lib.Dec.{eqb}
+use lib.Dec.{eqb, ltb}
 use lib.ListN.{length, drop, getD}
 use Rattle.meaning.specs.Tests.{choose}
 use Rattle.jsontext.specs.Reading.{got}
 use Rattle.jsontext.specs.Events.{Event, Field, fieldReaders, isField, fieldBy}
 use Rattle.jsonruns.specs.Run.{Member}
-use Rattle.jsoncount.specs.declared.tallies.Tally.{Tally}
 use Rattle.jsonlines.specs.Fields.{readerAt}
 use Rattle.jsonlines.specs.Events.{numberOf, eventOf}
 use Rattle.jsonentry.specs.declared.Fields.{Fields}
 use Rattle.jsonentry.specs.Fields.{FieldsStand}
 use Rattle.jsonfields.specs.declared.places.Entry.{Entry}
 
-abbrev pub noTally : Tally
-noTally = record { strings = 0; bytes = 0; values = 0; members = 0; points = 0; lists = 0 }
+-- levels of a field's value: attributes stand in an entity, and entities in an array
+unfoldable pub levelsOf : ℕ → ℕ
+levelsOf field = choose (ltb field 8) 32 34
 
 -- the first of two places; 0 is none
 unfoldable pub firstPlace : ℕ → ℕ → ℕ

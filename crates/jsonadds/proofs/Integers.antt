@@ -15,9 +15,9 @@ use Rattle.jsontext.specs.declared.Fault.the-variants.{BadNumber}
 use Rattle.jsontext.specs.Reading.{got, fault}
 use Rattle.jsontext.specs.Numbers.{int, frac, exp, fits, signed, integer, parts, magnitude, number}
 use Rattle.jsonread.specs.Told.{cap, WholeTold}
-use Rattle.jsonread.specs.declared.numbers.Digits.{Digits}
-use Rattle.jsonread.specs.declared.numbers.Whole.{Whole}
-use Rattle.jsonread.specs.declared.numbers.Whole.the-variants.{Counted, NoDigit}
+use Rattle.jsonread.specs.declared.integers.Digits.{Digits}
+use Rattle.jsonread.specs.declared.integers.Whole.{Whole}
+use Rattle.jsonread.specs.declared.integers.Whole.the-variants.{Counted, NoDigit}
 use Rattle.jsonread.proofs.Places.{byte-at}
 use Rattle.jsonread.proofs.Spelling.{never}
 use Rattle.jsonruns.specs.Good.{Good}

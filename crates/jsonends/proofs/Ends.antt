@@ -23,7 +23,7 @@ use Rattle.jsonparts.specs.Flat.{scalar}
 use Rattle.jsonruns.specs.Good.{Good, Ends}
 use Rattle.jsonruns.proofs.Runs.{same-rest}
 use Rattle.jsonends.specs.Nest.{opens, closes, stepped, Nest, Opened, Shut}
-use Rattle.jsonends.proofs.Nests.{value-there, value-closes, value-scalar, nest-there, nest-byte, nest-quote, nest-done}
+use Rattle.jsonends.proofs.Nests.{Said, value-there, value-text, value-closes, value-scalar, nest-there, nest-byte, nest-quote, nest-done}
 
 -- ---- a byte outside strings
 
@@ -156,6 +156,16 @@ module _ (levels : ℕ) {line : List ℕ} {at : ℕ} (g : Good line at (value le
 
   shut : {e : ℕ} → opens (getD line at 0) ≡ true → Shut line (at + 1) e → Ends line at e (value levels (drop at line))
   shut o p = record { from = omega (arith, p .from); within = p .within; is = λ what rest f. p .is rest (value-closes levels (getD line at 0) (drop (at + 1) line) o (read f)) }
+
+  module _ (q : getD line at 0 ≡ 34) where
+    said : {j : J} {rest : List ℕ} → value levels (drop at line) ≡ got j rest → Said (drop at line) rest
+    said e = let k = value-text levels (getD line at 0) (drop (at + 1) line) q (read e) in record { text = k .text; is = ap string (byte-at line at value-below) ∙ k .is }
+
+    pub text-good : Good line at (string (drop at line))
+    text-good = let k = said (g .is) in record { what = k .text; rest = g .rest; within = g .within; is = k .is }
+
+    pub text-ends : {e : ℕ} → Ends line at e (string (drop at line)) → Ends line at e (value levels (drop at line))
+    text-ends p = record { from = p .from; within = p .within; is = λ what rest f. let k = said f in p .is (k .text) rest (k .is) }
 
   module _ (q : getD line at 0 ≡ 91) where
     is-array : opens (getD line at 0) ≡ true

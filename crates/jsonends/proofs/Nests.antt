@@ -20,7 +20,7 @@ use Rattle.jsontext.specs.Numbers.{digits, someDigits, int, frac, unsigned, exp
 use Rattle.jsontext.specs.Strings.{string}
 use Rattle.jsontext.specs.Values.{numeral, due, text, afterPart, items, unlessEmpty, array, Name, before, afterName, members, object, memberOf, J, EntityOf, Decimal, Array, Object, Null, Truth, Int, Text, itemParts, memberParts, «type», «id», «fn», «arg», «decimal», form, only, both, entity, argument, extension, spelt, plain, braced, valueOf, value}
 use Rattle.jsonparts.specs.Flat.{scalar}
-use Rattle.jsonread.proofs.Spelling.{never}
+use Rattle.jsonread.proofs.Spelling.{never, came}
 use Rattle.jsonruns.proofs.Runs.{then-of, due-of, text-string, wanted}
 use Rattle.jsonends.specs.Nest.{opens, closes, stepped, Nest, done, quote, byte}
 
@@ -495,6 +495,18 @@ pub value-scalar : (levels c : ℕ) (s : List ℕ) {j : J} {rest : List ℕ} →
 unfolding value
 value-scalar zero c s o e = absurd (never (due-of TooDeep (λ c. false) (λ t. no NotJson t) (c ∷ s) e))
 value-scalar (suc levels) c s o e = sym (not-opened (λ t. value levels t) (λ t. lead-value levels t) c s o) ∙ e
+
+-- one that begins with a quotation mark is a string
+pub record Said (s rest : List ℕ) : Type 0 where
+  pub text : List ℕ
+  pub is : string s ≡ got text rest
+
+pub value-text : (levels c : ℕ) (s : List ℕ) {j : J} {rest : List ℕ} → c ≡ 34 → value levels (c ∷ s) ≡ got j rest → Said (c ∷ s) rest
+unfolding scalar
+value-text levels c s m e =
+    let shut : opens c ≡ false = unfold opens _or_ in rw m refl in
+    let k = came Text (string (c ∷ s)) (sym (yes _ (eq-eqb c 34 m)) ∙ value-scalar levels c s shut e) in
+    record { text = k .what; is = k .is }
 
 pub value-there : (levels : ℕ) (s : List ℕ) {j : J} {rest : List ℕ} → value levels s ≡ got j rest → 0 < length s
 unfolding value valueOf due

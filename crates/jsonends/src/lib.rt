@@ -53,7 +53,7 @@ fn bracket_end(line: &[u8], at: usize) -> usize
     i
 }
 
-// after a string, a number or a word
+// after a number or a word
 fn scalar_end(line: &[u8], at: usize) -> usize
     requires { ⌜ Good (now line) at (scalar (drop at (now line))) ⌝ }
     ensures { λ r. ⌜ Ends (now (line .entry)) at r (scalar (drop at (now (line .entry)))) ⌝ }
@@ -70,6 +70,9 @@ pub fn value_end(line: &[u8], at: usize, levels: u32) -> usize
     ensures { λ r. ⌜ Ends (now (line .entry)) at r (value levels (drop at (now (line .entry)))) ⌝ }
 {
     let c = line[at];
+    if c == 34 {
+        return string_end(line, at);
+    }
     if c == 91 {
         return bracket_end(line, at + 1);
     }

@@ -2,8 +2,8 @@
 use joining::narrow;
 use jsonadds::Flat;
 use jsonparts::scalars::scalar_at;
-use jsonread::numbers::Whole;
-use jsonread::numbers::int_at;
+use jsonread::integers::Whole;
+use jsonread::integers::int_at;
 use jsonroom::Bodies;
 use jsonroom::Next;
 use jsonroom::Written;

@@ -1,7 +1,6 @@
 // How many parts an array or object has, where they end, and an object's names in order.
 use jsonadds::Many;
-use jsoncount::tallies::Tally;
-use jsoncount::values::count_value;
+use jsonends::value_end;
 use jsonroom::Next;
 use jsonruns::Part;
 use jsonruns::after_sign;
@@ -13,7 +12,7 @@ ghost use mathlib.Core.Path.{_≡_};
 ghost use Prim.Native.Nat.{_+_, _≤_};
 ghost use lib.ListN.{drop};
 ghost use Rattle.jsontext.specs.Values.{value, array};
-ghost use Rattle.jsonruns.specs.Good.{Good, Ends};
+ghost use Rattle.jsonruns.specs.Good.{Good};
 ghost use Rattle.jsoncount.specs.Sizes.{objectRead};
 ghost use Rattle.jsonview.specs.Room.{leaving};
 ghost use Rattle.jsonadds.specs.Place.{Spare, CountTold, MemberGood, MemberEnds, SortTold, namedMembers};
@@ -26,23 +25,6 @@ pub fn after_run(n: Next, count: usize) -> Next
     let mut m = n;
     m.member += count;
     m
-}
-
-// after a value
-pub fn value_end(line: &[u8], at: usize, levels: u32) -> usize
-    requires { ⌜ Good (now line) at (value levels (drop at (now line))) ⌝ }
-    ensures { λ r. ⌜ Ends (now (line .entry)) at r (value levels (drop at (now (line .entry)))) ⌝ }
-{
-    let none = Tally {
-        strings: 0,
-        bytes: 0,
-        values: 0,
-        members: 0,
-        points: 0,
-        lists: 0,
-    };
-    let c = count_value(line, at, levels, none);
-    c.end
 }
 
 // items, after the bracket

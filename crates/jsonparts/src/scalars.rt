@@ -1,7 +1,7 @@
 // Values that hold no other.
 use jsonread::begins::is_numeral;
 use jsonread::begins::word_at;
-use jsonread::numbers::number_at;
+use jsonread::integers::number_at;
 use jsonread::strings::string_at;
 use jsontext::Fault;
 use jsontext::Step;

@@ -17,9 +17,9 @@ use Rattle.jsontext.specs.declared.Step.{Step}
 use Rattle.jsontext.specs.declared.Step.the-variants.{At, Bad}
 use Rattle.jsontext.specs.Reading.{Read, got, fault, then, no}
 use Rattle.jsontext.specs.Numbers.{digits, someDigits, int, frac, unsigned, exp, fits, signed, integer, parts, magnitude, number}
-use Rattle.jsonread.specs.declared.numbers.Digits.{Digits}
-use Rattle.jsonread.specs.declared.numbers.Whole.{Whole}
-use Rattle.jsonread.specs.declared.numbers.Whole.the-variants.{Counted, NoDigit}
+use Rattle.jsonread.specs.declared.integers.Digits.{Digits}
+use Rattle.jsonread.specs.declared.integers.Whole.{Whole}
+use Rattle.jsonread.specs.declared.integers.Whole.the-variants.{Counted, NoDigit}
 use Rattle.jsonread.specs.Told.{Faulty, Told, cap, DigitsTold, IntTold, WholeTold, PartIs, PartTold, Unsigned, others}
 use Rattle.jsonread.proofs.Places.{range-below, range-above, byte-at, told-at, told-bad, wrong-here, told-of, fault-then, then-is}
 

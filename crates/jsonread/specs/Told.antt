@@ -21,9 +21,9 @@ use Rattle.jsonread.specs.declared.strings.Escape.{Escape}
 use Rattle.jsonread.specs.declared.strings.Escape.the-variants.{For, Wrong}
 use Rattle.jsonread.specs.declared.strings.Mark.{Mark}
 use Rattle.jsonread.specs.declared.strings.Mark.the-variants.{Quote, Backslash, Control, Byte}
-use Rattle.jsonread.specs.declared.numbers.Digits.{Digits}
-use Rattle.jsonread.specs.declared.numbers.Whole.{Whole}
-use Rattle.jsonread.specs.declared.numbers.Whole.the-variants.{Counted, NoDigit}
+use Rattle.jsonread.specs.declared.integers.Digits.{Digits}
+use Rattle.jsonread.specs.declared.integers.Whole.{Whole}
+use Rattle.jsonread.specs.declared.integers.Whole.the-variants.{Counted, NoDigit}
 
 -- read from `at` to e
 pub record Stands {A : Type 0} (line : List ℕ) (at e : ℕ) (m : Read A) : Type 0 where

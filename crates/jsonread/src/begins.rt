@@ -1,6 +1,6 @@
 // What a value's first byte says, and values that are told by it.
 use super::bytes::want_at;
-use super::numbers::number_at;
+use super::integers::number_at;
 use super::strings::string_at;
 use jsontext::Fault;
 use jsontext::Step;

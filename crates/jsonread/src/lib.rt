@@ -2,6 +2,6 @@
 pub mod begins;
 pub mod bytes;
 pub mod forms;
+pub mod integers;
 pub mod names;
-pub mod numbers;
 pub mod strings;

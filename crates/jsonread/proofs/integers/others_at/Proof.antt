@@ -1,7 +1,7 @@
 use Rattle.jsonread.proofs.Counts.{part-within, others-frac, others-exp}
 use borrow.Author.Needs.{needs}
-use Rattle.jsonread.proofs.numbers.others_at.Statement.{statement}
-use Rattle.jsonread.proofs.numbers.others_at.Tie as tie
+use Rattle.jsonread.proofs.integers.others_at.Statement.{statement}
+use Rattle.jsonread.proofs.integers.others_at.Tie as tie
 
 frac-at-requires : tie.Need-frac-at-requires
 frac-at-requires c κs = search needs

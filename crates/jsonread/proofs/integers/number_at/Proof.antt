@@ -1,7 +1,7 @@
 use Rattle.jsonread.proofs.Counts.{number-end, number-minus, number-plain}
 use borrow.Author.Needs.{needs}
-use Rattle.jsonread.proofs.numbers.number_at.Statement.{statement}
-use Rattle.jsonread.proofs.numbers.number_at.Tie as tie
+use Rattle.jsonread.proofs.integers.number_at.Statement.{statement}
+use Rattle.jsonread.proofs.integers.number_at.Tie as tie
 
 returns : tie.Need-returns
 returns c = search (number-end, needs)

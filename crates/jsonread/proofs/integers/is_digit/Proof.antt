@@ -1,7 +1,7 @@
 use Rattle.jsonread.proofs.Counts.{digit-below, digit-above}
 use borrow.Author.Needs.{needs}
-use Rattle.jsonread.proofs.numbers.is_digit.Statement.{statement}
-use Rattle.jsonread.proofs.numbers.is_digit.Tie as tie
+use Rattle.jsonread.proofs.integers.is_digit.Statement.{statement}
+use Rattle.jsonread.proofs.integers.is_digit.Tie as tie
 
 returns : tie.Need-returns
 returns c = search (digit-below, needs)

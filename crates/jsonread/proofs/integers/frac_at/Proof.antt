@@ -1,7 +1,7 @@
 use Rattle.jsonread.proofs.Counts.{frac-end, frac-none, frac-there}
 use borrow.Author.Needs.{needs}
-use Rattle.jsonread.proofs.numbers.frac_at.Statement.{statement}
-use Rattle.jsonread.proofs.numbers.frac_at.Tie as tie
+use Rattle.jsonread.proofs.integers.frac_at.Statement.{statement}
+use Rattle.jsonread.proofs.integers.frac_at.Tie as tie
 
 returns : tie.Need-returns
 returns c = search (frac-end, needs)

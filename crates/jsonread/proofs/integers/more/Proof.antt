@@ -1,7 +1,7 @@
 use Rattle.jsonread.proofs.Counts.{more-beyond, more-within}
 use borrow.Author.Needs.{needs}
-use Rattle.jsonread.proofs.numbers.more.Statement.{statement}
-use Rattle.jsonread.proofs.numbers.more.Tie as tie
+use Rattle.jsonread.proofs.integers.more.Statement.{statement}
+use Rattle.jsonread.proofs.integers.more.Tie as tie
 
 returns : tie.Need-returns
 returns c = search (more-beyond, needs)

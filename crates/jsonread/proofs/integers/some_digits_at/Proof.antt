@@ -1,7 +1,7 @@
 use Rattle.jsonread.proofs.Counts.{some-end, some-other, some-digits, digit-low, digit-value}
 use borrow.Author.Needs.{needs}
-use Rattle.jsonread.proofs.numbers.some_digits_at.Statement.{statement}
-use Rattle.jsonread.proofs.numbers.some_digits_at.Tie as tie
+use Rattle.jsonread.proofs.integers.some_digits_at.Statement.{statement}
+use Rattle.jsonread.proofs.integers.some_digits_at.Tie as tie
 
 returns : tie.Need-returns
 returns c = search (some-end, needs)

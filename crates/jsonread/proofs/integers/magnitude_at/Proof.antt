@@ -1,7 +1,7 @@
 use Rattle.jsonread.proofs.Counts.{counted-from, counted-within, magnitude-none, magnitude-parts}
 use borrow.Author.Needs.{needs}
-use Rattle.jsonread.proofs.numbers.magnitude_at.Statement.{statement}
-use Rattle.jsonread.proofs.numbers.magnitude_at.Tie as tie
+use Rattle.jsonread.proofs.integers.magnitude_at.Statement.{statement}
+use Rattle.jsonread.proofs.integers.magnitude_at.Tie as tie
 
 int-at-requires : tie.Need-int-at-requires
 int-at-requires c κs = search needs

@@ -1,7 +1,7 @@
 use Rattle.jsonread.proofs.Counts.{sign-end, sign-minus, sign-plus, sign-none}
 use borrow.Author.Needs.{needs}
-use Rattle.jsonread.proofs.numbers.unsigned_at.Statement.{statement}
-use Rattle.jsonread.proofs.numbers.unsigned_at.Tie as tie
+use Rattle.jsonread.proofs.integers.unsigned_at.Statement.{statement}
+use Rattle.jsonread.proofs.integers.unsigned_at.Tie as tie
 
 returns : tie.Need-returns
 returns c = search (sign-end, needs)

@@ -1,7 +1,7 @@
 use Rattle.jsonread.proofs.Counts.{exp-end, exp-lower, exp-upper, exp-none}
 use borrow.Author.Needs.{needs}
-use Rattle.jsonread.proofs.numbers.exp_at.Statement.{statement}
-use Rattle.jsonread.proofs.numbers.exp_at.Tie as tie
+use Rattle.jsonread.proofs.integers.exp_at.Statement.{statement}
+use Rattle.jsonread.proofs.integers.exp_at.Tie as tie
 
 returns : tie.Need-returns
 returns c = search (exp-end, needs)

@@ -2,8 +2,8 @@ use Prim.Native.Nat.{_-_}
 use lib.ListN.{length}
 use Rattle.jsonread.proofs.Counts.{count-start, count-end, count-stop, count-more, digit-low, digit-value, Counting}
 use borrow.Author.Needs.{needs}
-use Rattle.jsonread.proofs.numbers.digits_at.Statement.{statement}
-use Rattle.jsonread.proofs.numbers.digits_at.Tie as tie
+use Rattle.jsonread.proofs.integers.digits_at.Statement.{statement}
+use Rattle.jsonread.proofs.integers.digits_at.Tie as tie
 
 abbrev Inv-loop : tie.InvT-loop
 Inv-loop line at n value₀ i₀ value i = Counting line at n value i

@@ -1,7 +1,7 @@
 use Rattle.jsonread.proofs.Counts.{fit-minus, fit-plus}
 use borrow.Author.Needs.{needs}
-use Rattle.jsonread.proofs.numbers.is_fit.Statement.{statement}
-use Rattle.jsonread.proofs.numbers.is_fit.Tie as tie
+use Rattle.jsonread.proofs.integers.is_fit.Statement.{statement}
+use Rattle.jsonread.proofs.integers.is_fit.Tie as tie
 
 returns : tie.Need-returns
 returns c = search (fit-minus, needs)

@@ -1,7 +1,7 @@
 use Rattle.jsonread.proofs.Counts.{parts-bad, parts-there, parts-fit, parts-unfit}
 use borrow.Author.Needs.{needs}
-use Rattle.jsonread.proofs.numbers.parts_at.Statement.{statement}
-use Rattle.jsonread.proofs.numbers.parts_at.Tie as tie
+use Rattle.jsonread.proofs.integers.parts_at.Statement.{statement}
+use Rattle.jsonread.proofs.integers.parts_at.Tie as tie
 
 others-at-requires : tie.Need-others-at-requires
 others-at-requires c κs = search needs

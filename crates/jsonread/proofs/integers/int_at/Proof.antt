@@ -1,7 +1,7 @@
 use Rattle.jsonread.proofs.Counts.{int-end, int-zero, int-other, int-digits, digit-low, digit-value}
 use borrow.Author.Needs.{needs}
-use Rattle.jsonread.proofs.numbers.int_at.Statement.{statement}
-use Rattle.jsonread.proofs.numbers.int_at.Tie as tie
+use Rattle.jsonread.proofs.integers.int_at.Statement.{statement}
+use Rattle.jsonread.proofs.integers.int_at.Tie as tie
 
 returns : tie.Need-returns
 returns c = search (int-end, needs)

@@ -1,6 +1,6 @@
 -- The ways out of the call and of its parts
 use mathlib.Core.Path.{_≡_, refl, sym, ap, _∙_}
-use mathlib.Core.Bool.{true, false}
+use mathlib.Core.Bool.{false}
 use mathlib.Core.List.{List, _++_}
 use Prim.Native.Nat.{ℕ, _+_, _*_, _/_, _<_, _≤_}
 use native.Mathlib.Omega.{arith}
@@ -16,19 +16,18 @@ use Rattle.encode.specs.Write.{over}
 use Rattle.jsontext.specs.declared.Fault.{Fault}
 use Rattle.jsontext.specs.declared.Step.{Step}
 use Rattle.jsontext.specs.declared.Step.the-variants.{At, Bad}
-use Rattle.jsontext.specs.Events.{Event, Log, events, refused, log}
+use Rattle.jsontext.specs.Events.{Event, events, log}
 use Rattle.jsontrace.specs.declared.Imported.{Imported}
 use Rattle.jsontrace.specs.declared.Imported.the-variants.{Written, Faulty, Refused}
-use Rattle.jsontrace.specs.Count.{countedEvents}
 use Rattle.jsontrace.specs.Trace.{trace, traceMarks}
-use Rattle.jsontrace.specs.Import.{cellsFor, longest, givenEvents, givenLog, imported, workspaceAfter, eventsOf, filledIf, ImportResult, importCall}
+use Rattle.jsontrace.specs.Import.{cellsFor, givenEvents, givenLog, imported, workspaceAfter, eventsOf, filledIf, ImportResult, importCall}
 use Rattle.jsontrace.specs.Laws.Trace.{trace-long, marks-long}
 use Rattle.jsonroom.specs.declared.Bodies.{Bodies}
 use Rattle.jsoncount.specs.declared.tallies.Tally.{Tally}
 use Rattle.jsonlines.specs.Events.{LogIs, LogTold}
 use Rattle.jsontotal.specs.Totals.{LogCounted}
 use Rattle.jsonwrite.specs.Bodies.{countOf, Laid}
-use Rattle.jsonwrite.specs.Import.{Imports, ReadTold, GoodIs, GoodTold, TraceDue, TraceWritten}
+use Rattle.jsonwrite.specs.Import.{Imports, ReadTold, GoodTold, TraceDue, TraceWritten}
 use Rattle.jsonwrite.proofs.Sizes.{end-is, too-long, list-words, laid}
 
 -- ---- a good text

@@ -1,7 +1,7 @@
 -- A file that a log's tables fill: room for them before, and the whole trace after
 use mathlib.Core.Path.{_≡_, refl, sym, ap, ap₂, subst, _∙_}
 use mathlib.Core.List.{List, [], _∷_, _++_, append-nil, map}
-use Prim.Native.Nat.{ℕ, _+_, _*_, _-_, _≤_}
+use Prim.Native.Nat.{ℕ, _+_, _*_, _≤_}
 use native.Mathlib.Omega.{arith}
 use lib.ListN.{length, take, drop, length-append, length-drop, take-append-drop}
 use lib.Seq.{drop-at, length-take-le}
@@ -11,7 +11,7 @@ use Rattle.encode.specs.Encode.{flat, placed, encoded}
 use Rattle.encode.specs.Write.{over}
 use Rattle.encode.specs.Laws.Words.{packed-long}
 use Rattle.jsontext.specs.Events.{Event, Log, events, log}
-use Rattle.jsontrace.specs.Count.{Count, countedEvents}
+use Rattle.jsontrace.specs.Count.{Count}
 use Rattle.jsontrace.specs.Order.{arranged}
 use Rattle.jsontrace.specs.Trace.{Tables, Next, first, past, eventAdds, eventsAdd, bodiesOf, tablesOf, trace, traceMarks}
 use Rattle.jsontrace.specs.Laws.Counts.{Sized, tables-sized}
@@ -20,7 +20,7 @@ use Rattle.jsonroom.specs.declared.Bodies.{Bodies}
 use Rattle.jsonroom.specs.declared.Next.{Next as Next·Room}
 use Rattle.jsonroom.specs.Put.{spans, front, contents}
 use Rattle.jsonview.specs.Cells.{write, writing, write-at}
-use Rattle.jsonview.specs.Room.{Room, Shows, filled, Fit, Ready}
+use Rattle.jsonview.specs.Room.{Room, Shows, filled, Ready}
 use Rattle.jsonview.specs.Filling.{strings-long, values-long, members-long, points-long, lists-long}
 use Rattle.jsonview.specs.Showing.{same-room}
 use Rattle.jsonentry.specs.Marks.{marksOf, MarkReady, MarkGrown}

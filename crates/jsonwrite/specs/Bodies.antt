@@ -1,6 +1,6 @@
 -- Where the bodies of a trace begin, by how many records each table has
 use mathlib.Core.Path.{_≡_}
-use Prim.Native.Nat.{ℕ, _+_, _*_, _≤_}
+use Prim.Native.Nat.{_+_, _*_, _≤_}
 use Rattle.jsontrace.specs.Count.{Count}
 use Rattle.jsonroom.specs.declared.Bodies.{Bodies}
 use Rattle.jsoncount.specs.declared.tallies.Tally.{Tally}

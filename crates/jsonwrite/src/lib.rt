@@ -1,6 +1,2 @@
-// Pass two over a JSON log: what a good text adds to the trace, counted, then written.
-pub mod count;
-pub mod ends;
-pub mod events;
+// The import call over a JSON log: a good text's trace and its marks.
 pub mod import;
-pub mod values;

@@ -158,7 +158,7 @@ pub fn line_at(line: &[u8], names: &mut [u64]) -> Step
 }
 
 // where the line from `at` on ends
-fn line_end(text: &[u8], at: usize) -> usize
+pub fn line_end(text: &[u8], at: usize) -> usize
     requires { ⌜ at ≤ length (now text) ⌝ }
     ensures { λ r. ⌜ r ≡ at + lineLength (drop at (now (text .entry))) ⌝ }
 {

@@ -1,0 +1,1 @@
+// The entities of an event, sorted and written.

@@ -1,5 +1,5 @@
 -- A list word with its mark, written, and list words that stand before a value's tables
-use mathlib.Core.Path.{_≡_, refl, sym, ap, ap₂, subst, _∙_}
+use mathlib.Core.Path.{_≡_, refl, sym, ap, subst, _∙_}
 use mathlib.Core.List.{List, [], _∷_, _++_, append-nil}
 use Prim.Native.Nat.{ℕ, _+_, _*_, _-_, _≤_}
 use native.Mathlib.Omega.{arith}
@@ -12,7 +12,7 @@ use Rattle.jsontext.specs.Values.{Object}
 use Rattle.jsontext.specs.Events.{Item}
 use Rattle.jsontrace.specs.Order.{orderedMembers}
 use Rattle.jsontrace.specs.Trace.{Tables, _⊕_, texts, lists, Next as Next·Trace, past, lastValue, valueAdds, naming, entityAdds}
-use Rattle.jsontrace.specs.Laws.Trace.{Shaped, shaped, shaped-texts, shaped-lists, _then_}
+use Rattle.jsontrace.specs.Laws.Trace.{Shaped, shaped-texts, shaped-lists, _then_}
 use Rattle.jsonroom.specs.declared.Bodies.{Bodies}
 use Rattle.jsonroom.specs.declared.Next.{Next}
 use Rattle.jsonroom.specs.Put.{withList, ListPut}
@@ -47,7 +47,7 @@ pub ready-lists : {file : List ℕ} {b : Bodies} {n : Next} {t : Tables} → Rea
 ready-lists g = omega (arith, g .fit .lists, shows-long (g .shows), g .shows .text, g .shows .end)
 
 -- the numbers after tables that fit
-pub mark-next : {before file marks marks′ : List ℕ} {b : Bodies} {n m : Next} {t : Tables} → MarkReady before marks b n t → MarkAdds before file marks marks′ b n t m → m ≡ beyond n t
+mark-next : {before file marks marks′ : List ℕ} {b : Bodies} {n m : Next} {t : Tables} → MarkReady before marks b n t → MarkAdds before file marks marks′ b n t m → m ≡ beyond n t
 mark-next g p = p (g .ready .room) (g .ready .shows) (g .ready .fit) (g .for-marks) .grown .next
 
 pub mark-numbers : {before file marks marks′ : List ℕ} {b : Bodies} {n m : Next} (t : Tables) → MarkReady before marks b n t → MarkAdds before file marks marks′ b n t m → numbers m ≡ past (numbers n) t
@@ -64,7 +64,7 @@ lists-first a x z t e = same-tables (ap (λ (l : List (List ℕ)). l ++ (t .text
 
 -- ---- an entity
 
-shaped-named : (t : List ℕ) (k : Next·Trace) → Shaped (namedTables t k)
+pub shaped-named : (t : List ℕ) (k : Next·Trace) → Shaped (namedTables t k)
 unfolding namedTables
 shaped-named t k = shaped-texts (t ∷ []) then shaped-lists ((k .string, 1) ∷ [])
 

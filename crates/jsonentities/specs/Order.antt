@@ -83,7 +83,7 @@ item-trans a b c p q =
     go (by-id e x) (by-id f y) = by-id (e ∙ f) (before-trans (a .id) (b .id) (c .id) x y)
 
 -- not past one, before another: the one is before the other
-pub item-between : (m a b : Item) → itemBefore m a ≡ false → itemBefore m b ≡ true → itemBefore a b ≡ true
+item-between : (m a b : Item) → itemBefore m a ≡ false → itemBefore m b ≡ true → itemBefore a b ≡ true
 item-between m a b p q =
     of-less a b (go (not-less m a p) (less-of m b q))
   where
@@ -220,3 +220,26 @@ rises-behind x (y ∷ ys) r =
     go : (b : Bool) → itemBefore x y ≡ b → Rises (insertBehind x ys) → Rises (insertBehind x (y ∷ ys))
     go true e more = rw (behind-here x y ys e) ((item-one x y e, every-map ys (λ z h. item-not z y x h (item-one x y e)) (r .0)), r)
     go false e more = rw (behind-past x y ys e) (every-behind (λ z. itemBefore z y ≡ false) x ys e (r .0), more)
+
+-- ---- told by types and ids
+
+pub before-type : (a b : Item) → before (a .type) (b .type) ≡ true → itemBefore a b ≡ true
+before-type a b h = of-less a b (by-type h)
+
+pub before-id : (a b : Item) → a .type ≡ b .type → before (a .id) (b .id) ≡ true → itemBefore a b ≡ true
+before-id a b e h = of-less a b (by-id e h)
+
+pub behind-type : (a b : Item) → before (b .type) (a .type) ≡ true → itemBefore a b ≡ false
+behind-type a b h = item-one b a (before-type b a h)
+
+pub behind-id : (a b : Item) → a .type ≡ b .type → before (b .id) (a .id) ≡ true → itemBefore a b ≡ false
+behind-id a b e h = item-one b a (before-id b a (sym e) h)
+
+pub behind-equal : (a b : Item) → a .type ≡ b .type → a .id ≡ b .id → itemBefore a b ≡ false
+unfolding itemBefore
+behind-equal a b e f = rw (sym e, sym f) (item-self a)
+
+-- the order of attributes is not asked
+pub arranged-before : (a b : Item) → itemBefore (arrangedItem a) (arrangedItem b) ≡ itemBefore a b
+unfolding arrangedItem itemBefore
+arranged-before a b = refl

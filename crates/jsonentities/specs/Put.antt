@@ -1,9 +1,10 @@
 -- A string that is named by a list word, an entity, and entities: what is due, and what was written
 use mathlib.Core.Path.{_≡_}
 use mathlib.Core.List.{List, [], _∷_}
-use Prim.Native.Nat.{ℕ, _+_, _≤_}
+use Prim.Native.Nat.{ℕ, _≤_}
 use lib.ListN.{length, drop}
-use Rattle.jsontext.specs.Reading.{Read, got}
+use Rattle.jsontext.specs.Reading.{Read, got, blanks}
+use Rattle.jsontext.specs.Strings.{string}
 use Rattle.jsontext.specs.Values.{Parts, Object, fields}
 use Rattle.jsontext.specs.Events.{Item}
 use Rattle.jsontrace.specs.Order.{orderedMembers}
@@ -57,6 +58,19 @@ pub record MarkWrote {A : Type 0} (line : List ℕ) (at : ℕ) (m : Read A) (bef
   pub within : r .end ≤ length line
   pub is : (what : A) (rest : List ℕ) → m ≡ got what rest → rest ≡ drop (r .end) line
   pub adds : (what : A) (rest : List ℕ) → m ≡ got what rest → MarkAdds before after marks marks′ b n (tables what (numbers n)) (r .next)
+
+-- a string and a byte behind it stand here, and the string fits
+pub record SignedDue (line : List ℕ) (at : ℕ) (file marks : List ℕ) (b : Bodies) (n : Next) : Type 0 where
+  pub due : MarkDue line at (string (drop at line)) file marks b n namedTables
+  pub sign : ℕ
+  pub others : List ℕ
+  pub byte : blanks (due .rest) ≡ sign ∷ others
+
+-- the string is written, and what stands behind that byte begins at the end
+pub record SignedWritten (line : List ℕ) (at : ℕ) (before after marks marks′ : List ℕ) (b : Bodies) (n : Next) (r : Written) : Type 0 where
+  pub within : r .end ≤ length line
+  pub is : (what rest : List ℕ) (sign : ℕ) (others : List ℕ) → string (drop at line) ≡ got what rest → blanks rest ≡ sign ∷ others → drop (r .end) line ≡ blanks others
+  pub adds : (what rest : List ℕ) → string (drop at line) ≡ got what rest → MarkAdds before after marks marks′ b n (namedTables what (numbers n)) (r .next)
 
 -- type and id are written, and the attributes begin at the end
 pub record Attributes (line : List ℕ) (at : ℕ) (ps : Parts) : Type 0 where

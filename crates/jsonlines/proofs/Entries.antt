@@ -31,7 +31,7 @@ use Rattle.jsonlines.specs.Events.{numberOf, NameIs, NameTold, EntryIs, 
 
 -- ---- the table of the definition, by places
 
-is-field : (n : List ℕ) → isField fieldReaders n ≡ ltb (fieldOf n) 9
+pub is-field : (n : List ℕ) → isField fieldReaders n ≡ ltb (fieldOf n) 9
 unfolding isField fieldReaders fieldOf _or_ choose
 is-field n =
     go (sameList «time» n) (sameList «namespace» n) (sameList «action» n) (sameList «kind» n) (sameList «logged» n) (sameList «context» n) (sameList «principal» n) (sameList «resource» n) (sameList «entities» n)
@@ -48,7 +48,7 @@ is-field n =
     go false false false false false false false false true = refl
     go false false false false false false false false false = refl
 
-field-by : (n s : List ℕ) → fieldOf n < 9 → fieldBy fieldReaders n s ≡ readerAt (fieldOf n) s
+pub field-by : (n s : List ℕ) → fieldOf n < 9 → fieldBy fieldReaders n s ≡ readerAt (fieldOf n) s
 unfolding fieldBy fieldReaders fieldOf readerAt choose
 field-by n s l =
     go (sameList «time» n) (sameList «namespace» n) (sameList «action» n) (sameList «kind» n) (sameList «logged» n) (sameList «context» n) (sameList «principal» n) (sameList «resource» n) (sameList «entities» n) l
@@ -65,7 +65,7 @@ field-by n s l =
     go false false false false false false false false true l = refl
     go false false false false false false false false false l = absurd (omega arith)
 
-number-is : (k : ℕ) (s : List ℕ) {x : Field} {rest : List ℕ} → k < 9 → readerAt k s ≡ got x rest → numberOf x ≡ k
+pub number-is : (k : ℕ) (s : List ℕ) {x : Field} {rest : List ℕ} → k < 9 → readerAt k s ≡ got x rest → numberOf x ≡ k
 unfolding readerAt numberOf
 number-is zero s l e = ap numberOf (came Time (due BadField numeral number s) e .makes)
 number-is (suc zero) s l e = ap numberOf (came Namespace (listed (array text) s) e .makes)

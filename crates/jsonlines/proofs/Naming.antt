@@ -157,7 +157,7 @@ placed {line = line} {at = at} f e q p = record { told = told-of (omega arith) (
 plainly : {A : Type 0} {line names : List ℕ} {used at : ℕ} {r : Step} {m : Read A} → Told line at r m → Passed line names names used at r m
 plainly t = record { told = t; below = below-self }
 
-others-are : (k : ℕ) (s : List ℕ) → (k ≡ 0 → ⊥) → (k ≡ 1 → ⊥) → (k ≡ 2 → ⊥) → (k ≡ 3 → ⊥) → (k ≡ 4 → ⊥) → (k ≡ 5 → ⊥) → (k ≡ 6 → ⊥) → (k ≡ 7 → ⊥) → readerAt k s ≡ mapped Entities (listed (array entityOf) s)
+pub others-are : (k : ℕ) (s : List ℕ) → (k ≡ 0 → ⊥) → (k ≡ 1 → ⊥) → (k ≡ 2 → ⊥) → (k ≡ 3 → ⊥) → (k ≡ 4 → ⊥) → (k ≡ 5 → ⊥) → (k ≡ 6 → ⊥) → (k ≡ 7 → ⊥) → readerAt k s ≡ mapped Entities (listed (array entityOf) s)
 unfolding readerAt
 others-are zero s n0 n1 n2 n3 n4 n5 n6 n7 = absurd (n0 refl)
 others-are (suc zero) s n0 n1 n2 n3 n4 n5 n6 n7 = absurd (n1 refl)

@@ -140,10 +140,10 @@ module _ (text : List ℕ) (at end : ℕ) (h : at < length text) (e : end ≡ at
   pub end-from : at ≤ end
   end-from = omega (arith, e)
 
-  line-long : length (lineFrom text at end) ≡ end - at
+  pub line-long : length (lineFrom text at end) ≡ end - at
   line-long = length-take-le (end - at) (drop at text) (omega (arith, end-within, length-drop at text))
 
-  cut-line : cut (drop at text) ≡ lineFrom text at end ∷ cut (drop (end + 1) text)
+  pub cut-line : cut (drop at text) ≡ lineFrom text at end ∷ cut (drop (end + 1) text)
   cut-line =
       let z : lineLength (drop at text) ≡ end - at = omega arith in
       let y : at + suc (end - at) ≡ end + 1 = omega arith in
@@ -181,14 +181,14 @@ pub log-start : (text names : List ℕ) → Room text names 0 0 0 → Logging te
 unfolding log
 log-start text names h = record { room = omega arith; long = refl; good = λ es e. record { what = es; is = e }; wrong = λ w p q e. e }
 
-abbrev lineBy : ℕ → List ℕ → List (List ℕ) → Read Event → Log
+abbrev pub lineBy : ℕ → List ℕ → List (List ℕ) → Read Event → Log
 lineBy at l ls m = elim m [ got e rest ↦ withEvent e (lines (at + length l + 1) ls) | fault w left first ↦ refused w (at + length l - left) (at + length l - first) ]
 
-lines-is : (at : ℕ) (l : List ℕ) (ls : List (List ℕ)) → lines at (l ∷ ls) ≡ lineBy at l ls (lineOf l)
+pub lines-is : (at : ℕ) (l : List ℕ) (ls : List (List ℕ)) → lines at (l ∷ ls) ≡ lineBy at l ls (lineOf l)
 unfolding lines
 lines-is at l ls = refl
 
-no-lines : (at : ℕ) (s : List ℕ) → s ≡ [] → lines at (cut s) ≡ events []
+pub no-lines : (at : ℕ) (s : List ℕ) → s ≡ [] → lines at (cut s) ≡ events []
 unfolding lines cut
 no-lines at s e = rw e
 

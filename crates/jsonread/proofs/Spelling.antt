@@ -24,7 +24,7 @@ use Rattle.jsonread.specs.declared.names.Order.the-variants.{Less, Same,
 use Rattle.jsonread.specs.declared.names.Out.{Out}
 use Rattle.jsonread.specs.declared.names.Out.the-variants.{Byte, Ended}
 use Rattle.jsonread.specs.Told.{CharTold}
-use Rattle.jsonread.specs.Spelling.{lastOf, Begins, Spelt, Yielded, NextTold, orderOf, OrderTold, WordTold}
+use Rattle.jsonread.specs.Spelling.{lastOf, Begins, Spelt, Yielded, NextTold, orderOf, OrderTold, WordTold, MatchIs, Matching, CompareIs, Comparing, plainly, Alike, Fitting}
 use Rattle.jsonread.proofs.Places.{byte-at, then-is}
 
 -- ---- a character's first byte
@@ -206,15 +206,6 @@ module _ (line : List ℕ) (c : Cursor) where
 
 -- ---- a word
 
-pub record MatchIs (line n word : List ℕ) (x : Cursor) (i : ℕ) : Type 0 where
-  pub bytes : List ℕ
-  pub spelt : Spelt line x bytes
-  pub is : sameList n word ≡ sameList bytes (drop i word)
-
-pub record Matching (line : List ℕ) (at : ℕ) (word : List ℕ) (x : Cursor) (i : ℕ) : Type 0 where
-  pub within : i ≤ length word
-  pub goes : (n rest : List ℕ) → string (drop at line) ≡ got n rest → MatchIs line n word x i
-
 -- a string's characters stand after its quotation mark
 pub string-none : {n rest : List ℕ} → string [] ≡ got n rest → ⊥
 unfolding string then want
@@ -301,16 +292,6 @@ module _ {line word : List ℕ} {at i : ℕ} {x : Cursor} {r : Out} (g : Matchin
 
 -- ---- the order of two strings
 
-pub record CompareIs (line m n : List ℕ) (x y : Cursor) : Type 0 where
-  pub left : List ℕ
-  pub right : List ℕ
-  pub spelt-left : Spelt line x left
-  pub spelt-right : Spelt line y right
-  pub is : orderOf m n ≡ orderOf left right
-
-pub record Comparing (line : List ℕ) (a b : ℕ) (x y : Cursor) : Type 0 where
-  pub goes : (m n s t : List ℕ) → string (drop a line) ≡ got m s → string (drop b line) ≡ got n t → CompareIs line m n x y
-
 pub compare-start : (line : List ℕ) (a b : ℕ) → Comparing line a b (record { at = a + 1; character = 0; left = 0 }) (record { at = b + 1; character = 0; left = 0 })
 compare-start line a b = record { goes = λ m n s t e f. record { left = m; right = n; spelt-left = spelt-string line a e; spelt-right = spelt-string line b f; is = refl } }
 
@@ -384,3 +365,74 @@ module _ (line : List ℕ) (a b : ℕ) {x y : Cursor} {u v : Out} (g : Comparing
                 let x = tv .yields _ _ q _ (c .spelt-right) in
                 record { left = w .others; right = x .others; spelt-left = w .spelt; spelt-right = x .spelt; is = both-go e f ∙ order-on j k _ _ h l };
           }
+
+-- ---- bytes that stand for themselves
+
+module _ {line : List ℕ} {i : ℕ} (h : i < length line) where
+  next-mark : getD line i 0 ≡ 34 → NextTold line (plainly i) Ended
+  next-mark e = next-quote line (plainly i) (λ z. omega (arith, z)) (λ z. omega (arith, z)) (λ z. omega (arith, z)) h e
+
+  next-itself : (getD line i 0 ≡ 34 → ⊥) → (getD line i 0 ≡ 92 → ⊥) → NextTold line (plainly i) (Byte (getD line i 0) (plainly (i + 1)))
+  next-itself n m = next-plain line (plainly i) (λ z. omega (arith, z)) (λ z. omega (arith, z)) (λ z. omega (arith, z)) h n m
+
+pub alike-start : {line : List ℕ} {a b : ℕ} → a ≤ length line → b ≤ length line → Alike line a b 1
+alike-start {line} {a} {b} h l = record { left = omega (arith, h); right = omega (arith, l); is = compare-start line a b }
+
+module _ {line : List ℕ} {a b k : ℕ} (g : Alike line a b k) where
+  pub alike-is : Comparing line a b (plainly (a + k)) (plainly (b + k))
+  alike-is = g .is
+
+  module _ (h : a + k < length line) (l : b + k < length line) where
+    pub alike-below : length line - (k + 1) < length line - k
+    alike-below = omega (arith, h)
+
+    module _ (n : getD line (a + k) 0 ≡ 34 → ⊥) (m : getD line (a + k) 0 ≡ 92 → ⊥) where
+      pub alike-more : getD line (a + k) 0 ≡ getD line (b + k) 0 → Alike line a b (k + 1)
+      alike-more e =
+          let x : a + k + 1 ≡ a + (k + 1) = omega arith in
+          let y : b + k + 1 ≡ b + (k + 1) = omega arith in
+          record {
+            left = omega (arith, h);
+            right = omega (arith, l);
+            is =
+                subst (λ (j : ℕ). Comparing line a b (plainly (a + (k + 1))) (plainly j)) y
+                (subst (λ (i : ℕ). Comparing line a b (plainly i) (plainly (b + k + 1))) x
+                (compare-on line a b (g .is) (next-itself h n m) (next-itself l (λ z. n (e ∙ z)) (λ z. m (e ∙ z))) refl refl (omega (arith, e)) (omega (arith, e))));
+          }
+
+      module _ (p : getD line (b + k) 0 ≡ 34 → ⊥) (q : getD line (b + k) 0 ≡ 92 → ⊥) where
+        pub alike-less : getD line (a + k) 0 < getD line (b + k) 0 → OrderTold line a b Less
+        alike-less z = compare-less line a b (g .is) (next-itself h n m) (next-itself l p q) refl refl z
+
+        pub alike-greater : getD line (b + k) 0 < getD line (a + k) 0 → OrderTold line a b More
+        alike-greater z = compare-more line a b (g .is) (next-itself h n m) (next-itself l p q) refl refl z
+
+pub fitting-start : {line word : List ℕ} {at : ℕ} → at ≤ length line → Fitting line at word 0
+fitting-start {line} {word} {at} h =
+    let z : at + 1 ≡ at + 1 + 0 = omega arith in
+    record { within = omega (arith, h); is = subst (λ (i : ℕ). Matching line at word (plainly i) 0) z (match-start line word at) }
+
+module _ {line word : List ℕ} {at i : ℕ} (g : Fitting line at word i) where
+  pub fitting-is : Matching line at word (plainly (at + 1 + i)) i
+  fitting-is = g .is
+
+  module _ (h : at + 1 + i < length line) where
+    module _ (e : getD line (at + 1 + i) 0 ≡ 34) where
+      pub fitting-short : i < length word → WordTold line at word false
+      fitting-short l = match-short (g .is) (next-mark h e) l refl
+
+      pub fitting-done : length word ≤ i → WordTold line at word true
+      fitting-done l = match-done (g .is) (next-mark h e) l refl
+
+    module _ (n : getD line (at + 1 + i) 0 ≡ 34 → ⊥) (m : getD line (at + 1 + i) 0 ≡ 92 → ⊥) where
+      pub fitting-longer : length word ≤ i → WordTold line at word false
+      fitting-longer l = match-longer (g .is) (next-itself h n m) l refl
+
+      module _ (l : i < length word) where
+        pub fitting-differs : (getD line (at + 1 + i) 0 ≡ getD word i 0 → ⊥) → WordTold line at word false
+        fitting-differs d = match-differs (g .is) (next-itself h n m) l refl d
+
+        pub fitting-more : getD line (at + 1 + i) 0 ≡ getD word i 0 → Fitting line at word (i + 1)
+        fitting-more d =
+            let z : at + 1 + i + 1 ≡ at + 1 + (i + 1) = omega arith in
+            record { within = omega (arith, h); is = subst (λ (j : ℕ). Matching line at word (plainly j) (i + 1)) z (match-more (g .is) (next-itself h n m) l refl d) }

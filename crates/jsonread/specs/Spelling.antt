@@ -65,3 +65,38 @@ OrderTold line a b r = (m n s t : List ℕ) → string (drop a line) ≡ got m s
 -- of a string that reads well: it is this word
 abbrev pub WordTold : List ℕ → ℕ → List ℕ → Bool → Type 0
 WordTold line at word r = (n rest : List ℕ) → string (drop at line) ≡ got n rest → r ≡ sameList n word
+
+-- what is left to match, and what is left to compare, tells of the whole
+pub record MatchIs (line n word : List ℕ) (x : Cursor) (i : ℕ) : Type 0 where
+  pub bytes : List ℕ
+  pub spelt : Spelt line x bytes
+  pub is : sameList n word ≡ sameList bytes (drop i word)
+
+pub record Matching (line : List ℕ) (at : ℕ) (word : List ℕ) (x : Cursor) (i : ℕ) : Type 0 where
+  pub within : i ≤ length word
+  pub goes : (n rest : List ℕ) → string (drop at line) ≡ got n rest → MatchIs line n word x i
+
+pub record CompareIs (line m n : List ℕ) (x y : Cursor) : Type 0 where
+  pub left : List ℕ
+  pub right : List ℕ
+  pub spelt-left : Spelt line x left
+  pub spelt-right : Spelt line y right
+  pub is : orderOf m n ≡ orderOf left right
+
+pub record Comparing (line : List ℕ) (a b : ℕ) (x y : Cursor) : Type 0 where
+  pub goes : (m n s t : List ℕ) → string (drop a line) ≡ got m s → string (drop b line) ≡ got n t → CompareIs line m n x y
+
+-- from a byte of the line on
+abbrev pub plainly : ℕ → Cursor
+plainly i = record { at = i; character = 0; left = 0 }
+
+-- so many bytes of two strings are the same and stand for themselves, the quotation marks among them
+pub record Alike (line : List ℕ) (a b k : ℕ) : Type 0 where
+  pub left : a + k ≤ length line + 1
+  pub right : b + k ≤ length line + 1
+  pub is : Comparing line a b (plainly (a + k)) (plainly (b + k))
+
+-- so many bytes of a word stand in a string as they are
+pub record Fitting (line : List ℕ) (at : ℕ) (word : List ℕ) (i : ℕ) : Type 0 where
+  pub within : at + 1 + i ≤ length line + 1
+  pub is : Matching line at word (plainly (at + 1 + i)) i

@@ -1,83 +1,77 @@
-use Prim.Native.Nat.{_-_}
-use lib.ListN.{length}
-use Rattle.jsonread.proofs.Spelling.{match-start, match-short, match-differs, match-more, match-done, match-longer, Matching}
+use Rattle.jsonread.proofs.Spelling.{fitting-short, fitting-differs, fitting-done, fitting-longer}
 use borrow.Author.Needs.{needs}
 use Rattle.jsonread.proofs.names.is_word.Statement.{statement}
 use Rattle.jsonread.proofs.names.is_word.Tie as tie
 
-abbrev Inv-loop : tie.InvT-loop
-Inv-loop line at word x₀ i₀ x i = Matching line at word x i
+same-word-requires : tie.Need-same-word-requires
+same-word-requires c κs = search needs
 
-abbrev μ-loop : tie.MeasureT-loop
-μ-loop line at word x₀ i₀ x i = length word - i
+add-if1 : tie.Need-add-if1
+add-if1 c = search needs
 
-add-t8 : tie.Need-add-t8 Inv-loop μ-loop
-add-t8 c = search needs
+add-if1-2 : tie.Need-add-if1-2
+add-if1-2 c = search needs
 
-loop-holds : tie.Need-loop-holds Inv-loop μ-loop
-loop-holds c = search (match-start, needs)
+is-word-from-requires : tie.Need-is-word-from-requires
+is-word-from-requires c κs = search needs
 
-next-byte-requires : tie.Need-next-byte-requires Inv-loop μ-loop
-next-byte-requires c κs = search needs
+returns : tie.Need-returns
+returns c = search needs
 
-enum-told : tie.Need-enum-told Inv-loop μ-loop
-enum-told c = search needs
+add-c : tie.Need-add-c
+add-c c = search needs
 
-returns : tie.Need-returns Inv-loop μ-loop
-returns c = search (match-short, needs)
+add-c-2 : tie.Need-add-c-2
+add-c-2 c = search needs
 
-enum-known-b : tie.Need-enum-known-b Inv-loop μ-loop
-enum-known-b c = search needs
+shared-slice-read-c : tie.Need-shared-slice-read-c
+shared-slice-read-c c = search needs
 
-shared-slice-read-if1 : tie.Need-shared-slice-read-if1 Inv-loop μ-loop
-shared-slice-read-if1 c = search needs
+is-word-from-requires-2 : tie.Need-is-word-from-requires-2
+is-word-from-requires-2 c κs = search needs
 
-returns-2 : tie.Need-returns-2 Inv-loop μ-loop
-returns-2 c = search (match-differs, needs)
+returns-2 : tie.Need-returns-2
+returns-2 c = search needs
 
-add-i : tie.Need-add-i Inv-loop μ-loop
-add-i c = search needs
+returns-3 : tie.Need-returns-3
+returns-3 c = search (fitting-short, needs)
 
-loop-less : tie.Need-loop-less Inv-loop μ-loop
-loop-less c = search needs
+shared-slice-read-if5 : tie.Need-shared-slice-read-if5
+shared-slice-read-if5 c = search needs
 
-loop-again : tie.Need-loop-again Inv-loop μ-loop
-loop-again c = search (match-more, needs)
+returns-4 : tie.Need-returns-4
+returns-4 c = search (fitting-differs, needs)
 
-next-byte-requires-2 : tie.Need-next-byte-requires-2 Inv-loop μ-loop
-next-byte-requires-2 c κs = search needs
+is-word-from-requires-3 : tie.Need-is-word-from-requires-3
+is-word-from-requires-3 c κs = search needs
 
-enum-told-2 : tie.Need-enum-told-2 Inv-loop μ-loop
-enum-told-2 c = search needs
+returns-5 : tie.Need-returns-5
+returns-5 c = search needs
 
-enum-told-3 : tie.Need-enum-told-3 Inv-loop μ-loop
-enum-told-3 c = search needs
+returns-6 : tie.Need-returns-6
+returns-6 c = search (fitting-done, needs)
 
-returns-3 : tie.Need-returns-3 Inv-loop μ-loop
-returns-3 c = search (match-done, needs)
-
-returns-4 : tie.Need-returns-4 Inv-loop μ-loop
-returns-4 c = search (match-longer, needs)
+returns-7 : tie.Need-returns-7
+returns-7 c = search (fitting-longer, needs)
 
 pub is-word-spec : {M : Type 1} → statement M
 is-word-spec =
     tie.close
     (tie.spec
-    Inv-loop
-    μ-loop
-    add-t8
-    loop-holds
-    next-byte-requires
-    enum-told
+    same-word-requires
+    add-if1
+    add-if1-2
+    is-word-from-requires
     returns
-    enum-known-b
-    shared-slice-read-if1
+    add-c
+    add-c-2
+    shared-slice-read-c
+    is-word-from-requires-2
     returns-2
-    add-i
-    loop-less
-    loop-again
-    next-byte-requires-2
-    enum-told-2
-    enum-told-3
     returns-3
-    returns-4)
+    shared-slice-read-if5
+    returns-4
+    is-word-from-requires-3
+    returns-5
+    returns-6
+    returns-7)

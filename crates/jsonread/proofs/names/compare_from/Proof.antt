@@ -1,24 +1,25 @@
+use Rattle.jsonread.proofs.names.compare_from.Statement.{statement}
+use Rattle.jsonread.proofs.names.compare_from.Tie as tie
 use Prim.Native.Nat.{_+_, _*_, _-_}
 use lib.ListN.{length}
-use Rattle.jsonread.proofs.Spelling.{compare-start, compare-same, compare-shorter, compare-longer, compare-less, compare-more, compare-on, cursor-less, Comparing}
+use Rattle.jsonread.proofs.Spelling.{compare-same, compare-shorter, compare-longer, compare-less, compare-more, compare-on, cursor-less, alike-is}
+use Rattle.jsonread.specs.Spelling.{Comparing}
 use borrow.Author.Needs.{needs}
-use Rattle.jsonread.proofs.names.compare.Statement.{statement}
-use Rattle.jsonread.proofs.names.compare.Tie as tie
 
 abbrev Inv-loop : tie.InvT-loop
-Inv-loop line a b x₀ y₀ x y = Comparing line a b x y
+Inv-loop line a b k x₀ y₀ x y = Comparing line a b x y
 
 abbrev μ-loop : tie.MeasureT-loop
-μ-loop line a b x₀ y₀ x y = 4 * (length line - x .at) + x .left
+μ-loop line a b k x₀ y₀ x y = 4 * (length line - x .at) + x .left
 
-add-t10 : tie.Need-add-t10 Inv-loop μ-loop
-add-t10 c = search needs
+add-t11 : tie.Need-add-t11 Inv-loop μ-loop
+add-t11 c = search needs
 
-add-t10-2 : tie.Need-add-t10-2 Inv-loop μ-loop
-add-t10-2 c = search needs
+add-t11-2 : tie.Need-add-t11-2 Inv-loop μ-loop
+add-t11-2 c = search needs
 
 loop-holds : tie.Need-loop-holds Inv-loop μ-loop
-loop-holds c = search (compare-start, needs)
+loop-holds c = search (alike-is, needs)
 
 next-byte-requires : tie.Need-next-byte-requires Inv-loop μ-loop
 next-byte-requires c κs = search needs
@@ -68,14 +69,14 @@ loop-less c = search (cursor-less, needs)
 loop-again : tie.Need-loop-again Inv-loop μ-loop
 loop-again c = search (compare-on, needs)
 
-pub compare-spec : {M : Type 1} → statement M
-compare-spec =
+pub compare-from-spec : {M : Type 1} → statement M
+compare-from-spec =
     tie.close
     (tie.spec
     Inv-loop
     μ-loop
-    add-t10
-    add-t10-2
+    add-t11
+    add-t11-2
     loop-holds
     next-byte-requires
     enum-told

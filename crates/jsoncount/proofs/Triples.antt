@@ -31,20 +31,20 @@ use Rattle.jsoncount.proofs.Sums.{sum-assoc, adds-then, adds-as}
 use Rattle.jsoncount.proofs.Looping.{Looping, PartTo, loop-signed, loop-empty, loop-start, part-signed, loop-closed, loop-again, loop-less, counted-as}
 
 -- what stands at a place that holds a known byte, and behind it
-byte-below : (line : List ℕ) (at : ℕ) {c : ℕ} {s : List ℕ} → drop at line ≡ c ∷ s → at < length line
+pub byte-below : (line : List ℕ) (at : ℕ) {c : ℕ} {s : List ℕ} → drop at line ≡ c ∷ s → at < length line
 byte-below line at e = omega (arith, length-drop at line, ap length e)
 
-byte-left : (line : List ℕ) (at : ℕ) {c : ℕ} {s : List ℕ} → drop at line ≡ c ∷ s → drop (at + 1) line ≡ s
+pub byte-left : (line : List ℕ) (at : ℕ) {c : ℕ} {s : List ℕ} → drop at line ≡ c ∷ s → drop (at + 1) line ≡ s
 byte-left line at e = let z = byte-at line at (byte-below line at e) in cc
 
 -- ---- an object that is no form
 
-record Fielded (levels : ℕ) (s : List ℕ) (ps : Parts) (rest : List ℕ) : Type 0 where
-  inside : List ℕ
-  brace : s ≡ 123 ∷ inside
-  made : Came memberParts (objectRead levels inside) ps rest
+pub record Fielded (levels : ℕ) (s : List ℕ) (ps : Parts) (rest : List ℕ) : Type 0 where
+  pub inside : List ℕ
+  pub brace : s ≡ 123 ∷ inside
+  pub made : Came memberParts (objectRead levels inside) ps rest
 
-fielded : (levels : ℕ) (s : List ℕ) {ps : Parts} {rest : List ℕ} → fields levels s ≡ got ps rest → Fielded levels s ps rest
+pub fielded : (levels : ℕ) (s : List ℕ) {ps : Parts} {rest : List ℕ} → fields levels s ≡ got ps rest → Fielded levels s ps rest
 unfolding fields
 fielded levels s {ps} {rest} e =
     let b = then-of (want 123 s) (due-of BadField (λ c. eqb c 123) (λ t. then (want 123 t) λ brace rest. bare (λ u. value levels u) (form rest) t) s e) in
@@ -106,22 +106,22 @@ none-of (x ∷ s) {i} {rest} e =
     go true f = unfold choose in absurd (never f)
     go false f = unfold choose in f
 
-record Tripled (s : List ℕ) (i : Item) (rest : List ℕ) : Type 0 where
-  inside : List ℕ
-  after-type : List ℕ
-  to-id : List ℕ
-  after-id : List ℕ
-  to-attributes : List ℕ
-  left : List ℕ
-  bracket : s ≡ 91 ∷ inside
-  type-is : string (blanks inside) ≡ got (i .type) after-type
-  first : blanks after-type ≡ 44 ∷ to-id
-  id-is : string (blanks to-id) ≡ got (i .id) after-id
-  second : blanks after-id ≡ 44 ∷ to-attributes
-  attributes-are : fields 31 (blanks to-attributes) ≡ got (i .attributes) left
-  close : blanks left ≡ 93 ∷ rest
+pub record Tripled (s : List ℕ) (i : Item) (rest : List ℕ) : Type 0 where
+  pub inside : List ℕ
+  pub after-type : List ℕ
+  pub to-id : List ℕ
+  pub after-id : List ℕ
+  pub to-attributes : List ℕ
+  pub left : List ℕ
+  pub bracket : s ≡ 91 ∷ inside
+  pub type-is : string (blanks inside) ≡ got (i .type) after-type
+  pub first : blanks after-type ≡ 44 ∷ to-id
+  pub id-is : string (blanks to-id) ≡ got (i .id) after-id
+  pub second : blanks after-id ≡ 44 ∷ to-attributes
+  pub attributes-are : fields 31 (blanks to-attributes) ≡ got (i .attributes) left
+  pub close : blanks left ≡ 93 ∷ rest
 
-tripled : (s : List ℕ) {i : Item} {rest : List ℕ} → entityRead s ≡ got i rest → Tripled s i rest
+pub tripled : (s : List ℕ) {i : Item} {rest : List ℕ} → entityRead s ≡ got i rest → Tripled s i rest
 unfolding entityRead triple
 tripled s {i} {rest} e =
     let b = then-of (want 91 s) (due-of BadField (λ c. eqb c 91) (λ t. then (want 91 t) λ bracket rest. unlessNone (blanks rest)) s e) in

@@ -26,7 +26,7 @@ pub fn count_fields(line: &[u8], at: usize, t: Tally) -> Counted
 }
 
 // [type, id, attributes], from its bracket on
-fn count_entity(line: &[u8], at: usize, t: Tally) -> Counted
+pub fn count_entity(line: &[u8], at: usize, t: Tally) -> Counted
     requires { ⌜ Good (now line) at (entityRead (drop at (now line))) ⌝ }
     ensures { λ r. ⌜ CountedTo (now (line .entry)) at t r (entityRead (drop at (now (line .entry)))) entitySize ⌝ }
 {

@@ -2,3 +2,4 @@ pub mod Marks
 pub mod Marking
 pub mod Fields
 pub mod Entries
+pub mod NoLists

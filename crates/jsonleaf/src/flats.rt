@@ -67,7 +67,7 @@ pub fn put_held(out: &mut [u8], b: Bodies, next: Next, kind: u32, n: Next, count
 }
 
 // two strings
-fn put_two(line: &[u8], one: usize, other: usize, out: &mut [u8], b: Bodies, n: Next) -> Next
+pub fn put_two(line: &[u8], one: usize, other: usize, out: &mut [u8], b: Bodies, n: Next) -> Next
     requires { ⌜ TwoDue (now line) one other (now out) b n ⌝ }
     ensures { λ r. ⌜ TwoWritten (now (line .entry)) one other (now (out .entry)) (now (out .exit)) b n r ⌝ }
 {
@@ -116,7 +116,7 @@ fn magnitude_of(line: &[u8], at: usize) -> u64
 }
 
 // an integer's 64 bits
-fn integer_of(line: &[u8], at: usize) -> u64
+pub fn integer_of(line: &[u8], at: usize) -> u64
     requires { ⌜ Good (now line) at (number (drop at (now line))) ⌝ }
     ensures { λ r. ⌜ IntegerTold (now (line .entry)) at r ⌝ }
 {
@@ -126,13 +126,13 @@ fn integer_of(line: &[u8], at: usize) -> u64
     magnitude_of(line, at)
 }
 
-fn low_of(z: u64) -> u32
+pub fn low_of(z: u64) -> u32
     ensures { λ r. ⌜ r ≡ z % 4294967296 ⌝ }
 {
     (z % 4294967296) as u32
 }
 
-fn high_of(z: u64) -> u32
+pub fn high_of(z: u64) -> u32
     ensures { λ r. ⌜ r ≡ z / 4294967296 ⌝ }
 {
     (z / 4294967296) as u32

@@ -33,7 +33,7 @@ either x y n h =
     go false e = absurd (n (before-neither x y h e))
 
 -- past one that is not after, before one that is
-between : (m a b : List ℕ) → before m a ≡ false → before m b ≡ true → before a b ≡ true
+pub between : (m a b : List ℕ) → before m a ≡ false → before m b ≡ true → before a b ≡ true
 between m a b p q =
     go (before a m) refl
   where

@@ -1,0 +1,4 @@
+pub mod Ending
+pub mod Members
+pub mod Slots
+pub mod Events

@@ -102,3 +102,26 @@ fn put_parties(
         second: y.number,
     }
 }
+// logged, context, principal, resource
+pub fn put_values(
+    line: &[u8],
+    f: Fields,
+    names: &mut [u64],
+    out: &mut [u8],
+    b: Bodies,
+    n: Next,
+) -> Four
+    requires { ⌜ ValuesDue (now line) f (now names) (now out) b n ⌝ }
+    ensures { λ r. ⌜ ValuesWritten (now (line .entry)) (now (names .entry)) (now (names .exit)) (now (out .entry)) (now (out .exit)) b n r ⌝ }
+{
+    let x = put_records(line, f.logged, f.context, names, out, b, n);
+    let y = put_parties(line, f.principal, f.resource, names, out, b, x.next);
+    let next = y.next;
+    Four {
+        next,
+        logged: x.first,
+        context: x.second,
+        principal: y.first,
+        resource: y.second,
+    }
+}

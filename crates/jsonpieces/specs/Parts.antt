@@ -2,21 +2,26 @@
 use mathlib.Core.Path.{_≡_}
 use mathlib.Core.List.{List, [], _∷_, _++_}
 use mathlib.Core.Option.{Option}
-use Prim.Native.Nat.{ℕ, _+_, _*_, _%_, _/_, _≤_}
-use lib.ListN.{length}
+use Prim.Native.Nat.{ℕ, _+_, _*_, _-_, _%_, _/_, _<_, _≤_}
+use lib.ListN.{length, drop}
 use Rattle.laws.specs.Writing.{Writing}
 use Rattle.encode.specs.Words.{packed}
-use Rattle.jsontext.specs.Reading.{Read, got}
+use Rattle.jsontext.specs.Reading.{Read, got, blanks}
+use Rattle.jsontext.specs.Strings.{string}
 use Rattle.jsontext.specs.Values.{J, Object, Parts}
 use Rattle.jsontext.specs.Events.{Event, line as lineOf}
 use Rattle.jsontrace.specs.Order.{orderedMembers, orderedMaybe, orderedEntities}
 use Rattle.jsontrace.specs.Trace.{Tables, _⊕_, texts, lists, Next as Next·Trace, past, lastValue, low, high, valueAdds, maybeAdds, maybeNumber, naming, entitiesAdd}
 use Rattle.jsonroom.specs.declared.Bodies.{Bodies}
 use Rattle.jsonroom.specs.declared.Next.{Next}
+use Rattle.jsonruns.specs.Good.{ClosedAt, BeginAt, NextAt}
 use Rattle.jsonview.specs.Room.{Ready, Adds, numbers}
 use Rattle.jsonentry.specs.declared.Fields.{Fields}
+use Rattle.jsonentry.specs.declared.Several.{Several}
 use Rattle.jsonentry.specs.Fields.{FieldsTold}
 use Rattle.jsonentry.specs.Marks.{MarkReady, MarkAdds}
+use Rattle.jsonentities.specs.Put.{namedTables, MarkDue, MarkWrote}
+use Rattle.jsonpieces.specs.declared.Spaced.{Spaced}
 use Rattle.jsonpieces.specs.declared.Numbered.{Numbered}
 use Rattle.jsonpieces.specs.declared.Pair.{Pair}
 use Rattle.jsonpieces.specs.declared.Four.{Four}
@@ -28,6 +33,30 @@ use Rattle.jsonpieces.specs.declared.Body.{Body}
 -- each is named by a list word
 unfoldable pub spaceTables : List (List ℕ) → Next·Trace → Tables
 spaceTables ts k = texts ts ⊕ lists (naming (k .string) (length ts))
+
+-- a string stands here, with its word fits, and something follows
+pub record SpaceDue (line : List ℕ) (at : ℕ) (file marks : List ℕ) (b : Bodies) (n : Next) : Type 0 where
+  pub due : MarkDue line at (string (drop at line)) file marks b n namedTables
+  pub sign : ℕ
+  pub others : List ℕ
+  pub follows : blanks (due .rest) ≡ sign ∷ others
+
+-- the bracket closes
+pub record Closes (line : List ℕ) (at : ℕ) : Type 0 where
+  pub end : ℕ
+  pub is : ClosedAt line at 93 end
+
+-- where the first string begins, or 0
+pub record FirstSpace (line : List ℕ) (at i : ℕ) : Type 0 where
+  pub closed : i ≡ 0 → Closes line at
+  pub goes : 0 < i → BeginAt line at 93 i
+
+-- it is written, and what follows is told
+pub record SpaceWritten (line : List ℕ) (at : ℕ) (before after marks marks′ : List ℕ) (b : Bodies) (n : Next) (r : Spaced) : Type 0 where
+  pub end : ℕ
+  pub wrote : MarkWrote line at (string (drop at line)) before after marks marks′ b n namedTables (record { next = r .next; end = end })
+  pub closed : r .more ≡ 0 → Closes line end
+  pub goes : 0 < r .more → NextAt line end 93 (r .more)
 
 pub record SpacesWritten (m : Read (List (List ℕ))) (before after marks marks′ : List ℕ) (b : Bodies) (n r : Next) : Type 0 where
   pub adds : (what : List (List ℕ)) (rest : List ℕ) → m ≡ got what rest → MarkAdds before after marks marks′ b n (spaceTables what (numbers n)) r
@@ -44,7 +73,15 @@ pub record NamesDue (line : List ℕ) (f : Fields) (file marks : List ℕ) (b : 
   pub fields : FieldsTold line f
   pub ready : MarkReady file marks b n (namesAdd what (numbers n))
 
+pub record NamesSmall (n : Next) (spaces : ℕ) : Type 0 where
+  pub list : n .list + spaces ≤ 4294967295
+  pub string : n .string + spaces + 1 ≤ 4294967295
+
 pub record NamesWritten (line before after marks marks′ : List ℕ) (b : Bodies) (n r : Next) : Type 0 where
+  pub from : n .list ≤ r .list
+  pub small : NamesSmall n (r .list - n .list)
+  pub numbers-are : (e : Event) (rest : List ℕ) → lineOf line ≡ got e rest → numbers r ≡ past (numbers n) (namesAdd e (numbers n))
+  pub spaces : (e : Event) (rest : List ℕ) → lineOf line ≡ got e rest → r .list - n .list ≡ length (e .namespace)
   pub adds : (e : Event) (rest : List ℕ) → lineOf line ≡ got e rest → MarkAdds before after marks marks′ b n (namesAdd e (numbers n)) r
 
 -- ---- a value that a word of the point names
@@ -129,6 +166,7 @@ pub record ValuesDue (line : List ℕ) (f : Fields) (names file : List ℕ) (b :
 pub record ValuesWritten (line names names′ before after : List ℕ) (b : Bodies) (n : Next) (r : Four) : Type 0 where
   pub long : length names′ ≡ length names
   pub small : FourSmall r
+  pub numbers-are : (e : Event) (rest : List ℕ) → lineOf line ≡ got e rest → numbers (r .next) ≡ past (numbers n) (valuesAdd e (numbers n))
   pub adds : (e : Event) (rest : List ℕ) → lineOf line ≡ got e rest → Adds before after b n (valuesAdd e (numbers n)) (r .next)
   pub is : (e : Event) (rest : List ℕ) → lineOf line ≡ got e rest → FourIs e (numbers n) r
 
@@ -140,10 +178,6 @@ pub record QuadSmall (p q r s : ℕ) : Type 0 where
   pub three : r ≤ 4294967295
   pub four : s ≤ 4294967295
 
-pub record NamesSmall (n : Next) (spaces : ℕ) : Type 0 where
-  pub list : n .list + spaces ≤ 4294967295
-  pub string : n .string + spaces + 1 ≤ 4294967295
-
 pub record ValuesSmall (r : Four) (count : ℕ) : Type 0 where
   pub four : FourSmall r
   pub list : r .next .list ≤ 4294967295
@@ -154,8 +188,12 @@ pub record ValuesSmall (r : Four) (count : ℕ) : Type 0 where
 unfoldable pub frontAdd : Event → Next·Trace → Tables
 frontAdd e k = namesAdd e k ⊕ valuesAdd e (past k (namesAdd e k))
 
+-- the entities
+unfoldable pub lastAdd : Event → Next·Trace → Tables
+lastAdd e k = entitiesAdd (orderedEntities (e .entities)) k
+
 unfoldable pub bodyAdd : Event → Next·Trace → Tables
-bodyAdd e k = frontAdd e k ⊕ entitiesAdd (orderedEntities (e .entities)) (past k (frontAdd e k))
+bodyAdd e k = frontAdd e k ⊕ lastAdd e (past k (frontAdd e k))
 
 -- parts of the event whose fields stand so, and their tables fit
 pub record PieceDue (piece : Event → Next·Trace → Tables) (line : List ℕ) (f : Fields) (names file marks : List ℕ) (b : Bodies) (n : Next) : Type 0 where
@@ -177,8 +215,16 @@ pub record FrontSmall (n : Next) (r : Front) : Type 0 where
 pub record FrontWritten (line names names′ before after marks marks′ : List ℕ) (b : Bodies) (n : Next) (r : Front) : Type 0 where
   pub long : length names′ ≡ length names
   pub small : FrontSmall n r
+  pub numbers-are : (e : Event) (rest : List ℕ) → lineOf line ≡ got e rest → numbers (r .four .next) ≡ past (numbers n) (frontAdd e (numbers n))
   pub adds : (e : Event) (rest : List ℕ) → lineOf line ≡ got e rest → MarkAdds before after marks marks′ b n (frontAdd e (numbers n)) (r .four .next)
   pub is : (e : Event) (rest : List ℕ) → lineOf line ≡ got e rest → FrontIs e (numbers n) r
+
+pub record LastWritten (line names names′ before after marks marks′ : List ℕ) (b : Bodies) (n : Next) (r : Several) : Type 0 where
+  pub long : length names′ ≡ length names
+  pub list : n .list ≤ 4294967295
+  pub small : r .count ≤ 4294967295
+  pub adds : (e : Event) (rest : List ℕ) → lineOf line ≡ got e rest → MarkAdds before after marks marks′ b n (lastAdd e (numbers n)) (r .next)
+  pub count-is : (e : Event) (rest : List ℕ) → lineOf line ≡ got e rest → r .count ≡ length (e .entities)
 
 pub record BodyIs (e : Event) (k : Next·Trace) (r : Body) : Type 0 where
   pub front : FrontIs e k (r .front)

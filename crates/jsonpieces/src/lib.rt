@@ -2,6 +2,12 @@
 use jsonentry::Several;
 use jsonroom::Next;
 
+// the numbers that are next, and where the next string begins, or 0
+pub struct Spaced {
+    pub next: Next,
+    pub more: usize,
+}
+
 // the numbers that are next, and the word that names the value
 pub struct Numbered {
     pub next: Next,

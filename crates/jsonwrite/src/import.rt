@@ -1,7 +1,7 @@
 // The import call: a text's first fault, or its trace and the marks of its list words.
 use jsoncheck::cells_for;
 use jsoncount::tallies::Tally;
-use jsonevents::put_log;
+use jsonevents::log::put_log;
 use jsonlines::events::log_at;
 use jsonroom::Bodies;
 use jsonroom::put_contents;

@@ -42,13 +42,20 @@ enum galivodern_refusal {
     GALIVODERN_NO_SUCH_POINT = 7,     /* the case has no such point */
     GALIVODERN_NO_SUCH_NODE = 8,      /* no such node, or none that the call is about */
     GALIVODERN_BAD_START = 9,         /* the starting bindings are malformed */
-    GALIVODERN_BAD_LIMITS = 10,       /* a limit above its most, or a workspace too small */
+    GALIVODERN_BAD_LIMITS = 10,       /* a limit above its most, or a workspace or room too small */
     GALIVODERN_STEPS_EXHAUSTED = 11,  /* the answer takes more steps than allowed */
     GALIVODERN_ROOM_EXHAUSTED = 12,   /* the answer takes more rows than allowed */
     GALIVODERN_BAD_OUTPUT = 13,       /* output too short, or a binder that is no variable */
-    GALIVODERN_OUTPUT_TOO_SHORT = 14, /* the finished case is longer than the output */
+    GALIVODERN_OUTPUT_TOO_SHORT = 14, /* what is to be written is longer than the output */
     GALIVODERN_LIST_TOO_SHORT = 15,   /* the list has fewer cells than there are points to show */
-    /* of this layer alone: `contents`, `told` or `written` too short, and nothing was done */
+    /* of JSON logs */
+    GALIVODERN_NOT_JSON = 20,         /* a line is no JSON, or half of a surrogate pair stands alone */
+    GALIVODERN_REPEATED_NAME = 21,    /* an object has a name twice */
+    GALIVODERN_BAD_NUMBER = 22,       /* a number is no integer within 64 bits */
+    GALIVODERN_BAD_FIELD = 23,        /* a field is missing, unknown or of the wrong sort */
+    GALIVODERN_TOO_DEEP = 24,         /* a value is more than 32 deep */
+    GALIVODERN_AMBIGUOUS_OBJECT = 25, /* an object would be read as an entity or a decimal */
+    /* of this layer alone: `contents`, `told`, `written` or `imported` too short, and nothing was done */
     GALIVODERN_TOO_FEW_CELLS = 100
 };
 
@@ -59,10 +66,11 @@ enum galivodern_refusal {
 /* The most bytes that a case may have. */
 #define GALIVODERN_MOST_BYTES 4194304u
 
-/* Cells of `contents`, of `told` and of `written` that a call needs. */
+/* Cells of `contents`, of `told`, of `written` and of `imported` that a call needs. */
 #define GALIVODERN_CONTENTS_CELLS 5
 #define GALIVODERN_TOLD_CELLS 4
 #define GALIVODERN_WRITTEN_CELLS 1
+#define GALIVODERN_IMPORTED_CELLS 4
 
 /* What `contents` holds after a check that passes. */
 enum galivodern_contents {
@@ -131,6 +139,58 @@ uint64_t galivodern_check(const uint8_t *file, size_t file_len, uint64_t *conten
 uint64_t galivodern_write(const uint8_t *unsorted, size_t unsorted_len, const uint8_t *marks, size_t marks_len,
                           uint8_t *room, size_t room_len, uint8_t *output, size_t output_len, uint64_t *written,
                           size_t written_len);
+
+/* What `imported` holds after an import that returned 0 to 24, a refusal too. What
+ * does not apply is 0. */
+enum galivodern_imported {
+    GALIVODERN_TRACE_BYTES = 0, /* on 0: bytes of the trace */
+    GALIVODERN_TRACE_MARKS = 1, /* on 0: bytes of its marks */
+    GALIVODERN_AT = 2,          /* on 20 to 24: the place of the fault, in bytes from the text's start */
+    GALIVODERN_FIRST = 3        /* on 21: the place of the first of the two names; on 20 and 22 to 24: as GALIVODERN_AT */
+};
+
+/* Reads a JSON log: a line for each event, as docs/JSON-LOGS.md describes it. Takes:
+ *
+ *   text       the log, any bytes. A line ends at a line feed, the last one also at
+ *              the text's end; every line is an event;
+ *   work       a workspace for the names of open objects: a cell for each four bytes
+ *              of the text, (text_len + 3) / 4. Whatever is in it counts for nothing;
+ *              after any return but 10 and 100 those cells are 0. Later ones never change;
+ *   trace      where the events go: an unsorted case, to be given to galivodern_write
+ *              with its marks. 64 bytes and 12 for each byte of the text always suffice;
+ *   marks      its marks. As many bytes as the text has always suffice. Trace and marks
+ *              change only on 0, in the bytes written;
+ *   imported   four cells: what was written, or where the fault is.
+ *
+ * Returns 0; or the first of these that applies:
+ *
+ *   10        the workspace is too short;
+ *   20 to 24  the text's first fault, as it is read from its start on;
+ *   2         the trace would be longer than 4,294,967,295 bytes;
+ *   14        the trace or its marks are longer than what is lent;
+ *   100       `imported` has fewer than four cells: nothing was done.
+ *
+ * galivodern_write refuses what is no case: 2 where there are too many events, 5 where
+ * an event has an entity twice or a quotation mark in an entity's type. */
+uint64_t galivodern_import(const uint8_t *text, size_t text_len, uint64_t *work, size_t work_len, uint8_t *trace,
+                           size_t trace_len, uint8_t *marks, size_t marks_len, uint64_t *imported,
+                           size_t imported_len);
+
+/* Writes the points of a case as a JSON log: a line for each, with no blanks, members in
+ * the order of their names. Imported and written again they are the same points. Takes
+ * any file, the output, which changes only on 0, in the bytes written, and a cell for
+ * the number of bytes written; 0 where the call refuses.
+ *
+ * Returns 0; or the first of these that applies:
+ *
+ *   1 to 6    what galivodern_check says of the file;
+ *   25        a point reaches an object whose only member is named __entity or __extn:
+ *             it would be read as an entity or a decimal;
+ *   14        the text is longer than the output. Values that points share are written
+ *             for each, so a text may be much longer than its case;
+ *   100       `written` has no cell: nothing was done. */
+uint64_t galivodern_export(const uint8_t *file, size_t file_len, uint8_t *output, size_t output_len,
+                           uint64_t *written, size_t written_len);
 
 /* The window test: where time `to` lies, seen from time `from`, in a window of
  * `span` seconds. It needs no case and takes any numbers. A span is an amount
@@ -255,11 +315,23 @@ static inline const char *galivodern_refusal_text(uint64_t returned) {
     case GALIVODERN_BAD_OUTPUT:
         return "rows are asked for a variable that the case does not have, or the output is too short";
     case GALIVODERN_OUTPUT_TOO_SHORT:
-        return "the finished case is longer than the output";
+        return "what is to be written is longer than the output";
     case GALIVODERN_LIST_TOO_SHORT:
         return "the list is too short for the points that made the answer";
+    case GALIVODERN_NOT_JSON:
+        return "a line of the log is no JSON, or half of a surrogate pair stands alone in it";
+    case GALIVODERN_REPEATED_NAME:
+        return "a name stands twice in one object of the log";
+    case GALIVODERN_BAD_NUMBER:
+        return "a number of the log is no integer within 64 bits";
+    case GALIVODERN_BAD_FIELD:
+        return "a field of an event is missing, unknown or of the wrong sort";
+    case GALIVODERN_TOO_DEEP:
+        return "a value of the log is more than 32 deep";
+    case GALIVODERN_AMBIGUOUS_OBJECT:
+        return "an object whose only member is named __entity or __extn would be read as an entity or a decimal";
     case GALIVODERN_TOO_FEW_CELLS:
-        return "`contents`, `told` or `written` has too few cells: nothing was done";
+        return "`contents`, `told`, `written` or `imported` has too few cells: nothing was done";
     default:
         return "a number that no call returns";
     }

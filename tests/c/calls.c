@@ -226,15 +226,114 @@ static void test_write(const uint8_t *file, size_t length) {
     CHECK(galivodern_write(unsorted, longer, marks, 5, room, 512, output, 512, written, 1) == GALIVODERN_TOO_LARGE);
 }
 
+#define LINE(time, logged)                                                                                             \
+    "{\"time\":" time ",\"namespace\":[\"N\"],\"action\":\"A\",\"kind\":\"request\",\"logged\":" logged                       \
+    ",\"context\":{},\"entities\":[[\"T\",\"i\",{}]]}"
+
+/* What an import refuses, and the places that it tells. */
+static void faulty(const char *text, uint64_t refusal, uint64_t at, uint64_t first) {
+    uint64_t work[200], imported[5] = {8, 8, 8, 8, 8};
+    uint8_t trace[3] = {8, 8, 8}, marks[3] = {8, 8, 8};
+    const size_t length = strlen(text), cells = (length + 3) / 4;
+    memset(work, 255, sizeof work);
+    CHECK(galivodern_import((const uint8_t *)text, length, work, cells, trace, 3, marks, 3, imported, 5) == refusal);
+    CHECK(imported[GALIVODERN_TRACE_BYTES] == 0 && imported[GALIVODERN_TRACE_MARKS] == 0);
+    CHECK(imported[GALIVODERN_AT] == at && imported[GALIVODERN_FIRST] == first && imported[4] == 8);
+    CHECK(trace[0] == 8 && marks[0] == 8 && (cells == 0 || (work[0] == 0 && work[cells - 1] == 0)) && work[cells] == UINT64_MAX);
+}
+
+static void test_import(void) {
+    static const char text[] = LINE("-5", "{\"n\":7,\"b\":[true]}") "\n" LINE("6", "{}") "\r\n";
+    static const char lines[] = LINE("-5", "{\"b\":[true],\"n\":7}") "\n" LINE("6", "{}") "\n";
+    static uint8_t trace[2048], marks[16], room[2048], file[2048], output[512];
+    uint64_t work[200], imported[4] = {8, 8, 8, 8}, written[2] = {8, 8};
+    const uint8_t *log = (const uint8_t *)text;
+    const size_t length = sizeof text - 1, cells = (length + 3) / 4, expected = sizeof lines - 1;
+    memset(work, 255, sizeof work);
+    memset(trace, 8, sizeof trace);
+    memset(marks, 8, sizeof marks);
+    memset(output, 8, sizeof output);
+
+    CHECK(galivodern_import(log, length, work, cells, trace, 2048, marks, 16, imported, 3) == GALIVODERN_TOO_FEW_CELLS);
+    CHECK(imported[0] == 8 && work[0] == UINT64_MAX);
+    CHECK(galivodern_import(log, length, work, cells - 1, trace, 2048, marks, 16, imported, 4) == GALIVODERN_BAD_LIMITS);
+    CHECK(same(imported, 0, 0, 0) && imported[3] == 0 && work[0] == UINT64_MAX && trace[0] == 8);
+
+    /* 12 strings of 24 bytes, 9 values, 3 members, 2 points, 8 list words */
+    const size_t bytes = 64 + 12 * 8 + 9 * 16 + 3 * 8 + 2 * 48 + 8 * 4 + 24;
+    CHECK(galivodern_import(log, length, work, cells, trace, bytes - 1, marks, 8, imported, 4) ==
+          GALIVODERN_OUTPUT_TOO_SHORT);
+    CHECK(galivodern_import(log, length, work, cells, trace, bytes, marks, 7, imported, 4) ==
+          GALIVODERN_OUTPUT_TOO_SHORT);
+    CHECK(same(imported, 0, 0, 0) && trace[0] == 8 && marks[0] == 8 && work[0] == 0 && work[cells - 1] == 0);
+    CHECK(galivodern_import(log, length, work, cells, trace, bytes, marks, 8, imported, 4) == GALIVODERN_ANSWERED);
+    CHECK(imported[GALIVODERN_TRACE_BYTES] == bytes && imported[GALIVODERN_TRACE_MARKS] == 8);
+    CHECK(imported[GALIVODERN_AT] == 0 && imported[GALIVODERN_FIRST] == 0);
+    CHECK(trace[0] == 1 && trace[bytes] == 8 && marks[0] == 1 && marks[3] == 0 && marks[8] == 8 && work[cells] == UINT64_MAX);
+
+    /* the case of it, and its export: members in the order of their names */
+    CHECK(galivodern_write(trace, bytes, marks, 8, room, 2048, file, 2048, written, 1) == GALIVODERN_ANSWERED);
+    const size_t size = written[0];
+    CHECK(galivodern_export(file, size, output, 512, written, 0) == GALIVODERN_TOO_FEW_CELLS);
+    CHECK(written[0] == size);
+    CHECK(galivodern_export(file, size - 1, output, 512, written, 2) == GALIVODERN_BAD_CONTENTS);
+    CHECK(galivodern_export(file, size, output, expected - 1, written, 2) == GALIVODERN_OUTPUT_TOO_SHORT);
+    CHECK(written[0] == 0 && written[1] == 8 && output[0] == 8);
+    CHECK(galivodern_export(file, size, output, expected, written, 2) == GALIVODERN_ANSWERED);
+    CHECK(written[0] == expected && written[1] == 8 && memcmp(output, lines, expected) == 0 && output[expected] == 8);
+
+    /* an empty log is no fault, and its case has no points */
+    CHECK(galivodern_import(log, 0, work, 0, trace, 64, marks, 0, imported, 4) == GALIVODERN_ANSWERED);
+    CHECK(imported[GALIVODERN_TRACE_BYTES] == 64 && imported[GALIVODERN_TRACE_MARKS] == 0);
+    CHECK(galivodern_export(trace, 64, output, 0, written, 1) == GALIVODERN_ANSWERED && written[0] == 0);
+
+    faulty("\n", GALIVODERN_NOT_JSON, 0, 0);
+    faulty(LINE("1", "{}") "\n" LINE("01", "{}"), GALIVODERN_NOT_JSON, strlen(LINE("1", "{}")) + 10, strlen(LINE("1", "{}")) + 10);
+    faulty("{\"kind\":\"\\ud800\"}", GALIVODERN_NOT_JSON, 9, 9);
+    faulty("{\"time\":1,\"\\u0074ime\":1}", GALIVODERN_REPEATED_NAME, 10, 1);
+    faulty("{\"time\":9223372036854775808}", GALIVODERN_BAD_NUMBER, 8, 8);
+    faulty("{\"tim\":1}", GALIVODERN_BAD_FIELD, 1, 1);
+    faulty("{}", GALIVODERN_BAD_FIELD, 1, 1);
+    faulty("{\"principal\":[[[[[[[[[[[[[[[[[[[[[[[[[[[[[[[[0", GALIVODERN_TOO_DEEP, 45, 45);
+}
+
+/* A file that no import makes: an object with __extn alone. */
+static void test_ambiguous(void) {
+    static uint8_t file[512], output[512];
+    uint64_t written[1] = {8}, contents[5];
+    static const uint32_t sizes[7] = {16, 48, 8, 48, 0, 0, 7}; /* "A", "__extn" */
+    size_t at = put(file, put(file, 0, 1), 0);
+    for (uint32_t k = 0, offset = 64; k < 7; k++) {
+        at = put(file, put(file, at, offset), sizes[k]);
+        offset += sizes[k];
+    }
+    static const uint32_t rest[] = {0, 1, 1, 6, 0, 0, 0, 0, 7, 0, 1, 0, 7, 1, 0, 0, 1, 0, 1, 0, 0, 0, 0, 0, 2, 1, ~0u, ~0u, 0, 0};
+    put_words(file, 64, rest, sizeof rest / 4);
+    memcpy(file + 64 + sizeof rest, "A__extn", 7);
+    const size_t length = 64 + sizeof rest + 7;
+    memset(output, 8, sizeof output);
+    CHECK(galivodern_check(file, length, contents, 5) == GALIVODERN_ANSWERED);
+    CHECK(galivodern_export(file, length, output, 0, written, 1) == GALIVODERN_AMBIGUOUS_OBJECT);
+    CHECK(written[0] == 0 && output[0] == 8);
+    put(file, 64 + 16 + 32 + 8, 0); /* the point's context is the other one: an empty object, and nothing reaches the first */
+    put(file, 64 + 16 + 48 + 8 + 28, 2);
+    CHECK(galivodern_export(file, length, output, 512, written, 1) == GALIVODERN_ANSWERED);
+    CHECK(memcmp(output, "{\"time\":1,\"namespace\":[],\"action\":\"A\"", 37) == 0 && output[written[0] - 1] == '\n');
+}
+
 /* Every number that a call returns has a text of its own, and no other number has one of these. */
 static void test_refusal_text(void) {
-    const char *known[17];
+    const char *known[23];
+    size_t count = 0;
     const char *unknown = galivodern_refusal_text(UINT64_MAX);
     for (uint64_t returned = 0; returned <= GALIVODERN_LIST_TOO_SHORT; returned++) {
-        known[returned] = galivodern_refusal_text(returned);
+        known[count++] = galivodern_refusal_text(returned);
     }
-    known[16] = galivodern_refusal_text(GALIVODERN_TOO_FEW_CELLS);
-    for (size_t k = 0; k < 17; k++) {
+    for (uint64_t returned = GALIVODERN_NOT_JSON; returned <= GALIVODERN_AMBIGUOUS_OBJECT; returned++) {
+        known[count++] = galivodern_refusal_text(returned);
+    }
+    known[count++] = galivodern_refusal_text(GALIVODERN_TOO_FEW_CELLS);
+    for (size_t k = 0; k < count; k++) {
         CHECK(strcmp(known[k], unknown) != 0);
         for (size_t other = 0; other < k; other++) {
             CHECK(strcmp(known[k], known[other]) != 0);
@@ -261,6 +360,8 @@ int main(void) {
     test_carried(galivodern_carried, file, length);
     test_carried(galivodern_checked_carried, file, length);
     test_write(file, length);
+    test_import();
+    test_ambiguous();
     /* A damaged case is refused by each call that has not seen it checked. */
     file[64 + 24 + 48] = 7;
     CHECK(galivodern_ask(file, length, 0, PREDICATE, unbound, 2, 9, 2, work, 4, told, 4) == GALIVODERN_BAD_VALUES);

@@ -1,4 +1,5 @@
 pub mod Cells
+pub mod Logs
 pub mod Said
 pub mod Seeing
 pub mod Window

@@ -19,7 +19,7 @@ use Rattle.capi.specs.Telling.{writtenNumber, writtenCell}
 
 -- ---- the cell
 
-first : (a : ℕ) (s : List ℕ) → 1 ≤ length s → set s 0 a ≡ a ∷ drop 1 s
+pub first : (a : ℕ) (s : List ℕ) → 1 ≤ length s → set s 0 a ≡ a ∷ drop 1 s
 first a [] h = absurd (omega (arith, h))
 first a (x ∷ s) h = refl
 

@@ -12,6 +12,12 @@ use Rattle.meaning.specs.Carried.{Carried}
 use Rattle.meaning.specs.declared.Refusal.{Refusal}
 use Rattle.encode.specs.Unsorted.{finished}
 use Rattle.encode.specs.Write.{makeRefusal, roomAfter, writeRefusal, outputAfter}
+use Rattle.jsontrace.specs.declared.Imported.{Imported}
+use Rattle.jsontrace.specs.declared.Imported.the-variants.{Faulty, Written as Imports, Refused as ImportRefused}
+use Rattle.jsontrace.specs.declared.Exported.{Exported}
+use Rattle.jsontrace.specs.declared.Exported.the-variants.{Ambiguous, Written as Exports, Refused as ExportRefused}
+use Rattle.jsontrace.specs.Import.{importNumber, ImportResult, importCall}
+use Rattle.jsontrace.specs.Export.{exportNumber, ExportResult, exportCall}
 
 -- the layer's own complaint, which no document's refusal has: the cells for the answer are too few, and nothing was done
 abbrev pub tooFew : ℕ
@@ -116,3 +122,50 @@ writeSeen s marks room output lent =
 
 pub record WriteTells (s marks room output lent : List ℕ) (after : Seen) : Type 0 where
   pub is : after ≡ writeSeen s marks room output lent
+
+-- ---- the import: the number returned, the workspace, the trace, its marks, and four cells
+
+-- bytes of the trace and of its marks; the place of a fault, and of the first of two equal names: 0 elsewhere
+unfoldable pub importCells : Imported → List ℕ
+importCells (Imports bytes marks) = bytes ∷ marks ∷ 0 ∷ 0 ∷ []
+importCells (Faulty w at first) = 0 ∷ 0 ∷ at ∷ first ∷ []
+importCells (ImportRefused r) = 0 ∷ 0 ∷ 0 ∷ 0 ∷ []
+
+pub record ImportSeen : Type 0 where
+  pub number : ℕ
+  pub workspace : List ℕ
+  pub trace : List ℕ
+  pub marks : List ℕ
+  pub told : List ℕ
+
+abbrev pub importSeenAs : ℕ → List ℕ → List ℕ → List ℕ → List ℕ → ImportSeen
+importSeenAs r work trace marks told = record { number = r; workspace = work; trace = trace; marks = marks; told = told }
+
+unfoldable pub importToldAs : ImportResult → List ℕ → ImportSeen
+importToldAs r lent = importSeenAs (importNumber (r .said)) (r .workspace) (r .trace) (r .marks) (importCells (r .said) ++ drop 4 lent)
+
+unfoldable pub importSeen : List ℕ → List ℕ → List ℕ → List ℕ → List ℕ → ImportSeen
+importSeen text work trace marks lent =
+    choose (ltb (length lent) 4) (importSeenAs tooFew work trace marks lent)
+    (importToldAs (importCall text work trace marks) lent)
+
+pub record ImportTells (text work trace marks lent : List ℕ) (after : ImportSeen) : Type 0 where
+  pub is : after ≡ importSeen text work trace marks lent
+
+-- ---- the export: the number returned, the output, and one cell with the bytes written
+
+unfoldable pub exportCell : Exported → ℕ
+exportCell (Exports bytes) = bytes
+exportCell Ambiguous = 0
+exportCell (ExportRefused r) = 0
+
+unfoldable pub exportToldAs : ExportResult → List ℕ → Seen
+exportToldAs r lent = seen (exportNumber (r .said)) [] (r .output) (exportCell (r .said) ∷ drop 1 lent)
+
+-- no workspace is lent
+unfoldable pub exportSeen : List ℕ → List ℕ → List ℕ → Seen
+exportSeen s output lent =
+    choose (ltb (length lent) 1) (seen tooFew [] output lent) (exportToldAs (exportCall s output) lent)
+
+pub record ExportTells (s output lent : List ℕ) (after : Seen) : Type 0 where
+  pub is : after ≡ exportSeen s output lent

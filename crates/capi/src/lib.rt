@@ -12,6 +12,8 @@ use telling::of_carried;
 use telling::of_rows;
 use telling::tell;
 use telling::tell_contents;
+use telling::tell_exported;
+use telling::tell_imported;
 use telling::tell_written;
 ghost use mathlib.Core.Path.{_≡_};
 ghost use mathlib.Core.List.{[]};
@@ -23,7 +25,7 @@ ghost use Rattle.meaning.specs.Check.{Checked};
 ghost use Rattle.meaning.specs.Calls.{askCall, rowsCall};
 ghost use Rattle.meaning.specs.Carried.{carriedCall};
 ghost use Rattle.calls.specs.Promises.{callOf};
-ghost use Rattle.capi.specs.Seen.{Checks, Tells, WriteTells, seen, answerCell, sortCell, countCell, noCell, carriedCell, filledCell};
+ghost use Rattle.capi.specs.Seen.{Checks, Tells, WriteTells, ImportTells, ExportTells, seen, importSeenAs, answerCell, sortCell, countCell, noCell, carriedCell, filledCell};
 ghost use Rattle.capi.specs.Window.{windowNumber};
 
 // the layer's own complaint: the cells for the answer are too few
@@ -31,6 +33,9 @@ const TOO_FEW: u64 = 100;
 
 // the answer's cell, steps, rows held, and the call's own fourth
 const TOLD_CELLS: usize = 4;
+
+// bytes of the trace and of its marks, the place of a fault, and of the first of two equal names
+const IMPORTED_CELLS: usize = 4;
 
 // how many bytes were written
 const WRITTEN_CELLS: usize = 1;
@@ -217,6 +222,34 @@ pub extern "C" fn galivodern_write(
     }
     let said = casewrite::write(unsorted, marks, room, output);
     tell_written(said, written)
+}
+
+#[no_mangle]
+pub extern "C" fn galivodern_import(
+    text: &[u8],
+    work: &mut [u64],
+    trace: &mut [u8],
+    marks: &mut [u8],
+    told: &mut [u64],
+) -> u64
+    ensures { λ r. ⌜ ImportTells (now (text .entry)) (now (work .entry)) (now (trace .entry)) (now (marks .entry)) (now (told .entry)) (importSeenAs r (now (work .exit)) (now (trace .exit)) (now (marks .exit)) (now (told .exit))) ⌝ }
+{
+    if told.len() < IMPORTED_CELLS {
+        return TOO_FEW;
+    }
+    let said = jsonwrite::import::import(text, work, trace, marks);
+    tell_imported(said, told)
+}
+
+#[no_mangle]
+pub extern "C" fn galivodern_export(file: &[u8], output: &mut [u8], written: &mut [u64]) -> u64
+    ensures { λ r. ⌜ ExportTells (now (file .entry)) (now (output .entry)) (now (written .entry)) (seen r [] (now (output .exit)) (now (written .exit))) ⌝ }
+{
+    if written.len() < WRITTEN_CELLS {
+        return TOO_FEW;
+    }
+    let said = jsonexport::export(file, output);
+    tell_exported(said, written)
 }
 
 #[no_mangle]

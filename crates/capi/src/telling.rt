@@ -4,6 +4,9 @@ use calls::SaidCarried;
 use calls::SaidRows;
 use casecheck::Contents;
 use casewrite::Written;
+use jsontext::Fault;
+use jsontrace::Exported;
+use jsontrace::Imported;
 use meaning::Refusal;
 ghost use mathlib.Core.Path.{_≡_};
 ghost use mathlib.Core.List.{[], _∷_, _++_};
@@ -11,7 +14,9 @@ ghost use Prim.Native.Nat.{_≤_};
 ghost use lib.ListN.{length, drop};
 ghost use Rattle.meaning.specs.Calls.{numberOf};
 ghost use Rattle.calls.specs.Promises.{asAnswer, asCarried, asRows};
-ghost use Rattle.capi.specs.Seen.{yesCell, answerCell, sortCell, countCell, noCell, carriedCell, filledCell};
+ghost use Rattle.jsontrace.specs.Import.{faultNumber, importNumber};
+ghost use Rattle.jsontrace.specs.Export.{exportNumber};
+ghost use Rattle.capi.specs.Seen.{yesCell, answerCell, sortCell, countCell, noCell, carriedCell, filledCell, importCells, exportCell};
 ghost use Rattle.capi.specs.Telling.{cellsOf, refusing, Telling as TellingOf, writtenNumber, writtenCell};
 
 // the number to return, and the four cells
@@ -35,14 +40,21 @@ pub fn tell_contents(found: Contents, lent: &mut [u64]) -> u64
     0
 }
 
+fn fill(lent: &mut [u64], a: u64, b: u64, c: u64, d: u64)
+    requires { ⌜ 4 ≤ length (now lent) ⌝ }
+    ensures { λ _. ⌜ now (lent .exit) ≡ (a ∷ b ∷ c ∷ d ∷ []) ++ drop 4 (now (lent .entry)) ⌝ }
+{
+    lent[0] = a;
+    lent[1] = b;
+    lent[2] = c;
+    lent[3] = d;
+}
+
 pub fn tell(t: Telling, lent: &mut [u64]) -> u64
     requires { ⌜ 4 ≤ length (now lent) ⌝ }
     ensures { λ r. ⌜ (r ≡ t .number) × (now (lent .exit) ≡ cellsOf t ++ drop 4 (now (lent .entry))) ⌝ }
 {
-    lent[0] = t.answer;
-    lent[1] = t.steps;
-    lent[2] = t.most as u64;
-    lent[3] = t.fourth;
+    fill(lent, t.answer, t.steps, t.most as u64, t.fourth);
     t.number
 }
 
@@ -126,6 +138,59 @@ pub fn tell_written(said: Written, lent: &mut [u64]) -> u64
             0
         }
         Written::Refused(refusal) => {
+            lent[0] = 0;
+            refusals::number(refusal)
+        }
+    }
+}
+
+// what is wrong with a JSON text, from 20 to 24
+fn fault_number(fault: Fault) -> u64
+    ensures { λ r. ⌜ r ≡ faultNumber fault ⌝ }
+{
+    match fault {
+        Fault::NotJson => 20,
+        Fault::RepeatedName => 21,
+        Fault::BadNumber => 22,
+        Fault::BadField => 23,
+        Fault::TooDeep => 24,
+    }
+}
+
+pub fn tell_imported(said: Imported, lent: &mut [u64]) -> u64
+    requires { ⌜ 4 ≤ length (now lent) ⌝ }
+    ensures { λ r. ⌜ (r ≡ importNumber said) × (now (lent .exit) ≡ importCells said ++ drop 4 (now (lent .entry))) ⌝ }
+{
+    match said {
+        Imported::Written(bytes, marks) => {
+            fill(lent, bytes as u64, marks as u64, 0, 0);
+            0
+        }
+        Imported::Faulty(fault, at, first) => {
+            fill(lent, 0, 0, at as u64, first as u64);
+            fault_number(fault)
+        }
+        Imported::Refused(refusal) => {
+            fill(lent, 0, 0, 0, 0);
+            refusals::number(refusal)
+        }
+    }
+}
+
+pub fn tell_exported(said: Exported, lent: &mut [u64]) -> u64
+    requires { ⌜ 1 ≤ length (now lent) ⌝ }
+    ensures { λ r. ⌜ (r ≡ exportNumber said) × (now (lent .exit) ≡ exportCell said ∷ drop 1 (now (lent .entry))) ⌝ }
+{
+    match said {
+        Exported::Written(bytes) => {
+            lent[0] = bytes as u64;
+            0
+        }
+        Exported::Ambiguous => {
+            lent[0] = 0;
+            25
+        }
+        Exported::Refused(refusal) => {
             lent[0] = 0;
             refusals::number(refusal)
         }

@@ -223,7 +223,7 @@ fn follow_due(low: u8, high: u8, then: Due, b: u8) -> Due
     Due::Wrong
 }
 
-fn next_due(d: Due, b: u8) -> Due
+pub fn next_due(d: Due, b: u8) -> Due
     ensures { λ r. ⌜ r ≡ next d b ⌝ }
 {
     match d {
@@ -239,7 +239,7 @@ fn next_due(d: Due, b: u8) -> Due
     }
 }
 
-fn is_ended(d: Due) -> bool
+pub fn is_ended(d: Due) -> bool
     ensures { λ r. ⌜ _≡_ {A = Bool} r (ended d) ⌝ }
 {
     match d {

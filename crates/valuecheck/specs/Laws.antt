@@ -96,7 +96,7 @@ array-top s v first i b t hb q h =
 -- ---- what is kept of blocks
 
 -- an entry after a store is the old one or the new
-set-get : {A : Type 0} (other : A) (xs : List A) (b j : ℕ) (x : A) → (getD (set xs b x) j other ≡ getD xs j other) ⊎ ((j ≡ b) × (getD (set xs b x) j other ≡ x))
+pub set-get : {A : Type 0} (other : A) (xs : List A) (b j : ℕ) (x : A) → (getD (set xs b x) j other ≡ getD xs j other) ⊎ ((j ≡ b) × (getD (set xs b x) j other ≡ x))
 set-get other [] zero j x = inl refl
 set-get other [] (suc b) j x = inl refl
 set-get other (y ∷ xs) zero zero x = inr (refl, refl)

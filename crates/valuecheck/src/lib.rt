@@ -346,7 +346,7 @@ fn block_marked(s: &[u8], marks: &[bool; 16384], at: usize, v: u32) -> bool
 }
 
 // whether all that value v holds is marked
-fn parts_marked(s: &[u8], marks: &[bool; 16384], blocks: &mut [bool; 1024], v: u32) -> bool
+pub fn parts_marked(s: &[u8], marks: &[bool; 16384], blocks: &mut [bool; 1024], v: u32) -> bool
     requires { ⌜ bodies (now s) ≡ true ⌝ }
     requires { ⌜ mosts (now s) ≡ true ⌝ }
     requires { ⌜ Runs (now s) v v ⌝ }

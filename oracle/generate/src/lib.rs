@@ -6,6 +6,7 @@ pub mod cases;
 pub mod claims;
 pub mod damage;
 pub mod examples;
+pub mod json;
 pub mod random;
 pub mod rules;
 mod rules_base;

@@ -5,6 +5,7 @@ pub mod compare;
 pub mod convert;
 pub mod examples;
 mod fixed;
+pub mod json;
 pub mod lists;
 pub mod mix;
 pub mod reach;

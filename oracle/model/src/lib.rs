@@ -7,6 +7,7 @@ mod carried;
 mod check;
 mod equality;
 mod file;
+pub mod json;
 mod lookup;
 mod utf8;
 mod variant;

@@ -1,16 +1,21 @@
 //! The document, and the wrong variants that the comparison must catch.
 
 macro_rules! variants {
-    ($($name:ident: $says:literal),* $(,)?;
-     carried: $($of_106:ident: $says_106:literal),* $(,)?;
-     written: $($of_101:ident: $says_101:literal),* $(,)?) => {
+    (
+        $($name:ident: $says:literal),* $(,)?;
+        carried: $($of_106:ident: $says_106:literal),* $(,)?;
+        written: $($of_101:ident: $says_101:literal),* $(,)?;
+        json: $($of_112:ident: $says_112:literal),* $(,)?
+    ) => {
         /// One rule changed in each; `Document` changes none.
-        #[derive(Clone, Copy, Debug, PartialEq, Eq)]
+        #[derive(Clone, Copy, Debug, Default, PartialEq, Eq)]
         pub enum Variant {
+            #[default]
             Document,
             $($name,)*
             $($of_106,)*
             $($of_101,)*
+            $($of_112,)*
         }
 
         impl Variant {
@@ -22,6 +27,8 @@ macro_rules! variants {
 
             /// Every wrong variant of request #101.
             pub const WRONG_WRITTEN: &'static [Variant] = &[$(Variant::$of_101),*];
+            /// Every wrong variant of request #112, which shows in no other call.
+            pub const WRONG_JSON: &'static [Variant] = &[$(Variant::$of_112),*];
 
             /// What it gets wrong.
             pub fn says(self) -> &'static str {
@@ -30,6 +37,7 @@ macro_rules! variants {
                     $(Variant::$name => $says,)*
                     $(Variant::$of_106 => $says_106,)*
                     $(Variant::$of_101 => $says_101,)*
+                    $(Variant::$of_112 => $says_112,)*
                 }
             }
         }
@@ -142,5 +150,47 @@ variants! {
     WrittenFullRoomRefused: "a room exactly as long as the finished case is too short",
     WrittenShortFirst: "14 comes before 3",
     WrittenFullOutputRefused: "an output exactly as long as the finished case is too short",
-    WrittenOutputTouched: "the output is filled though the case is refused",
+    WrittenOutputTouched: "the output is filled though the case is refused",;
+    json:
+    JsonLoneSurrogate: "a lone surrogate is taken",
+    JsonFractionCut: "a fraction is cut off",
+    JsonOverflowWraps: "an integer beyond i64 wraps",
+    JsonSecondDropped: "the second of two equal names is dropped",
+    JsonDepth33: "a value at level 33 is taken",
+    JsonFormWithSecond: "`__entity` with a second member is an entity",
+    JsonUnknownSkipped: "an unknown field is skipped",
+    JsonPlaceOffByOne: "places are one too high",
+    JsonTextOrder: "members stay in the text's order",
+    JsonSlashEscaped: "`/` is escaped on export",
+    JsonTopAmbiguous: "25 is asked only of what a point names itself",
+    JsonBlankLineSkipped: "a blank line is skipped",
+    JsonMarkSkipped: "a byte order mark is skipped",
+    JsonNullIsNone: "`null` is no principal",
+    JsonEntitiesOptional: "entities may be left out",
+    JsonFormIsRecord: "a Cedar form may stand for logged, context or attributes",
+    JsonFormTwoLevels: "a Cedar form takes two levels",
+    JsonFormRawName: "a Cedar form's name is compared as it is spelled",
+    JsonAnyFunction: "`__extn` takes any function",
+    JsonLookBlind: "the look ahead takes an escaped quotation mark for a string's end",
+    JsonFourthAtItem: "a fourth item of an entity is told at the item",
+    JsonNamesRaw: "names are compared as they are spelled",
+    JsonRepeatedLate: "a repeated name is told after its value",
+    JsonLeadingZero: "an integer may begin with 0",
+    JsonNumberEarly: "a fraction is told at its point",
+    JsonLeastRefused: "the least integer is refused",
+    JsonControlTaken: "a control character is taken",
+    JsonOverlong: "overlong UTF-8 is taken",
+    JsonUtf8AtStart: "bad UTF-8 is told at the character's first byte",
+    JsonEntitiesTextOrder: "entities stay in the text's order",
+    JsonFieldsTextOrder: "context is laid out before logged",
+    JsonStringsJoined: "equal strings share a record",
+    JsonRunAfter: "a run is laid out after the runs of its children",
+    JsonValueFirst: "a member's value is laid out before its name",
+    JsonMarksAll: "an attribute object is marked as a string",
+    JsonUpperHex: "control characters are written with upper-case digits",
+    JsonShortEscapes: "line breaks are written as \\n",
+    JsonNoneNull: "no principal is written as null",
+    JsonUnreached: "25 is given for an object that nothing reaches",
+    JsonShortFirst: "14 comes before 25",
+    JsonExactRefused: "an output that is exactly filled is too short",
 }

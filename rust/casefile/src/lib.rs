@@ -4,6 +4,7 @@
 pub mod binding;
 pub mod builder;
 pub mod lint;
+pub mod log;
 pub mod near;
 pub mod records;
 pub mod tables;

@@ -1,7 +1,9 @@
 //! What the packer writes, to the byte: every unit, operator, root, node kind, value kind and order of
 //! fields, by the numbers of document 01. The file is read here by a reader of its own.
 
+use casefile::log::Log;
 use casefile::text::{pack, unpack};
+use casefile::{Tables, Unsorted};
 
 /// The word that stands for no name, no principal and no resource.
 const NONE: u32 = 4_294_967_295;
@@ -220,4 +222,65 @@ fn the_text_comes_back() {
     let text = include_str!("every.case");
     let packed = pack(text).unwrap_or_else(|fault| panic!("{fault}"));
     assert_eq!(unpack(&packed.tables).expect("it has a text"), text);
+}
+
+/// Every number of a log is shifted by what stands before it: 2 strings of 3 bytes, 1 value, 4 members, 5 list words.
+#[test]
+fn a_log_stands_behind_the_tables_of_a_text() {
+    let rules = Unsorted {
+        tables: Tables {
+            variables: 1,
+            strings: vec![[0, 1], [1, 2]],
+            values: vec![[4, 1, 0, 0]],
+            members: vec![[NONE, 0]; 4],
+            nodes: vec![[24, 0, 0, 0, 0, 0, 0, 0]],
+            lists: vec![1, 0, 0, 1, 0],
+            text: b"abb".to_vec(),
+            ..Tables::default()
+        },
+        marks: vec![1, 0, 0, 1, 1],
+    };
+    let point = [7, 0, 0, 1, 1, 2, 7, 6, 5, 2, 1, 1];
+    let log = Tables {
+        strings: vec![[0, 1], [1, 1], [2, 0]],
+        values: vec![
+            [0, 0, 0, 0],
+            [1, 1, 0, 0],
+            [2, 9, 8, 0],
+            [3, 0, 0, 0],
+            [4, 1, 0, 0],
+            [5, 0, 2, 0],
+            [6, 1, 2, 0],
+            [7, 0, 1, 0],
+        ],
+        members: vec![[1, 6], [NONE, 3], [NONE, 4]],
+        points: vec![point, [7, 0, 0, 0, 1, 2, 7, 7, NONE, NONE, 4, 0]],
+        lists: vec![2, 0, 1, 7],
+        text: b"cd".to_vec(),
+        ..Tables::default()
+    };
+    let log = Log::of(&log.encode(), &[1, 1, 1, 0]).expect("it has tables");
+    let expected = Unsorted {
+        tables: Tables {
+            strings: vec![[0, 1], [1, 2], [3, 1], [4, 1], [5, 0]],
+            values: vec![
+                [4, 1, 0, 0],
+                [0, 0, 0, 0],
+                [1, 1, 0, 0],
+                [2, 9, 8, 0],
+                [3, 2, 0, 0],
+                [4, 3, 0, 0],
+                [5, 2, 4, 0],
+                [6, 5, 2, 0],
+                [7, 4, 1, 0],
+            ],
+            members: [vec![[NONE, 0]; 4], vec![[3, 7], [NONE, 4], [NONE, 5]]].concat(),
+            points: vec![[7, 0, 5, 1, 3, 4, 8, 7, 6, 3, 6, 1], [7, 0, 5, 0, 3, 4, 8, 8, NONE, NONE, 9, 0]],
+            lists: vec![1, 0, 0, 1, 0, 4, 2, 3, 8],
+            text: b"abbcd".to_vec(),
+            ..rules.tables.clone()
+        },
+        marks: vec![1, 0, 0, 1, 1, 1, 1, 1, 0],
+    };
+    assert_eq!(log.joined(rules), Some(expected));
 }

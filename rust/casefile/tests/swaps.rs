@@ -5,7 +5,27 @@ use std::path::{Path, PathBuf};
 use std::process::Command;
 
 /// File under src/, a text that stands there once, and what takes its place.
-const SWAPS: [(&str, &str, &str); 74] = [
+const SWAPS: [(&str, &str, &str); 85] = [
+    // A log's numbers behind a text's.
+    ("log/mod.rs", "[start + byte, *length]", "[*start, *length]"),
+    ("log/mod.rs", "3 | 4 => [kind, a + self.string", "3 | 4 => [kind, a + self.value"),
+    ("log/mod.rs", "b + self.string, c]", "b, c]"),
+    ("log/mod.rs", "6 | 7 => [kind, a + self.member", "6 | 7 => [kind, a + self.list"),
+    ("log/mod.rs", "value + self.value]", "value]"),
+    ("log/mod.rs", "point.namespace.first += self.list", "point.namespace.first += self.member"),
+    ("log/mod.rs", "point.entities.first += self.list", "point.entities.first += self.value"),
+    ("log/mod.rs", "point.action += self.string", "point.action += self.value"),
+    ("log/mod.rs", "point.kind += self.string", "point.kind += self.list"),
+    (
+        "log/mod.rs",
+        "values.chain(&mut point.principal).chain(&mut point.resource);",
+        "values.chain(&mut point.principal);",
+    ),
+    (
+        "log/mod.rs",
+        "if mark == 0 { shift.value } else { shift.string }",
+        "if mark == 0 { shift.string } else { shift.value }",
+    ),
     // Units, operators and roots.
     ("text/mod.rs", r#"["s", "m", "h", "d"]"#, r#"["m", "s", "h", "d"]"#),
     ("text/mod.rs", r#"["s", "m", "h", "d"]"#, r#"["s", "h", "m", "d"]"#),
@@ -158,7 +178,7 @@ impl Copy {
         let folder = PathBuf::from(env!("CARGO_TARGET_TMPDIR")).join("swaps");
         let _ = std::fs::remove_dir_all(&folder);
         let from = Path::new(env!("CARGO_MANIFEST_DIR"));
-        for part in ["src", "src/lint", "src/text", "tests"] {
+        for part in ["src", "src/lint", "src/log", "src/text", "tests"] {
             std::fs::create_dir_all(folder.join(part)).expect("the folder for tests can be written");
             for entry in std::fs::read_dir(from.join(part)).expect("the crate can be read").flatten() {
                 let name = format!("{part}/{}", entry.file_name().to_string_lossy());

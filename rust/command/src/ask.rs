@@ -28,7 +28,7 @@ impl Question {
     pub fn of(options: &Options) -> Result<Question, Failure> {
         let limits = options.limits()?;
         let (rule, node, point) = (options.text("--rule")?, options.number("--node")?, options.number("--point")?);
-        let opened = Opened::open(options.file()?)?;
+        let opened = Opened::of_call(options)?;
         let mut asked = opened.asked(rule, node)?;
         asked.loose |= options.flag("--loose");
         let point = opened.point(point)?;
@@ -44,7 +44,7 @@ impl Question {
     /// The beginning of an answer in JSON.
     pub fn json(&self) -> Object {
         let (time, date) = self.opened.time(self.point);
-        let object = Object::new().text("file", &self.opened.file).plain("point", self.point).plain("time", time);
+        let object = self.opened.json().plain("point", self.point).plain("time", time);
         let object = object.some("date", date.as_deref()).plain("node", self.asked.node);
         object.some("rule", self.asked.rule.as_deref())
     }

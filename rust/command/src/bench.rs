@@ -19,8 +19,7 @@ use crate::Said;
 const MOST_BYTES: usize = 65_536;
 
 pub fn bench(options: &Options) -> Result<Said, Failure> {
-    let file = options.file()?;
-    let opened = case(file).inspect_err(|failure| {
+    let opened = case(options).inspect_err(|failure| {
         // Document 01's program says so; what else is to be said goes to standard error.
         if let (Failure::Refused { refused, .. }, false) = (failure, options.flag("--json")) {
             let _ = print(&format!("refused {}\n", refused.refusal.number()));
@@ -43,7 +42,20 @@ pub fn bench(options: &Options) -> Result<Said, Failure> {
 }
 
 /// The case with a condition or an aggregate for its last node.
-fn case(file: &OsStr) -> Result<Opened, Failure> {
+fn case(options: &Options) -> Result<Opened, Failure> {
+    let opened = if options.flag("--log") { Opened::of_call(options)? } else { small_case(options.file()?)? };
+    match opened.case.last_rule().and_then(|node| opened.case.sort(node)) {
+        Some(Sort::Condition | Sort::Aggregate) => Ok(opened),
+        _ => Err(Failure::refused(
+            &opened.file,
+            Refused::from(Refusal::NoSuchNode),
+            "; `bench` asks the last node, which must be a condition, a count or a sum",
+        )),
+    }
+}
+
+/// A case file that document 01's program takes, too.
+fn small_case(file: &OsStr) -> Result<Opened, Failure> {
     let bytes = read(file)?;
     // An empty file is refused as document 01's program does it.
     let text = if bytes.is_empty() { None } else { as_text(file, &bytes)? };
@@ -54,19 +66,11 @@ fn case(file: &OsStr) -> Result<Opened, Failure> {
         }
         None => (Names::beside(file, &bytes)?, None, bytes),
     };
-    let refused = |refusal, hint: &str| Failure::refused(&shown(file), Refused::from(refusal), hint);
     if bytes.len() > MOST_BYTES {
         let hint = format!(": {} bytes, and `bench` takes 65536; `ask` takes cases up to 4194304", bytes.len());
-        return Err(refused(Refusal::TooLarge, &hint));
+        return Err(Failure::refused(&shown(file), Refused::from(Refusal::TooLarge), &hint));
     }
-    let opened = Opened::of(file, bytes, names, source)?;
-    match opened.case.last_rule().and_then(|node| opened.case.sort(node)) {
-        Some(Sort::Condition | Sort::Aggregate) => Ok(opened),
-        _ => Err(refused(
-            Refusal::NoSuchNode,
-            "; `bench` asks the last node, which must be a condition, a count or a sum",
-        )),
-    }
+    Opened::of(file, bytes, names, source)
 }
 
 fn every_point(opened: &Opened, node: u32, options: &Options) -> Result<Said, Failure> {
@@ -90,7 +94,7 @@ fn every_point(opened: &Opened, node: u32, options: &Options) -> Result<Said, Fa
     drop(progress);
     if options.flag("--json") {
         let rule = opened.names.of_node(node).map(|rule| rule.name.as_str());
-        let object = Object::new().text("file", &opened.file).plain("node", node).some("rule", rule);
+        let object = opened.json().plain("node", node).some("rule", rule);
         print(&format!("{}\n", object.list("points", lines.into_iter()).done()))?;
     } else if !options.flag("--quiet") {
         print(&format!("point verdict steps held\n{}", lines.concat()))?;

@@ -14,13 +14,13 @@ use crate::warn::warnings;
 use crate::Said;
 
 pub fn check(options: &Options) -> Result<Said, Failure> {
-    let opened = Opened::open(options.file()?)?;
+    let opened = Opened::of_call(options)?;
     let warned = warnings(options, &opened, None, Vec::new())?;
     let Contents { variables, strings, values, points, nodes, .. } = opened.case.contents();
     let bytes = opened.case.bytes().len();
-    let file = &opened.file;
+    let file = opened.shown();
     if options.flag("--json") {
-        let object = Object::new().text("file", file).plain("passes", true).plain("bytes", bytes);
+        let object = opened.json().plain("passes", true).plain("bytes", bytes);
         let object = object.plain("variables", variables).plain("strings", strings).plain("values", values);
         let object = object.plain("points", points).plain("nodes", nodes);
         let rules = opened.names.rules.iter().fold(Object::new(), |rules, rule| rules.plain(&rule.name, rule.node));

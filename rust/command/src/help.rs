@@ -13,7 +13,7 @@ const LEAST: usize = 40;
 pub const FIRST: &str = "galivodern asks rules over a board's log: was it reviewed, and is that so still?";
 
 pub const FILES: &str = "FILE is a case file or the text of a case; - is standard input. The text is described in \
-                         docs/CASE-TEXT.md.";
+                         docs/CASE-TEXT.md. LOG is a JSON log, an event a line, described in docs/JSON-LOGS.md.";
 
 pub const STATUS: &str = "Exit status: 0 for yes, 1 for no, 2 for a refusal, a fault or a wrong call. Refusals have a \
                           number and say what is wrong. No answer takes more steps or rows than allowed.";
@@ -27,6 +27,10 @@ const FIRST_CASE: &str = r#"A first case, asked:
     rule reviewed = exists b (Flash(board: b) and formerly within 1h Review(board: b))
     END
     galivodern ask my.case
+
+Rules asked of a JSON log, at its last event:
+
+    galivodern ask rules.case --log bench.jsonl --rule release_ok
 "#;
 
 pub fn print(name: Option<&str>) -> Result<Said, Failure> {

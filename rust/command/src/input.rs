@@ -20,7 +20,7 @@ pub fn read(file: &OsStr) -> Result<Vec<u8>, Failure> {
         std::fs::File::open(file).map_err(failed)?.take(MOST_READ + 1).read_to_end(&mut bytes)
     };
     if read.map_err(failed)? as u64 > MOST_READ {
-        return Err(Failure::of_file(&shown(file), "too large: no case or text of one has more than 64 MiB"));
+        return Err(Failure::of_file(&shown(file), "too large: no case, text of one or log has more than 64 MiB"));
     }
     Ok(bytes)
 }

@@ -6,10 +6,12 @@ mod bench;
 mod bind;
 mod completions;
 mod convert;
+mod excerpt;
 mod failure;
 mod help;
 mod input;
 mod json;
+mod logs;
 mod man;
 mod names;
 mod opened;
@@ -74,6 +76,8 @@ fn run(arguments: &[OsString]) -> Result<Said, Failure> {
         "bench" => bench::bench(&options),
         "pack" => convert::pack_text(&options),
         "text" => convert::text(&options),
+        "import" => logs::import(&options),
+        "export" => logs::export(&options),
         "completions" => completions::completions(&options),
         _ => man::man(&options),
     }

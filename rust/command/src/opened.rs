@@ -9,8 +9,11 @@ use casefile::time;
 use casefile::{Point, Tables, Unsorted, Variables};
 use galivodern::{Case, Refusal, Refused, RuleNo};
 
+use crate::arguments::Options;
 use crate::failure::Failure;
 use crate::input::{as_text, read, shown};
+use crate::json::Object;
+use crate::logs;
 use crate::names::{Name, Names};
 use crate::progress::Progress;
 
@@ -21,6 +24,14 @@ pub struct Opened {
     pub names: Names,
     /// The text that the case came from, if it came as text.
     pub source: Option<(String, Packed)>,
+    /// The log that its points came from, if they came from one.
+    pub log: Option<LogText>,
+}
+
+/// A JSON log as it was read.
+pub struct LogText {
+    pub file: String,
+    pub text: Vec<u8>,
 }
 
 /// The node that is asked, and what is known of it.
@@ -52,6 +63,15 @@ pub fn packed(file: &OsStr, text: &str) -> Result<Packed, Failure> {
 }
 
 impl Opened {
+    /// The case that a call is about: its file, with the points of a log where one is given.
+    pub fn of_call(options: &Options) -> Result<Opened, Failure> {
+        let file = options.file()?;
+        match options.named_file("--log") {
+            Some(log) => logs::opened(file, log),
+            None => Opened::open(file),
+        }
+    }
+
     pub fn open(file: &OsStr) -> Result<Opened, Failure> {
         let bytes = read(file)?;
         match as_text(file, &bytes)? {
@@ -73,7 +93,7 @@ impl Opened {
         let case = Case::new(bytes).map_err(|refusal| Failure::refused_case(&file, refusal))?;
         drop(progress);
         let tables = Tables::decode(case.bytes()).map_err(|message| Failure::of_file(&file, message))?;
-        Ok(Opened { file, case, tables, names, source })
+        Ok(Opened { file, case, tables, names, source, log: None })
     }
 
     /// The number of a variable by its name, `x0` where the case has no names, or by its number.
@@ -125,12 +145,26 @@ impl Opened {
     pub fn point(&self, point: Option<usize>) -> Result<usize, Failure> {
         let points = self.case.contents().points;
         let hint = match points {
+            0 if self.log.is_some() => ": the log is empty, so there is no point to ask at".to_string(),
             0 => ": its log is empty, write points into it".to_string(),
             1 => ": only point 0 exists".to_string(),
             _ => format!(": points 0 to {} exist", points - 1),
         };
         let point = point.or(points.checked_sub(1)).filter(|&point| point < points);
         point.ok_or_else(|| Failure::refused(&self.file, Refused::from(Refusal::NoSuchPoint), &hint))
+    }
+
+    /// What a message calls the case: its file, and its log.
+    pub fn shown(&self) -> String {
+        match &self.log {
+            Some(log) => format!("{} with {}", self.file, log.file),
+            None => self.file.clone(),
+        }
+    }
+
+    /// The beginning of an outcome in JSON.
+    pub fn json(&self) -> Object {
+        Object::new().text("file", &self.file).some("log", self.log.as_ref().map(|log| log.file.as_str()))
     }
 
     /// The time of a point: in seconds, and as a date where it has one.

@@ -54,16 +54,22 @@ const SVG: OptionSpec = option(
     "FILE",
     "draw the timeline there, as a picture in SVG; - is standard output, in place of the words",
 );
+const LOG: OptionSpec = option(
+    "--log",
+    "LOG",
+    "take the points from this JSON log, an event a line, and the rules from FILE, a text without points; - is standard \
+     input",
+);
 const OUTPUT: OptionSpec = option("-o", "FILE", "write there in place of standard output");
 
-pub const COMMANDS: [CommandSpec; 9] = [
+pub const COMMANDS: [CommandSpec; 11] = [
     CommandSpec {
         name: "check",
         files: "FILE",
         brief: "is the file a sound case?",
         about: "Says what the case holds, or which rule of the case file it breaks: refusals 1 to 6. Warns of names in \
                 its rules that its log never has, of comparisons that can never hold and of times that fall.",
-        options: &[&SCHEMA, &STRICT, &JSON, &QUIET],
+        options: &[&LOG, &SCHEMA, &STRICT, &JSON, &QUIET],
     },
     CommandSpec {
         name: "ask",
@@ -72,7 +78,7 @@ pub const COMMANDS: [CommandSpec; 9] = [
         about: "Asks one rule at one point. A condition is answered yes (status 0) or no (status 1), a count or sum with \
                 its number (status 0); behind it stand the steps and rows that it took. A rule with parameters is asked \
                 with all of them bound.",
-        options: &[&POINT, &RULE, &NODE, &BIND, &LOOSE, &STEPS, &ROOM, &SCHEMA, &STRICT, &JSON, &QUIET],
+        options: &[&LOG, &POINT, &RULE, &NODE, &BIND, &LOOSE, &STEPS, &ROOM, &SCHEMA, &STRICT, &JSON, &QUIET],
     },
     CommandSpec {
         name: "why",
@@ -83,7 +89,7 @@ pub const COMMANDS: [CommandSpec; 9] = [
                 window; for and, or, not and exists each part that decided. Marks: * carried the yes, ! held in vain, x \
                 failed, | in the window, . outside, : a folded stretch. The limits hold for each single question at one \
                 point.",
-        options: &[&POINT, &RULE, &NODE, &BIND, &LOOSE, &STEPS, &ROOM, &SVG, &SCHEMA, &STRICT, &JSON, &QUIET],
+        options: &[&LOG, &POINT, &RULE, &NODE, &BIND, &LOOSE, &STEPS, &ROOM, &SVG, &SCHEMA, &STRICT, &JSON, &QUIET],
     },
     CommandSpec {
         name: "rows",
@@ -91,15 +97,15 @@ pub const COMMANDS: [CommandSpec; 9] = [
         brief: "what does a rule find at a point?",
         about: "Lists what a rule finds at a point: a line for each way in which its parameters can be bound. Status 0 if \
                 there is one, 1 if there is none.",
-        options: &[&POINT, &RULE, &NODE, &BIND, &FOR, &LOOSE, &STEPS, &ROOM, &SCHEMA, &STRICT, &JSON, &QUIET],
+        options: &[&LOG, &POINT, &RULE, &NODE, &BIND, &FOR, &LOOSE, &STEPS, &ROOM, &SCHEMA, &STRICT, &JSON, &QUIET],
     },
     CommandSpec {
         name: "bench",
         files: "FILE",
         brief: "ask the last rule at every point",
         about: "Asks the last rule at every point, with 1000000 steps and 256 rows for each, and prints a line for each: \
-                point, verdict or number, steps, rows held. Case files of at most 65536 bytes.",
-        options: &[&LOOSE, &JSON, &QUIET],
+                point, verdict or number, steps, rows held. Case files of at most 65536 bytes; with --log any case.",
+        options: &[&LOG, &LOOSE, &JSON, &QUIET],
     },
     CommandSpec {
         name: "pack",
@@ -117,6 +123,24 @@ pub const COMMANDS: [CommandSpec; 9] = [
         about: "Prints a case as text that packs to the same bytes, with the names that it was packed with; without them, \
                 variables are x0, x1 and rules r12 for node 12. A rule's free variables are its parameters; one whose \
                 variables are bound in no order is loose.",
+        options: &[&OUTPUT, &JSON],
+    },
+    CommandSpec {
+        name: "import",
+        files: "LOG",
+        brief: "write the case file of a JSON log",
+        about: "Writes the case file of a JSON log: a point for each line, and no rules (docs/JSON-LOGS.md). A line that is \
+                no event is refused by number, 20 to 24, with its place, and nothing is written. With -o - the case file \
+                goes to standard output. To ask rules of a log in one go, use --log with ask, why, rows, bench or check.",
+        options: &[&OUTPUT, &JSON, &QUIET],
+    },
+    CommandSpec {
+        name: "export",
+        files: "FILE",
+        brief: "print a case's points as a JSON log",
+        about: "Prints the points of a case as a JSON log, a line for each; imported again they are the same points. Rules \
+                are left out. Refused 25 is a case with an object whose only member is named __entity or __extn: it would \
+                be read as an entity or a decimal.",
         options: &[&OUTPUT, &JSON],
     },
     CommandSpec {

@@ -7,10 +7,10 @@ use casefile::lint::{self, About, Known, Warning};
 use casefile::text::{Fault, Place};
 
 use crate::arguments::Options;
-use crate::failure::{placed, Failure};
+use crate::failure::{line_told, placed, Failure};
 use crate::input::{as_text, read, shown};
 use crate::json::Object;
-use crate::opened::{Asked, Opened};
+use crate::opened::{Asked, LogText, Opened};
 
 /// A warning in words, with its place where it has one.
 pub struct Warned {
@@ -35,6 +35,12 @@ impl Warned {
 
     fn of(opened: &Opened, warning: &Warning) -> Warned {
         let message = &warning.message;
+        if let (About::Point(point), Some(log)) = (warning.about, &opened.log) {
+            let line = point as usize + 1;
+            let json = Object::new().text("file", &log.file).plain("line", line).plain("column", 1);
+            let words = line_told(log, line, &format!("warning: {message}"));
+            return Warned { words, json: json.text("message", message).done() };
+        }
         match (place(opened, warning.about), &opened.source) {
             (Some(at), Some((text, _))) => {
                 let words = placed(&opened.file, text, &at.told(format!("warning: {message}")));
@@ -105,6 +111,15 @@ fn against_schema(opened: &Opened, known: &Known) -> Result<(), Failure> {
         let messages: Vec<String> = errors.iter().map(told).collect();
         return Err(Failure::of_file(&opened.file, messages.join(&format!("\ngalivodern: {}: ", opened.file))));
     };
+    if let Some(log) = opened.log.as_ref().filter(|_| errors.iter().all(|error| matches!(error.about, About::Point(_))))
+    {
+        let line = |error: &Warning| match error.about {
+            About::Point(point) => (point as usize + 1, error.message.clone()),
+            _ => unreachable!("all are about points"),
+        };
+        let log = Box::new(LogText { file: log.file.clone(), text: log.text.clone() });
+        return Err(Failure::Lines { log, faults: errors.iter().map(line).collect() });
+    }
     let fault = |error: &Warning| place(opened, error.about).map(|place| place.told(error.message.clone()));
     let mut faults: Vec<Fault> = errors.iter().filter_map(fault).collect();
     faults.sort_by_key(|fault| (fault.line, fault.column));

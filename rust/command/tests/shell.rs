@@ -34,7 +34,8 @@ fn all_options_are_everywhere() {
     let (page, bash, fish) = (run(&["man"]).1, run(&["completions", "bash"]).1, run(&["completions", "fish"]).1);
     assert!(run(&["completions", "zsh"]).1.starts_with("#compdef galivodern\n"));
     let mut count = 0;
-    for command in ["check", "ask", "why", "rows", "bench", "pack", "text", "completions", "man"] {
+    let commands = ["check", "ask", "why", "rows", "bench", "pack", "text", "import", "export", "completions", "man"];
+    for command in commands {
         let help = run(&["help", command]).1;
         assert!(page.contains(&format!(".SS galivodern {command}")), "{command}");
         for line in help.lines().filter(|line| line.starts_with("  -")) {
@@ -47,7 +48,7 @@ fn all_options_are_everywhere() {
             count += 1;
         }
     }
-    assert_eq!(count, 50);
+    assert_eq!(count, 60);
     refused(&["completions", "tcsh"], "`completions` takes the name of a shell: bash, zsh or fish");
 }
 

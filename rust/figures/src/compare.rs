@@ -9,7 +9,7 @@ use judge::run::Report;
 use model::Model;
 
 use crate::archive::{by_crate, checked, unchecked};
-use crate::{carried, written};
+use crate::{carried, logs, written};
 
 /// More differences than this end the run.
 const MOST_DIFFERENCES: usize = 10;
@@ -32,7 +32,17 @@ pub fn run(questions: u64, copies: u64, seed: u64, mix: Option<&str>) -> Result<
     println!("{} damaged copies, the last of them after {:.0} s", damaged(&report), begun.elapsed().as_secs_f64());
     let same = told(&report.counts, &report.differences);
     let same = carried(questions / 10, copies / 10, seed)? && same;
-    Ok(written(questions / 10, copies / 10, seed)? && same)
+    let same = written(questions / 10, copies / 10, seed)? && same;
+    Ok(logs(questions / 10, seed)? && same)
+}
+
+/// Request #112: import and export of the archive beside the model.
+pub fn logs(count: u64, seed: u64) -> Result<bool, String> {
+    let begun = Instant::now();
+    let mut report = logs::Report::new();
+    report.run(&mut Random::new(seed), count, MOST_DIFFERENCES);
+    println!("#112, seed {seed}: {count} logs in {:.0} s", begun.elapsed().as_secs_f64());
+    Ok(told(&report.counts, &report.differences))
 }
 
 /// Request #101: the archive beside the model, and both beside what the making of each input foretells.

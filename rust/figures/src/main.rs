@@ -5,7 +5,9 @@ mod carried;
 mod checking;
 mod compare;
 mod dots;
+mod logs;
 mod lookups;
+mod reading;
 mod shapes;
 mod speed;
 mod timing;
@@ -20,6 +22,9 @@ const USAGE: &str = "usage: figures speed                        time a question
                                             `dots`: of cases with dots in their names alone
        figures carried N DAMAGED SEED       the same of request #106; `compare` asks a tenth as many, too
        figures write N DAMAGED SEED         the writer of request #101 beside the model; likewise
+       figures json N SEED                  import and export of request #112 beside the model, on N logs and N/10 cases
+       figures reading                      time the import beside a plain pass
+       figures log SHAPE                    print a log that `reading` reads (0 to 5), to be read by others
        figures writing                      time the writer beside Rust's sort and dedup
        figures write-once SHAPE TIMES       one shape of it (0 to 7) so often, to be profiled
        figures once SHAPE TIMES ours|rust   ask one shape so often, to be profiled
@@ -46,6 +51,9 @@ fn main() -> ExitCode {
         ["write", inputs, copies, seed] => {
             number(inputs).and_then(|n| compare::written(n, number(copies)?, number(seed)?))
         }
+        ["json", logs, seed] => number(logs).and_then(|n| compare::logs(n, number(seed)?)),
+        ["reading"] => reading::print_table(),
+        ["log", shape] => number(shape).and_then(|k| reading::print_log(k as usize)),
         ["writing"] => writing::print_table(),
         ["write-once", shape, times] => number(shape).and_then(|k| writing::once(k as usize, number(times)?)),
         ["once", shape, times, who] => number(times).and_then(|n| speed::once(shape, n, who == "rust")),

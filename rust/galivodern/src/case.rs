@@ -1,9 +1,11 @@
 use std::fmt;
+use std::io::Read;
 use std::sync::{Mutex, TryLockError};
 
 use crate::answer::{Answer, Answered};
 use crate::bindings::Bindings;
 use crate::carried::Carried;
+use crate::json::{JsonLog, LogError};
 use crate::limits::Limits;
 use crate::names::{Fault, Names};
 use crate::numbers::{PointNo, RuleNo, VariableNo};
@@ -114,6 +116,48 @@ impl Case {
     pub fn from_unsorted(unsorted: &[u8], marks: &[u8]) -> Result<Case, Refusal> {
         match sys::write(unsorted, marks) {
             Ok(bytes) => Case::new(bytes),
+            Err(returned) => Err(Refusal::of_return(returned).expect("0 is no refusal")),
+        }
+    }
+
+    /// Makes a case of the points of a JSON log, an event a line, and of rules as text. docs/JSON-LOGS.md describes the
+    /// log, docs/CASE-TEXT.md the text. Point 0 is the log's first line. A text that has points of its own is refused.
+    ///
+    /// ```
+    /// # use galivodern::{Bindings, Case, Limits, PointNo};
+    /// let log = r#"
+    /// {"time":100,"namespace":[],"action":"Review","kind":"request","logged":{"board":"b1"},"context":{},"entities":[]}
+    /// {"time":110,"namespace":[],"action":"Flash","kind":"request","logged":{"board":"b1"},"context":{},"entities":[]}
+    /// "#.trim_start();
+    /// let rules = r#"rule release_ok = Flash(board: "b1") and formerly within 1h Review(board: "b1")"#;
+    /// let case = Case::from_json_lines(rules, log.as_bytes())?;
+    /// let release_ok = case.rule("release_ok").unwrap();
+    /// assert!(case.ask(PointNo(1), release_ok, &Bindings::new(), Limits::default())?.verdict());
+    /// # Ok::<(), Box<dyn std::error::Error>>(())
+    /// ```
+    pub fn from_json_lines(rules: &str, log: impl Read) -> Result<Case, LogError> {
+        JsonLog::read(log)?.with_rules(rules)
+    }
+
+    /// The points as a JSON log: a line for each, its members in the order of their names. Imported again
+    /// ([`JsonLog::case`]) they are the same points. Rules and what no point reaches are left out.
+    ///
+    /// Refused is a case with an object that a reader would take for an entity or a decimal ([`AmbiguousObject`]), and
+    /// one whose text is longer than 1 GiB ([`OutputTooShort`]): values that points share are written for each.
+    ///
+    /// ```
+    /// # use galivodern::Case;
+    /// let case = Case::from_text(r#"point 5 Flash logged {board: "b1"}"#)?;
+    /// let line = r#"{"time":5,"namespace":[],"action":"Flash","kind":"request","logged":{"board":"b1"},"context":{},"entities":[]}"#;
+    /// assert_eq!(case.json_lines()?, format!("{line}\n"));
+    /// # Ok::<(), Box<dyn std::error::Error>>(())
+    /// ```
+    ///
+    /// [`AmbiguousObject`]: crate::Refusal::AmbiguousObject
+    /// [`OutputTooShort`]: crate::Refusal::OutputTooShort
+    pub fn json_lines(&self) -> Result<String, Refusal> {
+        match sys::export(self.bytes()) {
+            Ok(text) => Ok(String::from_utf8(text).expect("the strings of a checked case are UTF-8")),
             Err(returned) => Err(Refusal::of_return(returned).expect("0 is no refusal")),
         }
     }

@@ -24,14 +24,16 @@
 //! # Ok::<(), Box<dyn std::error::Error>>(())
 //! ```
 //!
-//! Here the case is written as text; [`CaseBuilder`] makes one by method calls, and [`Case::new`] takes a
+//! Here the case is written as text; [`CaseBuilder`] makes one by method calls, [`Case::from_json_lines`] takes the
+//! points from a JSON log, an event a line, and [`Case::new`] takes a
 //! case file, which the command `galivodern pack` writes from such a text. In the repository docs/CASE-TEXT.md describes the
-//! text, docs/MEANING.md what each construct means and docs/FORMAT.md the file.
+//! text, docs/JSON-LOGS.md the log, docs/MEANING.md what each construct means and docs/FORMAT.md the file.
 //!
 //! # What is proved, and what is assumed
 //!
 //! The calls that this crate wraps are proved; their contracts are in the repository's
-//! `crates/capi`. Among them is the writer that makes a case of what a text or a [`CaseBuilder`] says.
+//! `crates/capi`. Among them are the writer that makes a case of what a text or a [`CaseBuilder`] says, and import and
+//! export of JSON logs. That a log's points and a text's rules are put into one case is plain Rust.
 //! This crate itself is plain Rust, which is tested, and so is the packer behind [`Case::from_text`]. The `unsafe` code stands in one module, `sys`, and says at each place why it
 //! is sound.
 
@@ -43,6 +45,7 @@ mod bindings;
 mod builder;
 mod carried;
 mod case;
+mod json;
 mod limits;
 mod names;
 mod numbers;
@@ -61,6 +64,7 @@ pub use builder::{
 };
 pub use carried::Carried;
 pub use case::{Case, Contents};
+pub use json::{JsonLog, LogError, LogFault, LogPlace};
 pub use limits::Limits;
 pub use names::Fault;
 pub use numbers::{PointNo, RuleNo, VariableNo};

@@ -37,6 +37,18 @@ pub enum Refusal {
     OutputTooShort = 14,
     /// The list lent for points is too short; the crate lends one that is not.
     ListTooShort = 15,
+    /// A line of a JSON log is no JSON, or holds half of a surrogate pair.
+    NotJson = 20,
+    /// An object of a JSON log has a name twice.
+    RepeatedName = 21,
+    /// A number of a JSON log is no integer within 64 bits.
+    BadNumber = 22,
+    /// A field of an event is missing, unknown or of the wrong sort.
+    BadField = 23,
+    /// A value of a JSON log is more than 32 deep.
+    TooDeep = 24,
+    /// A point of the case has an object that a reader of JSON would take for an entity or a decimal.
+    AmbiguousObject = 25,
 }
 
 impl Refusal {
@@ -57,9 +69,15 @@ impl Refusal {
         Refusal::BadOutput,
         Refusal::OutputTooShort,
         Refusal::ListTooShort,
+        Refusal::NotJson,
+        Refusal::RepeatedName,
+        Refusal::BadNumber,
+        Refusal::BadField,
+        Refusal::TooDeep,
+        Refusal::AmbiguousObject,
     ];
 
-    /// Its number, from 1 to 15.
+    /// Its number: from 1 to 15, and from 20 to 25 for JSON logs.
     #[must_use]
     pub fn number(self) -> u8 {
         self as u8
@@ -101,8 +119,16 @@ impl fmt::Display for Refusal {
             Refusal::StepsExhausted => "the answer takes more steps than allowed",
             Refusal::RoomExhausted => "the answer takes more rows than allowed",
             Refusal::BadOutput => "rows are asked for a variable that the case does not have",
-            Refusal::OutputTooShort => "the finished case is longer than the output",
+            Refusal::OutputTooShort => "what is to be written is longer than the output",
             Refusal::ListTooShort => "the list is too short for the points that made the answer",
+            Refusal::NotJson => "a line of the log is no JSON, or half of a surrogate pair stands alone in it",
+            Refusal::RepeatedName => "a name stands twice in one object of the log",
+            Refusal::BadNumber => "a number of the log is no integer within 64 bits",
+            Refusal::BadField => "a field of an event is missing, unknown or of the wrong sort",
+            Refusal::TooDeep => "a value of the log is more than 32 deep",
+            Refusal::AmbiguousObject => {
+                "an object whose only member is named __entity or __extn would be read as an entity or a decimal"
+            }
         })
     }
 }

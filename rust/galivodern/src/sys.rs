@@ -6,8 +6,18 @@ use crate::limits::Limits;
 const CONTENTS_CELLS: usize = 5;
 /// Cells that a question is told in: answer, steps, rows held, and the call's own fourth.
 const TOLD_CELLS: usize = 4;
+/// Cells that an import is told in: bytes, marks, and the two places of a fault.
+const IMPORTED_CELLS: usize = 4;
 /// The most bytes that a case has.
 const MOST_BYTES: usize = 4_194_304;
+/// No byte of a log makes more bytes of its trace: an array's item of a digit and a comma makes a value and a member.
+const TRACE_FOR_A_BYTE: usize = 12;
+/// Of the trace: its contents.
+const CONTENTS_BYTES: usize = 64;
+/// The longest text that a case is exported as.
+const MOST_TEXT: usize = 1 << 30;
+/// The refusal of an output that is too short.
+const OUTPUT_TOO_SHORT: u64 = 14;
 
 extern "C" {
     fn galivodern_check(file: *const u8, file_len: usize, contents: *mut u64, contents_len: usize) -> u64;
@@ -70,6 +80,28 @@ extern "C" {
         marks_len: usize,
         room: *mut u8,
         room_len: usize,
+        output: *mut u8,
+        output_len: usize,
+        written: *mut u64,
+        written_len: usize,
+    ) -> u64;
+
+    fn galivodern_import(
+        text: *const u8,
+        text_len: usize,
+        work: *mut u64,
+        work_len: usize,
+        trace: *mut u8,
+        trace_len: usize,
+        marks: *mut u8,
+        marks_len: usize,
+        told: *mut u64,
+        told_len: usize,
+    ) -> u64;
+
+    fn galivodern_export(
+        file: *const u8,
+        file_len: usize,
         output: *mut u8,
         output_len: usize,
         written: *mut u64,
@@ -246,6 +278,81 @@ pub(crate) fn write(unsorted: &[u8], marks: &[u8]) -> Result<Vec<u8>, u64> {
     output.truncate(written[0] as usize);
     output.shrink_to_fit();
     Ok(output)
+}
+
+/// What an import wrote.
+pub(crate) struct Trace {
+    pub unsorted: Vec<u8>,
+    pub marks: Vec<u8>,
+}
+
+/// Why a log was refused: the number, the place, and where the first of two equal names stands.
+pub(crate) struct Faulty {
+    pub returned: u64,
+    pub at: usize,
+    pub first: usize,
+}
+
+/// The unsorted case of a JSON log, and its marks.
+pub(crate) fn import(text: &[u8]) -> Result<Trace, Faulty> {
+    // As much as any log of this length may need; what is never touched takes no memory.
+    let mut work = vec![0u64; text.len().div_ceil(4)];
+    let mut unsorted = vec![0u8; TRACE_FOR_A_BYTE.saturating_mul(text.len()).saturating_add(CONTENTS_BYTES)];
+    let mut marks = vec![0u8; text.len()];
+    let mut told = [0; IMPORTED_CELLS];
+    // SAFETY: all slices are live and apart from each other, and the call takes any bytes.
+    let returned = unsafe {
+        galivodern_import(
+            text.as_ptr(),
+            text.len(),
+            work.as_mut_ptr(),
+            work.len(),
+            unsorted.as_mut_ptr(),
+            unsorted.len(),
+            marks.as_mut_ptr(),
+            marks.len(),
+            told.as_mut_ptr(),
+            told.len(),
+        )
+    };
+    let [bytes, marked, at, first] = told.map(|cell| cell as usize);
+    if returned != 0 {
+        return Err(Faulty { returned, at, first });
+    }
+    unsorted.truncate(bytes);
+    unsorted.shrink_to_fit();
+    marks.truncate(marked);
+    Ok(Trace { unsorted, marks })
+}
+
+/// A case's points as the lines of a JSON log, or the refusal's number.
+pub(crate) fn export(file: &[u8]) -> Result<Vec<u8>, u64> {
+    // Values that many points share are written for each, so a text may be much longer than its case.
+    let mut lent = (16 * file.len()).min(MOST_TEXT);
+    loop {
+        let mut output = vec![0; lent];
+        let mut written = [0];
+        // SAFETY: all slices are live and apart from each other, and the call takes any bytes.
+        let returned = unsafe {
+            galivodern_export(
+                file.as_ptr(),
+                file.len(),
+                output.as_mut_ptr(),
+                output.len(),
+                written.as_mut_ptr(),
+                written.len(),
+            )
+        };
+        match returned {
+            0 => {
+                output.truncate(written[0] as usize);
+                output.shrink_to_fit();
+                return Ok(output);
+            }
+            OUTPUT_TOO_SHORT if lent < MOST_TEXT => lent = (8 * lent).min(MOST_TEXT),
+            _ => return Err(returned),
+        }
+    }
 }
 
 pub(crate) fn window(span: i64, from: i64, to: i64) -> u64 {

@@ -165,8 +165,8 @@ fn an_answer_takes_what_it_says() {
 #[test]
 fn refusals_have_numbers_and_words() {
     let words: Vec<String> = Refusal::ALL.iter().map(Refusal::to_string).collect();
-    for (k, refusal) in Refusal::ALL.iter().enumerate() {
-        assert_eq!(usize::from(refusal.number()), k + 1);
+    for ((k, refusal), number) in Refusal::ALL.iter().enumerate().zip((1..=15).chain(20..=25)) {
+        assert_eq!(refusal.number(), number);
         assert_eq!(words.iter().filter(|other| **other == words[k]).count(), 1);
     }
     let limits = Limits { steps: 1, room: 9 };

@@ -2,7 +2,7 @@
 
 use std::path::{Path, PathBuf};
 
-use galivodern::{Bindings, Bound, Case, Limits, PointNo, Refused};
+use galivodern::{Bindings, Bound, Case, JsonLog, Limits, PointNo, Refused};
 
 fn root() -> PathBuf {
     Path::new(env!("CARGO_MANIFEST_DIR")).join("../..")
@@ -130,6 +130,29 @@ fn each_construct_of_the_text_form_is_explained() {
         let mut words = headings.iter().flat_map(|heading| heading.split([' ', ',']));
         assert!(words.any(|word| word == construct), "no heading names `{construct}`");
     }
+}
+
+/// Each block of JSON-LOGS.md is a sound log, or refused as it says, `jsonl refused NUMBER LINE:COLUMN`.
+#[test]
+fn logs_are_read_or_refused_as_they_are_shown() {
+    let (mut sound, mut numbers) = (0, Vec::new());
+    for (info, body) in blocks(&read("docs/JSON-LOGS.md")) {
+        let Some(expected) = info.strip_prefix("jsonl") else { continue };
+        let said = match JsonLog::new(format!("{body}\n").as_bytes()) {
+            Ok(log) => {
+                log.case().unwrap_or_else(|error| panic!("{error}\n{body}"));
+                sound += 1;
+                String::new()
+            }
+            Err(fault) => {
+                numbers.push(fault.refusal.number());
+                format!(" refused {} {}:{}", fault.refusal.number(), fault.place.line, fault.place.column)
+            }
+        };
+        assert_eq!(said, expected, "{body}");
+    }
+    numbers.dedup();
+    assert_eq!((sound, numbers), (2, vec![20, 21, 22, 23, 24]));
 }
 
 #[test]

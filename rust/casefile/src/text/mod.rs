@@ -22,7 +22,7 @@ use crate::tables::Tables;
 pub use closed::told;
 pub use lexer::Place;
 pub(crate) use lexer::Token;
-pub use parser::{pack, pack_or_faults, pack_with};
+pub use parser::{pack, pack_or_faults, pack_rules_with, pack_with};
 pub(crate) use parser::{Parsed, Parser};
 pub(crate) use printed::quoted;
 pub use printed::{behind_dot, word};

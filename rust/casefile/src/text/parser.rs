@@ -27,7 +27,22 @@ pub fn pack_or_faults(text: &str) -> Result<Packed, Vec<Fault>> {
 
 /// The same, the case made of its unsorted form by another writer; what that says against it is a fault.
 pub fn pack_with(text: &str, write: impl FnOnce(Unsorted) -> Result<Vec<u8>, String>) -> Result<Packed, Vec<Fault>> {
-    let (mut parser, faults) = Parser::of(text);
+    packed(Parser::of(text), write)
+}
+
+/// The same of a text without points, whose points come from elsewhere: `write` brings them. A point is a fault.
+pub fn pack_rules_with(
+    text: &str,
+    write: impl FnOnce(Unsorted) -> Result<Vec<u8>, String>,
+) -> Result<Packed, Vec<Fault>> {
+    let (parser, faults) = Parser::of(text);
+    packed((Parser { rules_only: true, ..parser }, faults), write)
+}
+
+fn packed(
+    (mut parser, faults): (Parser, Vec<Fault>),
+    write: impl FnOnce(Unsorted) -> Result<Vec<u8>, String>,
+) -> Result<Packed, Vec<Fault>> {
     parser.faults = faults;
     while parser.token() != &Token::End {
         if let Err(fault) = parser.statement() {
@@ -54,6 +69,8 @@ pub struct Parser {
     pub tokens: Vec<(Token, Place)>,
     pub at: usize,
     pub nesting: usize,
+    /// Whether points are a fault.
+    pub rules_only: bool,
     faults: Vec<Fault>,
     pub variables: Vec<String>,
     pub values: PlainValues,

@@ -22,6 +22,9 @@ impl Parser {
         self.at += 1;
         match keyword.as_str() {
             "variables" => self.variables_statement(place)?,
+            "point" if self.rules_only => {
+                return place.fault("the points come from the log: take this one out, or leave the log out");
+            }
             "point" => self.point(place)?,
             "value" => self.value_statement()?,
             "rule" => self.rule_statement(Keyword::Rule, false)?,

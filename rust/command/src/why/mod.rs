@@ -46,9 +46,9 @@ pub fn why(options: &Options) -> Result<Said, Failure> {
             print(&drawn)?;
             return Ok(said(told.verdict));
         }
-        let (case, schema) = (options.file()?, options.named_file("--schema"));
+        let (case, schema, log) = (options.file()?, options.named_file("--schema"), options.named_file("--log"));
         let names = beside(case);
-        let inputs: Vec<_> = [Some(case), schema, Some(&names)].into_iter().flatten().collect();
+        let inputs: Vec<_> = [Some(case), schema, log, Some(&names)].into_iter().flatten().collect();
         write_file(file, drawn.as_bytes(), &inputs)?;
     }
     if options.flag("--json") {

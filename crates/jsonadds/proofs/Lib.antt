@@ -1,0 +1,10 @@
+pub mod Items
+pub mod Named
+pub mod Members
+pub mod Values
+pub mod Passing
+pub mod Sorting
+pub mod Flats
+pub mod Cycle
+pub mod Words
+pub mod Integers

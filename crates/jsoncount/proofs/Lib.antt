@@ -1,0 +1,9 @@
+pub mod Raised
+pub mod Sums
+pub mod Looping
+pub mod Strings
+pub mod Flat
+pub mod Items
+pub mod Nested
+pub mod Formed
+pub mod Triples

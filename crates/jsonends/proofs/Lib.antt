@@ -1,0 +1,2 @@
+pub mod Nests
+pub mod Ends

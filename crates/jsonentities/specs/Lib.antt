@@ -1,0 +1,4 @@
+pub mod Order
+pub mod Put
+pub mod Lists
+pub mod Sort

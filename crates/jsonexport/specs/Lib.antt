@@ -1,0 +1,4 @@
+pub mod Long
+pub mod Laws
+pub mod Whole
+pub mod Call

@@ -1,0 +1,4 @@
+pub mod Valued
+pub mod Members
+pub mod Slots
+pub mod Events

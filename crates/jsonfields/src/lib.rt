@@ -1,0 +1,3 @@
+// Where the fields of a good line stand.
+pub mod ends;
+pub mod places;

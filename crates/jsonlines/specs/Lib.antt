@@ -1,0 +1,3 @@
+pub mod Entities
+pub mod Fields
+pub mod Events

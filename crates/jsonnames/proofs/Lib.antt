@@ -1,0 +1,4 @@
+pub mod Order
+pub mod Halves
+pub mod Moves
+pub mod Grows

@@ -1,0 +1,3 @@
+// Values that hold no other, and lists of strings.
+pub mod scalars;
+pub mod texts;

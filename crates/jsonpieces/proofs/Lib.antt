@@ -1,0 +1,5 @@
+pub mod Values
+pub mod Names
+pub mod Fronts
+pub mod Points
+pub mod Logs

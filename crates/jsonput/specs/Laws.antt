@@ -1,0 +1,3 @@
+pub mod Strings
+pub mod Numbers
+pub mod Values

@@ -1,0 +1,5 @@
+pub mod Filled
+pub mod Put
+pub mod Runs
+pub mod Values
+pub mod Laws

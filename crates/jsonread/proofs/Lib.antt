@@ -1,0 +1,10 @@
+pub mod Places
+pub mod Due
+pub mod Ahead
+pub mod Hex
+pub mod Chars
+pub mod Counts
+pub mod Spelling
+pub mod Takes
+pub mod Firsts
+pub mod Then

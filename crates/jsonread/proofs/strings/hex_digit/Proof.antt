@@ -1,0 +1,57 @@
+use Rattle.jsonread.proofs.Hex.{hex-low, hex-decimal, hex-between, hex-upper, hex-after, hex-lower, hex-beyond}
+use borrow.Author.Needs.{needs}
+use Rattle.jsonread.proofs.strings.hex_digit.Statement.{statement}
+use Rattle.jsonread.proofs.strings.hex_digit.Tie as tie
+
+returns : tie.Need-returns
+returns c = search (hex-low, needs)
+
+cast-result : tie.Need-cast-result
+cast-result c = search needs
+
+returns-2 : tie.Need-returns-2
+returns-2 c = search (hex-decimal, needs)
+
+returns-3 : tie.Need-returns-3
+returns-3 c = search (hex-between, needs)
+
+sub-result : tie.Need-sub-result
+sub-result c = search needs
+
+cast-result-2 : tie.Need-cast-result-2
+cast-result-2 c = search needs
+
+returns-4 : tie.Need-returns-4
+returns-4 c = search (hex-upper, needs)
+
+returns-5 : tie.Need-returns-5
+returns-5 c = search (hex-after, needs)
+
+sub-result-2 : tie.Need-sub-result-2
+sub-result-2 c = search needs
+
+cast-result-3 : tie.Need-cast-result-3
+cast-result-3 c = search needs
+
+returns-6 : tie.Need-returns-6
+returns-6 c = search (hex-lower, needs)
+
+returns-7 : tie.Need-returns-7
+returns-7 c = search (hex-beyond, needs)
+
+pub hex-digit-spec : {M : Type 1} → statement M
+hex-digit-spec =
+    tie.close
+    (tie.spec
+    returns
+    cast-result
+    returns-2
+    returns-3
+    sub-result
+    cast-result-2
+    returns-4
+    returns-5
+    sub-result-2
+    cast-result-3
+    returns-6
+    returns-7)

@@ -1,0 +1,4 @@
+pub mod Runs
+pub mod Signs
+pub mod Pairs
+pub mod Forms

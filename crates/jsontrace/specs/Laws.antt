@@ -1,0 +1,12 @@
+pub mod Numbers
+pub mod Strings
+pub mod Trace
+pub mod Ahead
+pub mod Parts
+pub mod Values
+pub mod Events
+pub mod Lines
+pub mod Case
+pub mod Counts
+pub mod Taken
+pub mod Wells

@@ -1,0 +1,11 @@
+pub mod Order
+pub mod Trace
+pub mod Count
+pub mod Import
+pub mod Text
+pub mod Export
+pub mod Writable
+pub mod Examples
+pub mod ExportExamples
+pub mod Laws
+pub mod Theorems

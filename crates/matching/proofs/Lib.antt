@@ -4,4 +4,5 @@ pub mod Free
 pub mod Fields
 pub mod Events
 pub mod Before
+pub mod Fitted
 pub mod Passes

@@ -4,6 +4,7 @@ use meaning::Env;
 use meaning::Meter;
 
 mod once;
+mod plans;
 mod points;
 mod predicates;
 mod scans;

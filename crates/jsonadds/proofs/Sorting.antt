@@ -17,8 +17,8 @@ use Rattle.jsontext.specs.Values.{J, Name, before, Parts, end, part, memberPart
 use Rattle.jsontrace.specs.Order.{insertPart, ordered, orderedMembers}
 use Rattle.jsontrace.specs.Trace.{many}
 use Rattle.jsonread.proofs.Spelling.{never}
-use Rattle.jsonnames.specs.Sorted.{Spells, Sorted}
-use Rattle.jsonnames.proofs.Grows.{sorted-still}
+use Rattle.jsonnames.specs.Sorted.{Spells, Rises}
+use Rattle.jsonnames.proofs.Grows.{rises-still}
 use Rattle.jsonruns.specs.declared.Part.{Part as Position}
 use Rattle.jsonruns.specs.declared.Part.the-variants.{Next as Goes, Closed}
 use Rattle.jsonruns.specs.Good.{Good, Signed, BeginTold, PartTold}
@@ -129,7 +129,7 @@ pub record Sorting (levels : ℕ) (line : List ℕ) (at : ℕ) (names₀ names :
   sorted : Parts
   cells : Cells levels line names used sorted
   many-is : many sorted ≡ count
-  table : Sorted line names used (used + count)
+  table : Rises line names used (used + count)
   goes : insertAll (memberParts (passing .left)) sorted ≡ orderedMembers (memberParts (passing .good .what))
   apart : Apart (memberParts (passing .left))
   away : Away (memberParts (passing .left)) sorted
@@ -198,7 +198,7 @@ module _ (levels : ℕ) {line : List ℕ} {at : ℕ} {names₀ names : List ℕ}
   pub sort-room : used + count < length names
   sort-room = omega (arith, g .spare, g .passing .total, ap length (tail .is), g .stays .long)
 
-  pub sort-table : Sorted line names used (used + count)
+  pub sort-table : Rises line names used (used + count)
   sort-table = g .table
 
   pub sort-long : (after : List ℕ) → length after ≡ length names → length after ≡ length names₀
@@ -245,8 +245,8 @@ module _ (levels : ℕ) {line : List ℕ} {at : ℕ} {names₀ names : List ℕ}
     put-stays : Stays used names₀ after
     put-stays = record { long = put .inserted .long ∙ g .stays .long; same = λ c h. put .inserted .below c (omega (arith, put .from)) ∙ g .stays .same c h }
 
-    put-table : Sorted line after used (used + (count + 1))
-    put-table = let z : used + count + 1 ≡ used + (count + 1) = omega arith in subst (λ (e : ℕ). Sorted line after used e) z (sorted-still (g .table) (put .from) (put .within) sort-room spells (put .between) (put .inserted))
+    put-table : Rises line after used (used + (count + 1))
+    put-table = let z : used + count + 1 ≡ used + (count + 1) = omega arith in subst (λ (e : ℕ). Rises line after used e) z (rises-still (g .table) (put .from) (put .within) sort-room spells (put .between) (put .inserted))
 
     module _ {e : ℕ} (m : MemberEnds levels line i e) where
       module _ {x : Position} (b : PartTold line e 125 x) where

@@ -4,12 +4,12 @@ use jsonnames::find;
 use jsonnames::insert;
 ghost use Prim.Native.Nat.{_<_, _≤_};
 ghost use lib.ListN.{length};
-ghost use Rattle.jsonnames.specs.Sorted.{Sorted};
+ghost use Rattle.jsonnames.specs.Sorted.{Rises};
 ghost use Rattle.jsonsort.specs.Sort.{KeptTold};
 
 // a name that is not among them yet, put where it belongs
 pub fn keep(line: &[u8], names: &mut [u64], first: usize, end: usize, at: usize)
-    requires { ⌜ Sorted (now line) (now names) first end ⌝ }
+    requires { ⌜ Rises (now line) (now names) first end ⌝ }
     requires { ⌜ end < length (now names) ⌝ }
     requires { ⌜ at ≤ length (now line) ⌝ }
     ensures { λ _. ⌜ KeptTold (now (line .entry)) (now (names .entry)) (now (names .exit)) first end at ⌝ }

@@ -1,4 +1,4 @@
--- Two runs become one, the lower one set aside
+-- Two runs become one, the upper one set aside
 use mathlib.Core.Path.{_≡_, refl, sym, ap, subst, _∙_}
 use mathlib.Core.Bool.{Bool, true, false}
 use mathlib.Core.List.{List}
@@ -12,58 +12,56 @@ use Rattle.jsonread.specs.declared.names.Order.{Order}
 use Rattle.jsonread.specs.declared.names.Order.the-variants.{Less, Same, More}
 use Rattle.jsonread.specs.Spelling.{orderOf, OrderTold}
 use Rattle.jsonnames.specs.Sorted.{Spells, Named, Rises}
-use Rattle.jsonnames.specs.Merges.{Has, Pair, Aside, CopyTold, FirstDue, FirstTold, Merged}
+use Rattle.jsonnames.specs.Merges.{Has, Pair, Aside, CopyTold, LaterDue, LaterTold, OrderedTold, Merged}
 use Rattle.jsonnames.proofs.Order.{order-equal, order-flip, order-on}
 use Rattle.jsonnames.proofs.Halves.{spells-one, moved-to}
 use Rattle.jsonnames.proofs.Stays.{has-wider, rises-kept}
 
 -- ---- copied
 
-pub record Copying (low mid high : ℕ) (names after : List ℕ) (i : ℕ) : Type 0 where
-  pub from : low ≤ i
-  pub to : i ≤ mid
-  pub order : mid ≤ high
-  pub room : high + (mid - low) ≤ length names
+pub record Copying (mid high : ℕ) (names after : List ℕ) (i : ℕ) : Type 0 where
+  pub from : mid ≤ i
+  pub to : i ≤ high
+  pub room : high + (high - mid) ≤ length names
   pub long : length after ≡ length names
   pub below : (k : ℕ) → k < high → getD after k 0 ≡ getD names k 0
-  pub copied : (k : ℕ) → low ≤ k → k < i → getD after (high + (k - low)) 0 ≡ getD names k 0
+  pub copied : (k : ℕ) → mid ≤ k → k < i → getD after (high + (k - mid)) 0 ≡ getD names k 0
 
-pub copy-start : {low mid high : ℕ} {names : List ℕ} → low ≤ mid → mid ≤ high → high + (mid - low) ≤ length names → Copying low mid high names names low
-copy-start a b c = record { from = omega arith; to = a; order = b; room = c; long = refl; below = λ k h. refl; copied = λ k h l. absurd (omega arith) }
+pub copy-start : {mid high : ℕ} {names : List ℕ} → mid ≤ high → high + (high - mid) ≤ length names → Copying mid high names names mid
+copy-start a c = record { from = omega arith; to = a; room = c; long = refl; below = λ k h. refl; copied = λ k h l. absurd (omega arith) }
 
-module _ {low mid high i : ℕ} {names after : List ℕ} (g : Copying low mid high names after i) where
-  pub copy-done : mid ≤ i → CopyTold low mid high names after
+module _ {mid high i : ℕ} {names after : List ℕ} (g : Copying mid high names after i) where
+  pub copy-done : high ≤ i → CopyTold mid high names after
   copy-done h = record { long = g .long; below = g .below; copied = λ k a b. g .copied k a (omega arith) }
 
-  module _ (h : i < mid) where
+  module _ (h : i < high) where
     pub copy-read : i < length after
-    copy-read = omega (arith, g .room, g .long, g .from, g .order)
+    copy-read = omega (arith, g .room, g .long, g .from)
 
-    pub copy-write : high + (i - low) < length after
+    pub copy-write : high + (i - mid) < length after
     copy-write = omega (arith, g .room, g .long, g .from)
 
     abbrev next : List ℕ
-    next = set after (high + (i - low)) (getD after i 0)
+    next = set after (high + (i - mid)) (getD after i 0)
 
-    pub copy-on : Copying low mid high names next (i + 1)
+    pub copy-on : Copying mid high names next (i + 1)
     copy-on =
         record {
           from = omega (arith, g .from);
           to = omega arith;
-          order = g .order;
           room = g .room;
-          long = length-set after (high + (i - low)) (getD after i 0) ∙ g .long;
-          below = λ k l. getD-set-other after (high + (i - low)) k (getD after i 0) 0 (omega arith) ∙ g .below k l;
+          long = length-set after (high + (i - mid)) (getD after i 0) ∙ g .long;
+          below = λ k l. getD-set-other after (high + (i - mid)) k (getD after i 0) 0 (omega arith) ∙ g .below k l;
           copied = λ k a b. go k a b (ltb k i) refl;
         }
       where
-        go : (k : ℕ) → low ≤ k → k < i + 1 → (x : Bool) → ltb k i ≡ x → getD next (high + (k - low)) 0 ≡ getD names k 0
-        go k a b true q = getD-set-other after (high + (i - low)) (high + (k - low)) (getD after i 0) 0 (omega (arith, ltb-true k i q)) ∙ g .copied k a (ltb-true k i q)
+        go : (k : ℕ) → mid ≤ k → k < i + 1 → (x : Bool) → ltb k i ≡ x → getD next (high + (k - mid)) 0 ≡ getD names k 0
+        go k a b true q = getD-set-other after (high + (i - mid)) (high + (k - mid)) (getD after i 0) 0 (omega (arith, ltb-true k i q)) ∙ g .copied k a (ltb-true k i q)
         go k a b false q =
             let e : k ≡ i = omega (arith, ltb-false k i q) in
-            ap (λ (x : ℕ). getD next (high + (x - low)) 0) e ∙ getD-set-same after (high + (i - low)) (getD after i 0) 0 copy-write ∙ g .below i (omega (arith, g .order)) ∙ ap (λ (x : ℕ). getD names x 0) (sym e)
+            ap (λ (x : ℕ). getD next (high + (x - mid)) 0) e ∙ getD-set-same after (high + (i - mid)) (getD after i 0) 0 copy-write ∙ g .below i h ∙ ap (λ (x : ℕ). getD names x 0) (sym e)
 
-pub pair-aside : {line names after : List ℕ} {low mid high : ℕ} → Pair line names low mid high → mid - low ≤ length names - high → CopyTold low mid high names after → Aside line after low mid high
+pub pair-aside : {line names after : List ℕ} {low mid high : ℕ} → Pair line names low mid high → high - mid ≤ length names - high → CopyTold mid high names after → Aside line after low mid high
 pair-aside p r c =
     record {
       pair =
@@ -73,10 +71,10 @@ pair-aside p r c =
             differ = λ i j n f h g s t. p .differ i j n f h g (rw (c .below i (omega arith)) at s) (rw (c .below j g) at t);
           };
       room = omega (arith, c .long, p .upper .within);
-      copied = λ k a b. c .copied k a b ∙ sym (c .below k (omega (arith, p .upper .from)));
+      copied = λ k a b. c .copied k a b ∙ sym (c .below k b);
     }
 
-pub merged-aside : {line names copied after : List ℕ} {low mid high : ℕ} → Pair line names low mid high → CopyTold low mid high names copied → Merged line copied after low high → Merged line names after low high
+pub merged-aside : {line names copied after : List ℕ} {low mid high : ℕ} → Pair line names low mid high → CopyTold mid high names copied → Merged line copied after low high → Merged line names after low high
 merged-aside {low = low} {mid} {high} p c m =
     record {
       long = m .long ∙ c .long;
@@ -86,87 +84,43 @@ merged-aside {low = low} {mid} {high} p c m =
       old = λ k f h. let o = m .old k f h in record { cell = o .cell; from = o .from; below = o .below; is = sym (c .below (o .cell) (o .below)) ∙ o .is };
     }
 
--- ---- which is next
+-- nothing is to be done
+pub merged-none : {line names : List ℕ} {low high : ℕ} {r : Bool} → OrderedTold line names low high r → r ≡ true → Merged line names names low high
+merged-none o e =
+    record {
+      long = refl;
+      rises = o .rises e;
+      below = λ k h. refl;
+      kept = λ k f h. record { cell = k; from = f; below = h; is = refl };
+      old = λ k f h. record { cell = k; from = f; below = h; is = refl };
+    }
 
-module _ {line names : List ℕ} {j high at : ℕ} (d : FirstDue line names j high at) where
-  pub first-none : high ≤ j → FirstTold line names j high at true
-  first-none h = record { less = λ e l. absurd (omega arith); more = λ e. absurd (let z : _≡_ {A = ℕ} 0 1 = cc in omega arith); there = λ e. absurd (let z : _≡_ {A = ℕ} 0 1 = cc in omega arith) }
+-- ---- which is later
 
-  module _ (l : j < high) where
-    pub first-read : j < length names
-    first-read = omega (arith, d .within)
+tells : {line : List ℕ} (p at : ℕ) {o : Order} → OrderTold line p at o → (x : Order) → o ≡ x → (m n : List ℕ) → Spells line p m → Spells line at n → orderOf m n ≡ x
+tells p at t x e m n s u = sym (t m n (s .rest) (u .rest) (s .is) (u .is)) ∙ e
 
-    pub first-place : getD names j 0 ≤ length line
-    first-place = d .places j (omega arith) l
+module _ {line : List ℕ} {p at : ℕ} {o : Order} (t : OrderTold line p at o) where
+  pub later-more : o ≡ More → LaterTold line p at false
+  later-more e = record { more = λ e. absurd (let z : _≡_ {A = ℕ} 0 1 = cc in omega arith); less = λ z m n s u. order-flip m n (tells p at t More e m n s u) }
 
-    pub first-at : at ≤ length line
-    first-at = d .named .spells .within
+  pub later-less : o ≡ Less → LaterTold line p at true
+  later-less e = record { more = λ z m n s u d. tells p at t Less e m n s u; less = λ e. absurd (let z : _≡_ {A = ℕ} 0 1 = cc in omega arith) }
 
-    module _ {o : Order} (t : OrderTold line at (getD names j 0) o) where
-      tells : (x : Order) → o ≡ x → (m n : List ℕ) → Spells line at m → Spells line (getD names j 0) n → orderOf m n ≡ x
-      tells x e m n s u = sym (t m n (s .rest) (u .rest) (s .is) (u .is)) ∙ e
+  pub later-same : o ≡ Same → LaterTold line p at true
+  later-same e = record { more = λ z m n s u d. absurd (d (order-equal m n (tells p at t Same e m n s u))); less = λ e. absurd (let z : _≡_ {A = ℕ} 0 1 = cc in omega arith) }
 
-      pub first-more : o ≡ More → FirstTold line names j high at false
-      first-more e = record { less = λ e. absurd (let z : _≡_ {A = ℕ} 0 1 = cc in omega arith); more = λ z m n s u. order-flip m n (tells More e m n s u); there = λ z. l }
-
-      pub first-less : o ≡ Less → FirstTold line names j high at true
-      first-less e = record { less = λ z h m n s u d. tells Less e m n s u; more = λ e. absurd (let z : _≡_ {A = ℕ} 0 1 = cc in omega arith); there = λ e. absurd (let z : _≡_ {A = ℕ} 0 1 = cc in omega arith) }
-
-      pub first-same : o ≡ Same → FirstTold line names j high at true
-      first-same e = record { less = λ z h m n s u d. absurd (d (order-equal m n (tells Same e m n s u))); more = λ e. absurd (let z : _≡_ {A = ℕ} 0 1 = cc in omega arith); there = λ e. absurd (let z : _≡_ {A = ℕ} 0 1 = cc in omega arith) }
-
--- ---- put one after another
-
--- in one of two stretches
-pub data In (a b c d y : ℕ) : Type 0 where
-  one : a ≤ y → y < b → In a b c d y
-  two : c ≤ y → y < d → In a b c d y
-
-pub record Source (names : List ℕ) (low i mid j p : ℕ) : Type 0 where
-  pub index : ℕ
-  pub taken : In low i mid j index
-  pub is : p ≡ getD names index 0
-
--- up to a cell those that were taken, which rise and are less than those left
-pub record Placed (line names after : List ℕ) (low mid high i j k : ℕ) : Type 0 where
-  pub old : (x : ℕ) → low ≤ x → x < k → Source names low i mid j (getD after x 0)
-  pub kept : (y : ℕ) → In low i mid j y → Has after low k (getD names y 0)
-  pub rising : (x y : ℕ) (m n : List ℕ) → low ≤ x → x < y → y < k → Spells line (getD after x 0) m → Spells line (getD after y 0) n → orderOf m n ≡ Less
-  pub less : (x y : ℕ) (m n : List ℕ) → low ≤ x → x < k → In i mid j high y → Spells line (getD after x 0) m → Spells line (getD names y 0) n → orderOf m n ≡ Less
-
--- one of those that were taken before, or the last
-data Latest (low i mid j z y : ℕ) : Type 0 where
-  before : In low i mid j y → Latest low i mid j z y
-  now : y ≡ z → Latest low i mid j z y
-
--- one more is taken, the least of those left
-module _ {line names after : List ℕ} {low mid high i j i′ j′ k z : ℕ} (next : List ℕ) (p : Placed line names after low mid high i j k) (from : low ≤ k) (same : (x : ℕ) → x < k → getD next x 0 ≡ getD after x 0) (here : getD next k 0 ≡ getD names z 0) (left : In i mid j high z) (taken : In low i′ mid j′ z) (latest : (y : ℕ) → In low i′ mid j′ y → Latest low i mid j z y) (still : (y : ℕ) → In low i mid j y → In low i′ mid j′ y) (fewer : (y : ℕ) → In i′ mid j′ high y → In i mid j high y) (least : (y : ℕ) (m n : List ℕ) → In i′ mid j′ high y → Spells line (getD names z 0) m → Spells line (getD names y 0) n → orderOf m n ≡ Less) where
-  at-last : (x : ℕ) → x < k + 1 → ltb x k ≡ false → getD next x 0 ≡ getD names z 0
-  at-last x h q = let e : x ≡ k = omega (arith, ltb-false x k q) in ap (λ (y : ℕ). getD next y 0) e ∙ here
-
-  placed-more : Placed line names next low mid high i′ j′ (k + 1)
-  placed-more =
-      record {
-        old = λ x f h. go-old x f h (ltb x k) refl;
-        kept = λ y t. elim (latest y t) [
-          | before u ↦ (let h = p .kept y u in record { cell = h .cell; from = h .from; below = omega (arith, h .below); is = same (h .cell) (h .below) ∙ h .is })
-          | now e ↦ record { cell = k; from = from; below = omega arith; is = here ∙ ap (λ (x : ℕ). getD names x 0) (sym e) }
-        ];
-        rising = λ x y m n f h g s t. go-rising x y m n f h g s t (ltb y k) refl;
-        less = λ x y m n f h l s t. go-less x y m n f h l s t (ltb x k) refl;
-      }
-    where
-      go-old : (x : ℕ) → low ≤ x → x < k + 1 → (b : Bool) → ltb x k ≡ b → Source names low i′ mid j′ (getD next x 0)
-      go-old x f h true q = let s = p .old x f (ltb-true x k q) in record { index = s .index; taken = still (s .index) (s .taken); is = same x (ltb-true x k q) ∙ s .is }
-      go-old x f h false q = record { index = z; taken = taken; is = at-last x h q }
-
-      go-rising : (x y : ℕ) (m n : List ℕ) → low ≤ x → x < y → y < k + 1 → Spells line (getD next x 0) m → Spells line (getD next y 0) n → (b : Bool) → ltb y k ≡ b → orderOf m n ≡ Less
-      go-rising x y m n f h g s t true q = p .rising x y m n f h (ltb-true y k q) (moved-to (same x (omega (arith, ltb-true y k q))) s) (moved-to (same y (ltb-true y k q)) t)
-      go-rising x y m n f h g s t false q = p .less x z m n f (omega arith) left (moved-to (same x (omega arith)) s) (moved-to (at-last y g q) t)
-
-      go-less : (x y : ℕ) (m n : List ℕ) → low ≤ x → x < k + 1 → In i′ mid j′ high y → Spells line (getD next x 0) m → Spells line (getD names y 0) n → (b : Bool) → ltb x k ≡ b → orderOf m n ≡ Less
-      go-less x y m n f h l s t true q = p .less x y m n f (ltb-true x k q) (fewer y l) (moved-to (same x (ltb-true x k q)) s) t
-      go-less x y m n f h l s t false q = least y m n l (moved-to (at-last x h q) s) t
+-- up to a name less than another, all are less
+up-to : {line names : List ℕ} {low high : ℕ} → Rises line names low high → (a : ℕ) → a < high → (o n : List ℕ) → Spells line (getD names a 0) o → orderOf o n ≡ Less → (y : ℕ) (m : List ℕ) → low ≤ y → y ≤ a → Spells line (getD names y 0) m → orderOf m n ≡ Less
+up-to {line} {names} r a f o n s l y m h k t =
+    go (ltb y a) refl
+  where
+    go : (b : Bool) → ltb y a ≡ b → orderOf m n ≡ Less
+    go true q = order-on m o n (r .rising y a m o h (ltb-true y a q) f t s) l
+    go false q =
+        let e : y ≡ a = omega (arith, ltb-false y a q) in
+        let z : m ≡ o = spells-one (moved-to (ap (λ (x : ℕ). getD names x 0) e) t) s in
+        ap (λ (m : List ℕ). orderOf m n) z ∙ l
 
 -- less than a name, so less than those from it on
 on-from : {line names : List ℕ} {low high : ℕ} → Rises line names low high → (a : ℕ) → low ≤ a → (m o : List ℕ) → Spells line (getD names a 0) o → orderOf m o ≡ Less → (y : ℕ) (n : List ℕ) → a ≤ y → y < high → Spells line (getD names y 0) n → orderOf m n ≡ Less
@@ -180,6 +134,105 @@ on-from {line} {names} r a f m o s l y n h k t =
         let z : n ≡ o = spells-one (moved-to (ap (λ (x : ℕ). getD names x 0) e) t) s in
         ap (λ (n : List ℕ). orderOf m n) z ∙ l
 
+-- ---- in order as they are
+
+module _ {line names : List ℕ} {low mid high : ℕ} (p : Pair line names low mid high) where
+  pub order-lower : mid ≤ low → OrderedTold line names low high true
+  order-lower h = let z : mid ≡ low = omega (arith, p .lower .from) in record { rises = λ e. subst (λ (k : ℕ). Rises line names k high) z (p .upper) }
+
+  pub order-upper : high ≤ mid → OrderedTold line names low high true
+  order-upper h = let z : mid ≡ high = omega (arith, p .upper .from) in record { rises = λ e. subst (λ (k : ℕ). Rises line names low k) z (p .lower) }
+
+  module _ (a : low < mid) (b : mid < high) where
+    first : Named line (getD names mid 0)
+    first = p .upper .named mid (omega arith) b
+
+    last : Named line (getD names (mid - 1) 0)
+    last = p .lower .named (mid - 1) (omega arith) (omega arith)
+
+    pub order-due : LaterDue line (getD names (mid - 1) 0) (getD names mid 0)
+    order-due = record { other = last .spells .within; place = first .spells .within }
+
+    risen : {r : Bool} → LaterTold line (getD names (mid - 1) 0) (getD names mid 0) r → r ≡ true → Rises line names low high
+    risen t e =
+        record {
+          from = omega arith;
+          within = p .upper .within;
+          named = λ k f h. go-named k f h (ltb k mid) refl;
+          rising = λ i j m n f h g s u. go-rising i j m n f h g s u (ltb i mid) (ltb j mid) refl refl;
+        }
+      where
+        between : orderOf (last .name) (first .name) ≡ Less
+        between = t .more e (last .name) (first .name) (last .spells) (first .spells) (λ z. p .differ (mid - 1) mid (first .name) (omega arith) (omega arith) b (subst (λ (m : List ℕ). Spells line (getD names (mid - 1) 0) m) z (last .spells)) (first .spells))
+
+        go-named : (k : ℕ) → low ≤ k → k < high → (x : Bool) → ltb k mid ≡ x → Named line (getD names k 0)
+        go-named k f h true q = p .lower .named k f (ltb-true k mid q)
+        go-named k f h false q = p .upper .named k (ltb-false k mid q) h
+
+        go-rising : (i j : ℕ) (m n : List ℕ) → low ≤ i → i < j → j < high → Spells line (getD names i 0) m → Spells line (getD names j 0) n → (x y : Bool) → ltb i mid ≡ x → ltb j mid ≡ y → orderOf m n ≡ Less
+        go-rising i j m n f h g s u x true c d = p .lower .rising i j m n f h (ltb-true j mid d) s u
+        go-rising i j m n f h g s u true false c d =
+            on-from (p .upper) mid (omega arith) m (first .name) (first .spells)
+            (up-to (p .lower) (mid - 1) (omega arith) (last .name) (first .name) (last .spells) between i m f (omega (arith, ltb-true i mid c)) s)
+            j n (ltb-false j mid d) g u
+        go-rising i j m n f h g s u false false c d = p .upper .rising i j m n (ltb-false i mid c) h g s u
+
+    pub order-told : {r : Bool} → LaterTold line (getD names (mid - 1) 0) (getD names mid 0) r → OrderedTold line names low high r
+    order-told t = record { rises = λ e. risen t e }
+
+-- ---- put one after another, from the end on
+
+-- in one of two stretches
+pub data In (a b c d y : ℕ) : Type 0 where
+  one : a ≤ y → y < b → In a b c d y
+  two : c ≤ y → y < d → In a b c d y
+
+pub record Source (names : List ℕ) (i mid j high p : ℕ) : Type 0 where
+  pub index : ℕ
+  pub taken : In i mid j high index
+  pub is : p ≡ getD names index 0
+
+-- from a cell on those that were taken, which rise and are more than those left
+pub record Placed (line names after : List ℕ) (low mid high i j k : ℕ) : Type 0 where
+  pub old : (x : ℕ) → k ≤ x → x < high → Source names i mid j high (getD after x 0)
+  pub kept : (y : ℕ) → In i mid j high y → Has after k high (getD names y 0)
+  pub rising : (x y : ℕ) (m n : List ℕ) → k ≤ x → x < y → y < high → Spells line (getD after x 0) m → Spells line (getD after y 0) n → orderOf m n ≡ Less
+  pub less : (x y : ℕ) (m n : List ℕ) → k ≤ x → x < high → In low i mid j y → Spells line (getD names y 0) m → Spells line (getD after x 0) n → orderOf m n ≡ Less
+
+-- one of those that were taken before, or the last
+data Latest (i mid j high z y : ℕ) : Type 0 where
+  before : In i mid j high y → Latest i mid j high z y
+  now : y ≡ z → Latest i mid j high z y
+
+-- one more is taken, the greatest of those left
+module _ {line names after : List ℕ} {low mid high i j i′ j′ k z : ℕ} (next : List ℕ) (p : Placed line names after low mid high i j (k + 1)) (below : k < high) (same : (x : ℕ) → k < x → getD next x 0 ≡ getD after x 0) (here : getD next k 0 ≡ getD names z 0) (left : In low i mid j z) (taken : In i′ mid j′ high z) (latest : (y : ℕ) → In i′ mid j′ high y → Latest i mid j high z y) (still : (y : ℕ) → In i mid j high y → In i′ mid j′ high y) (fewer : (y : ℕ) → In low i′ mid j′ y → In low i mid j y) (greatest : (y : ℕ) (m n : List ℕ) → In low i′ mid j′ y → Spells line (getD names y 0) m → Spells line (getD names z 0) n → orderOf m n ≡ Less) where
+  at-first : (x : ℕ) → k ≤ x → ltb k x ≡ false → getD next x 0 ≡ getD names z 0
+  at-first x h q = let e : x ≡ k = omega (arith, ltb-false k x q) in ap (λ (y : ℕ). getD next y 0) e ∙ here
+
+  placed-more : Placed line names next low mid high i′ j′ k
+  placed-more =
+      record {
+        old = λ x f h. go-old x f h (ltb k x) refl;
+        kept = λ y t. elim (latest y t) [
+          | before u ↦ (let h = p .kept y u in record { cell = h .cell; from = omega (arith, h .from); below = h .below; is = same (h .cell) (omega (arith, h .from)) ∙ h .is })
+          | now e ↦ record { cell = k; from = omega arith; below = below; is = here ∙ ap (λ (x : ℕ). getD names x 0) (sym e) }
+        ];
+        rising = λ x y m n f h g s t. go-rising x y m n f h g s t (ltb k x) refl;
+        less = λ x y m n f h l s t. go-less x y m n f h l s t (ltb k x) refl;
+      }
+    where
+      go-old : (x : ℕ) → k ≤ x → x < high → (b : Bool) → ltb k x ≡ b → Source names i′ mid j′ high (getD next x 0)
+      go-old x f h true q = let s = p .old x (omega (arith, ltb-true k x q)) h in record { index = s .index; taken = still (s .index) (s .taken); is = same x (ltb-true k x q) ∙ s .is }
+      go-old x f h false q = record { index = z; taken = taken; is = at-first x f q }
+
+      go-rising : (x y : ℕ) (m n : List ℕ) → k ≤ x → x < y → y < high → Spells line (getD next x 0) m → Spells line (getD next y 0) n → (b : Bool) → ltb k x ≡ b → orderOf m n ≡ Less
+      go-rising x y m n f h g s t true q = p .rising x y m n (omega (arith, ltb-true k x q)) h g (moved-to (same x (ltb-true k x q)) s) (moved-to (same y (omega arith)) t)
+      go-rising x y m n f h g s t false q = p .less y z m n (omega arith) g left (moved-to (at-first x f q) s) (moved-to (same y (omega arith)) t)
+
+      go-less : (x y : ℕ) (m n : List ℕ) → k ≤ x → x < high → In low i′ mid j′ y → Spells line (getD names y 0) m → Spells line (getD next x 0) n → (b : Bool) → ltb k x ≡ b → orderOf m n ≡ Less
+      go-less x y m n f h l s t true q = p .less x y m n (omega (arith, ltb-true k x q)) h (fewer y l) s (moved-to (same x (ltb-true k x q)) t)
+      go-less x y m n f h l s t false q = greatest y m n l s (moved-to (at-first x f q) t)
+
 pub record Joining (line names after : List ℕ) (low mid high i j : ℕ) : Type 0 where
   pub aside : Aside line names low mid high
   pub from : low ≤ i
@@ -188,28 +241,28 @@ pub record Joining (line names after : List ℕ) (low mid high i j : ℕ) : Type
   pub upper-to : j ≤ high
   pub long : length after ≡ length names
   pub below : (k : ℕ) → k < low → getD after k 0 ≡ getD names k 0
-  pub copied : (k : ℕ) → i ≤ k → k < mid → getD after (high + (k - low)) 0 ≡ getD names k 0
-  pub left : (k : ℕ) → j ≤ k → k < high → getD after k 0 ≡ getD names k 0
+  pub copied : (k : ℕ) → mid ≤ k → k < j → getD after (high + (k - mid)) 0 ≡ getD names k 0
+  pub left : (k : ℕ) → low ≤ k → k < i → getD after k 0 ≡ getD names k 0
   pub placed : Placed line names after low mid high i j (i + (j - mid))
 
-pub join-start : {line names : List ℕ} {low mid high : ℕ} → Aside line names low mid high → Joining line names names low mid high low mid
+pub join-start : {line names : List ℕ} {low mid high : ℕ} → Aside line names low mid high → Joining line names names low mid high mid high
 join-start a =
     record {
       aside = a;
-      from = omega arith;
-      to = a .pair .lower .from;
-      upper-from = omega arith;
-      upper-to = a .pair .upper .from;
+      from = a .pair .lower .from;
+      to = omega arith;
+      upper-from = a .pair .upper .from;
+      upper-to = omega arith;
       long = refl;
       below = λ k h. refl;
       copied = λ k h l. a .copied k h l;
       left = λ k h l. refl;
       placed =
           record {
-            old = λ x f h. absurd (omega arith);
+            old = λ x f h. absurd (omega (arith, a .pair .upper .from));
             kept = λ y t. elim t [ one f h ↦ absurd (omega arith) | two f h ↦ absurd (omega arith) ];
-            rising = λ x y m n f h g s t. absurd (omega arith);
-            less = λ x y m n f h l s t. absurd (omega arith);
+            rising = λ x y m n f h g s t. absurd (omega (arith, a .pair .upper .from));
+            less = λ x y m n f h l s t. absurd (omega (arith, a .pair .upper .from));
           };
     }
 
@@ -220,184 +273,194 @@ module _ {line names after : List ℕ} {low mid high i j : ℕ} (g : Joining lin
   upper : Rises line names mid high
   upper = g .aside .pair .upper
 
-  named : (y : ℕ) → In low i mid j y → Named line (getD names y 0)
-  named y (one f h) = lower .named y f (omega (arith, g .to))
-  named y (two f h) = upper .named y f (omega (arith, g .upper-to))
+  named : (y : ℕ) → In i mid j high y → Named line (getD names y 0)
+  named y (one f h) = lower .named y (omega (arith, g .from)) h
+  named y (two f h) = upper .named y (omega (arith, g .upper-from)) h
 
-  pub join-done : mid ≤ i → Merged line names after low high
+  pub join-done : j ≤ mid → Merged line names after low high
   join-done h =
       record {
         long = g .long;
         rises =
             record {
-              from = omega (arith, g .from, g .upper-from, g .upper-to);
+              from = omega (arith, g .from, g .to, upper .from);
               within = omega (arith, upper .within, g .long);
-              named = λ x f l. go-named x f l (ltb x j) refl;
-              rising = λ x y m n f l k s t. go-rising x y m n f l k s t (ltb x j) (ltb y j) refl refl;
+              named = λ x f l. go-named x f l (ltb x i) refl;
+              rising = λ x y m n f l k s t. go-rising x y m n f l k s t (ltb x i) (ltb y i) refl refl;
             };
         below = g .below;
-        kept = λ y f l. go-kept y f l (ltb y mid) (ltb y j) refl refl;
-        old = λ x f l. go-old x f l (ltb x j) refl;
+        kept = λ y f l. go-kept y f l (ltb y i) (ltb y mid) refl refl;
+        old = λ x f l. go-old x f l (ltb x i) refl;
       }
     where
-      put : (x : ℕ) → x < j → x < i + (j - mid)
-      put x l = omega (arith, g .to, g .upper-from)
+      put : (x : ℕ) → i ≤ x → i + (j - mid) ≤ x
+      put x l = omega arith
 
-      go-named : (x : ℕ) → low ≤ x → x < high → (b : Bool) → ltb x j ≡ b → Named line (getD after x 0)
-      go-named x f l true q = let s = g .placed .old x f (put x (ltb-true x j q)) in subst (λ (p : ℕ). Named line p) (sym (s .is)) (named (s .index) (s .taken))
-      go-named x f l false q = subst (λ (p : ℕ). Named line p) (sym (g .left x (ltb-false x j q) l)) (upper .named x (omega (arith, ltb-false x j q, g .upper-from)) l)
+      go-named : (x : ℕ) → low ≤ x → x < high → (b : Bool) → ltb x i ≡ b → Named line (getD after x 0)
+      go-named x f l true q = subst (λ (p : ℕ). Named line p) (sym (g .left x f (ltb-true x i q))) (lower .named x f (omega (arith, ltb-true x i q, g .to)))
+      go-named x f l false q = let s = g .placed .old x (put x (ltb-false x i q)) l in subst (λ (p : ℕ). Named line p) (sym (s .is)) (named (s .index) (s .taken))
 
-      go-rising : (x y : ℕ) (m n : List ℕ) → low ≤ x → x < y → y < high → Spells line (getD after x 0) m → Spells line (getD after y 0) n → (b c : Bool) → ltb x j ≡ b → ltb y j ≡ c → orderOf m n ≡ Less
-      go-rising x y m n f l k s t b true p q = g .placed .rising x y m n f l (put y (ltb-true y j q)) s t
-      go-rising x y m n f l k s t true false p q = g .placed .less x y m n f (put x (ltb-true x j p)) (two (ltb-false y j q) k) s (moved-to (g .left y (ltb-false y j q) k) t)
-      go-rising x y m n f l k s t false false p q =
-          upper .rising x y m n (omega (arith, ltb-false x j p, g .upper-from)) l k (moved-to (g .left x (ltb-false x j p) (omega arith)) s) (moved-to (g .left y (ltb-false y j q) k) t)
+      go-rising : (x y : ℕ) (m n : List ℕ) → low ≤ x → x < y → y < high → Spells line (getD after x 0) m → Spells line (getD after y 0) n → (b c : Bool) → ltb x i ≡ b → ltb y i ≡ c → orderOf m n ≡ Less
+      go-rising x y m n f l k s t b true p q =
+          lower .rising x y m n f l (omega (arith, ltb-true y i q, g .to)) (moved-to (g .left x f (omega (arith, ltb-true y i q))) s) (moved-to (g .left y (omega arith) (ltb-true y i q)) t)
+      go-rising x y m n f l k s t true false p q = g .placed .less y x m n (put y (ltb-false y i q)) k (one f (ltb-true x i p)) (moved-to (g .left x f (ltb-true x i p)) s) t
+      go-rising x y m n f l k s t false false p q = g .placed .rising x y m n (put x (ltb-false x i p)) l k s t
 
-      widely : (p : ℕ) → Has after low (i + (j - mid)) p → Has after low high p
-      widely p a = has-wider low high (omega arith) (omega (arith, g .to, g .upper-from, g .upper-to)) a
+      widely : (p : ℕ) → Has after (i + (j - mid)) high p → Has after low high p
+      widely p a = has-wider low high (omega (arith, g .from)) (omega arith) a
 
-      go-kept : (y : ℕ) → low ≤ y → y < high → (b c : Bool) → ltb y mid ≡ b → ltb y j ≡ c → Has after low high (getD names y 0)
-      go-kept y f l true c p q = widely (getD names y 0) (g .placed .kept y (one f (omega (arith, ltb-true y mid p))))
-      go-kept y f l false true p q = widely (getD names y 0) (g .placed .kept y (two (ltb-false y mid p) (ltb-true y j q)))
-      go-kept y f l false false p q = record { cell = y; from = f; below = l; is = g .left y (ltb-false y j q) l }
+      go-kept : (y : ℕ) → low ≤ y → y < high → (b c : Bool) → ltb y i ≡ b → ltb y mid ≡ c → Has after low high (getD names y 0)
+      go-kept y f l true c p q = record { cell = y; from = f; below = l; is = g .left y f (ltb-true y i p) }
+      go-kept y f l false true p q = widely (getD names y 0) (g .placed .kept y (one (ltb-false y i p) (ltb-true y mid q)))
+      go-kept y f l false false p q = widely (getD names y 0) (g .placed .kept y (two (omega (arith, ltb-false y mid q)) l))
 
-      range : {x : ℕ} → In low i mid j x → (low ≤ x) × (x < high)
-      range (one f h) = (f, omega (arith, g .to, g .upper-from, g .upper-to))
-      range (two f h) = (omega (arith, g .from, g .to), omega (arith, g .upper-to))
+      range : {x : ℕ} → In i mid j high x → (low ≤ x) × (x < high)
+      range (one f l) = (omega (arith, g .from), omega (arith, upper .from))
+      range (two f l) = (omega (arith, g .from, g .to, g .upper-from), l)
 
-      go-old : (x : ℕ) → low ≤ x → x < high → (b : Bool) → ltb x j ≡ b → Has names low high (getD after x 0)
-      go-old x f l true q = let s = g .placed .old x f (put x (ltb-true x j q)) in record { cell = s .index; from = range (s .taken) .0; below = range (s .taken) .1; is = sym (s .is) }
-      go-old x f l false q = record { cell = x; from = f; below = l; is = sym (g .left x (ltb-false x j q) l) }
+      go-old : (x : ℕ) → low ≤ x → x < high → (b : Bool) → ltb x i ≡ b → Has names low high (getD after x 0)
+      go-old x f l true q = record { cell = x; from = f; below = l; is = sym (g .left x f (ltb-true x i q)) }
+      go-old x f l false q = let s = g .placed .old x (put x (ltb-false x i q)) l in record { cell = s .index; from = range (s .taken) .0; below = range (s .taken) .1; is = sym (s .is) }
 
-  module _ (h : i < mid) where
-    pub join-read : high + (i - low) < length after
-    join-read = omega (arith, g .aside .room, g .long, g .from)
+  module _ (h : mid < j) where
+    pub join-read : high + (j - 1 - mid) < length after
+    join-read = omega (arith, g .aside .room, g .long, g .upper-to)
 
-    pub join-write : i + (j - mid) < length after
-    join-write = omega (arith, upper .within, g .long, g .upper-from, g .upper-to)
+    pub join-write : i + (j - 1 - mid) < length after
+    join-write = omega (arith, upper .within, g .long, g .upper-to, g .to)
 
     abbrev at : ℕ
-    at = getD after (high + (i - low)) 0
+    at = getD after (high + (j - 1 - mid)) 0
 
-    at-is : at ≡ getD names i 0
-    at-is = g .copied i (omega arith) h
+    at-is : at ≡ getD names (j - 1) 0
+    at-is = g .copied (j - 1) (omega arith) (omega arith)
 
-    pub join-due : FirstDue line after j high at
-    join-due =
-        record {
-          named = subst (λ (p : ℕ). Named line p) (sym at-is) (lower .named i (g .from) h);
-          within = omega (arith, upper .within, g .long);
-          places = λ k a b. let n = upper .named k (omega (arith, g .upper-from)) b in rw (g .left k a b) (n .spells .within);
-        }
+    at-named : Named line (getD names (j - 1) 0)
+    at-named = upper .named (j - 1) (omega arith) (omega (arith, g .upper-to))
 
-    apart : j < high → (m n : List ℕ) → Spells line (getD names i 0) m → Spells line (getD names j 0) n → m ≡ n → ⊥
-    apart l m n s t e = g .aside .pair .differ i j n (g .from) (omega (arith, g .upper-from)) l (subst (λ (m : List ℕ). Spells line (getD names i 0) m) e s) t
+    module _ (p : ℕ) (k : ℕ) where
+      abbrev written : List ℕ
+      written = set after k p
 
-    module _ {r : Bool} (t : FirstTold line after j high at r) where
-      pub join-upper-read : r ≡ false → j < length after
-      join-upper-read e = omega (arith, t .there e, upper .within, g .long)
+      next-long : length written ≡ length names
+      next-long = length-set after k p ∙ g .long
 
-      -- the lower one is less than all that are left
-      least-lower : r ≡ true → (y : ℕ) (m n : List ℕ) → In (i + 1) mid j high y → Spells line (getD names i 0) m → Spells line (getD names y 0) n → orderOf m n ≡ Less
-      least-lower e y m n (one f l) s u = lower .rising i y m n (g .from) (omega arith) l s u
-      least-lower e y m n (two f l) s u =
-          let a : j < high = omega arith in
-          let w = upper .named j (g .upper-from) a in
-          let o : orderOf m (w .name) ≡ Less = t .less e a m (w .name) (moved-to (sym at-is) s) (moved-to (sym (g .left j (omega arith) a)) (w .spells)) (apart a m (w .name) s (w .spells)) in
-          on-from upper j (g .upper-from) m (w .name) (w .spells) o y n f l u
+      next-below : (x : ℕ) → x < k → getD written x 0 ≡ getD after x 0
+      next-below x l = getD-set-other after k x p 0 (omega arith)
 
-      -- or the upper one is
-      least-upper : r ≡ false → (y : ℕ) (m n : List ℕ) → In i mid (j + 1) high y → Spells line (getD names j 0) m → Spells line (getD names y 0) n → orderOf m n ≡ Less
-      least-upper e y m n (one f l) s u =
-          let a : j < high = t .there e in
-          let w = lower .named i (g .from) h in
-          let o : orderOf m (w .name) ≡ Less = t .more e (w .name) m (moved-to (sym at-is) (w .spells)) (moved-to (sym (g .left j (omega arith) a)) s) in
-          on-from lower i (g .from) m (w .name) (w .spells) o y n f l u
-      least-upper e y m n (two f l) s u = upper .rising j y m n (g .upper-from) (omega arith) l s u
+      next-above : (x : ℕ) → k < x → getD written x 0 ≡ getD after x 0
+      next-above x l = getD-set-other after k x p 0 (omega arith)
 
-      latest-lower : (y : ℕ) → In low (i + 1) mid j y → Latest low i mid j i y
-      latest-lower y (two f l) = before (two f l)
-      latest-lower y (one f l) =
-          go (ltb y i) refl
-        where
-          go : (b : Bool) → ltb y i ≡ b → Latest low i mid j i y
-          go true q = before (one f (ltb-true y i q))
-          go false q = now (omega (arith, ltb-false y i q))
+    latest-upper : (y : ℕ) → In i mid (j - 1) high y → Latest i mid j high (j - 1) y
+    latest-upper y (one f l) = before (one f l)
+    latest-upper y (two f l) =
+        go (ltb (j - 1) y) refl
+      where
+        go : (b : Bool) → ltb (j - 1) y ≡ b → Latest i mid j high (j - 1) y
+        go true q = before (two (omega (arith, ltb-true (j - 1) y q)) l)
+        go false q = now (omega (arith, ltb-false (j - 1) y q))
 
-      latest-upper : (y : ℕ) → In low i mid (j + 1) y → Latest low i mid j j y
-      latest-upper y (one f l) = before (one f l)
-      latest-upper y (two f l) =
-          go (ltb y j) refl
-        where
-          go : (b : Bool) → ltb y j ≡ b → Latest low i mid j j y
-          go true q = before (two f (ltb-true y j q))
-          go false q = now (omega (arith, ltb-false y j q))
+    still-upper : (y : ℕ) → In i mid j high y → In i mid (j - 1) high y
+    still-upper y (one f l) = one f l
+    still-upper y (two f l) = two (omega arith) l
 
-      still-lower : (y : ℕ) → In low i mid j y → In low (i + 1) mid j y
-      still-lower y (one f l) = one f (omega arith)
-      still-lower y (two f l) = two f l
+    fewer-upper : (y : ℕ) → In low i mid (j - 1) y → In low i mid j y
+    fewer-upper y (one f l) = one f l
+    fewer-upper y (two f l) = two f (omega arith)
 
-      still-upper : (y : ℕ) → In low i mid j y → In low i mid (j + 1) y
-      still-upper y (one f l) = one f l
-      still-upper y (two f l) = two f (omega arith)
+    -- the upper one is put, being after all that are left of the lower run
+    module _ (after-lower : (y : ℕ) (m n : List ℕ) → low ≤ y → y < i → Spells line (getD names y 0) m → Spells line (getD names (j - 1) 0) n → orderOf m n ≡ Less) where
+      greatest-upper : (y : ℕ) (m n : List ℕ) → In low i mid (j - 1) y → Spells line (getD names y 0) m → Spells line (getD names (j - 1) 0) n → orderOf m n ≡ Less
+      greatest-upper y m n (one f l) s u = after-lower y m n f l s u
+      greatest-upper y m n (two f l) s u = upper .rising y (j - 1) m n f l (omega (arith, g .upper-to)) s u
 
-      fewer-lower : (y : ℕ) → In (i + 1) mid j high y → In i mid j high y
-      fewer-lower y (one f l) = one (omega arith) l
-      fewer-lower y (two f l) = two f l
-
-      fewer-upper : (y : ℕ) → In i mid (j + 1) high y → In i mid j high y
-      fewer-upper y (one f l) = one f l
-      fewer-upper y (two f l) = two (omega arith) l
-
-      module _ (p : ℕ) where
-        abbrev written : List ℕ
-        written = set after (i + (j - mid)) p
-
-        next-long : length written ≡ length names
-        next-long = length-set after (i + (j - mid)) p ∙ g .long
-
-        next-below : (k : ℕ) → k < i + (j - mid) → getD written k 0 ≡ getD after k 0
-        next-below k l = getD-set-other after (i + (j - mid)) k p 0 (omega arith)
-
-        next-above : (k : ℕ) → i + (j - mid) < k → getD written k 0 ≡ getD after k 0
-        next-above k l = getD-set-other after (i + (j - mid)) k p 0 (omega arith)
-
-        next-here : getD written (i + (j - mid)) 0 ≡ p
-        next-here = getD-set-same after (i + (j - mid)) p 0 join-write
-
-      pub join-lower : r ≡ true → Joining line names (set after (i + (j - mid)) at) low mid high (i + 1) j
-      join-lower e =
-          record {
-            aside = g .aside;
-            from = omega (arith, g .from);
-            to = omega arith;
-            upper-from = g .upper-from;
-            upper-to = g .upper-to;
-            long = next-long at;
-            below = λ k l. next-below at k (omega (arith, g .from)) ∙ g .below k l;
-            copied = λ k f l. next-above at (high + (k - low)) (omega (arith, g .from, g .upper-from, g .upper-to)) ∙ g .copied k (omega arith) l;
-            left = λ k f l. next-above at k (omega (arith, g .upper-from)) ∙ g .left k f l;
-            placed =
-                let z : i + (j - mid) + 1 ≡ i + 1 + (j - mid) = omega arith in
-                subst (λ (k : ℕ). Placed line names (written at) low mid high (i + 1) j k) z
-                (placed-more {i′ = i + 1} {j′ = j} (written at) (g .placed) (omega (arith, g .from)) (next-below at) (next-here at ∙ at-is) (one (omega arith) h) (one (g .from) (omega arith)) latest-lower still-lower fewer-lower (least-lower e));
-          }
-
-      pub join-upper : r ≡ false → Joining line names (set after (i + (j - mid)) (getD after j 0)) low mid high i (j + 1)
-      join-upper e =
-          let a : j < high = t .there e in
+      joined-upper : Joining line names (set after (i + (j - 1 - mid)) at) low mid high i (j - 1)
+      joined-upper =
           record {
             aside = g .aside;
             from = g .from;
             to = g .to;
-            upper-from = omega (arith, g .upper-from);
-            upper-to = omega arith;
-            long = next-long (getD after j 0);
-            below = λ k l. next-below (getD after j 0) k (omega (arith, g .from)) ∙ g .below k l;
-            copied = λ k f l. next-above (getD after j 0) (high + (k - low)) (omega (arith, g .from, g .upper-from)) ∙ g .copied k f l;
-            left = λ k f l. next-above (getD after j 0) k (omega (arith, g .upper-from)) ∙ g .left k (omega arith) l;
+            upper-from = omega arith;
+            upper-to = omega (arith, g .upper-to);
+            long = next-long at (i + (j - 1 - mid));
+            below = λ k l. next-below at (i + (j - 1 - mid)) k (omega (arith, g .from)) ∙ g .below k l;
+            copied = λ k f l. next-above at (i + (j - 1 - mid)) (high + (k - mid)) (omega (arith, g .to, g .upper-to)) ∙ g .copied k f (omega arith);
+            left = λ k f l. next-below at (i + (j - 1 - mid)) k (omega arith) ∙ g .left k f l;
             placed =
-                let z : i + (j - mid) + 1 ≡ i + (j + 1 - mid) = omega (arith, g .upper-from) in
-                subst (λ (k : ℕ). Placed line names (written (getD after j 0)) low mid high i (j + 1) k) z
-                (placed-more {i′ = i} {j′ = j + 1} (written (getD after j 0)) (g .placed) (omega (arith, g .from)) (next-below (getD after j 0)) (next-here (getD after j 0) ∙ g .left j (omega arith) a) (two (omega arith) a) (two (g .upper-from) (omega arith)) latest-upper still-upper fewer-upper (least-upper e));
+                let z : i + (j - mid) ≡ i + (j - 1 - mid) + 1 = omega arith in
+                placed-more {i′ = i} {j′ = j - 1} (set after (i + (j - 1 - mid)) at) (subst (λ (k : ℕ). Placed line names after low mid high i j k) z (g .placed)) (omega (arith, g .to, g .upper-to)) (next-above at (i + (j - 1 - mid))) (getD-set-same after (i + (j - 1 - mid)) at 0 join-write ∙ at-is) (two (omega arith) (omega arith)) (two (omega arith) (omega (arith, g .upper-to))) latest-upper still-upper fewer-upper greatest-upper;
           }
+
+    pub join-alone : i ≤ low → Joining line names (set after (i + (j - 1 - mid)) at) low mid high i (j - 1)
+    join-alone l = joined-upper (λ y m n f k s u. absurd (omega arith))
+
+    module _ (l : low < i) where
+      last-named : Named line (getD names (i - 1) 0)
+      last-named = lower .named (i - 1) (omega arith) (omega (arith, g .to))
+
+      last-is : getD after (i - 1) 0 ≡ getD names (i - 1) 0
+      last-is = g .left (i - 1) (omega arith) (omega arith)
+
+      pub join-due : LaterDue line (getD after (i - 1) 0) at
+      join-due =
+          record {
+            other = rw last-is (last-named .spells .within);
+            place = rw at-is (at-named .spells .within);
+          }
+
+      pub join-lower-read : i - 1 < length after
+      join-lower-read = omega (arith, upper .within, upper .from, g .long, g .to)
+
+      pub join-lower-write : i - 1 + (j - mid) < length after
+      join-lower-write = omega (arith, upper .within, g .long, g .upper-to, g .to)
+
+      apart : (m n : List ℕ) → Spells line (getD names (i - 1) 0) m → Spells line (getD names (j - 1) 0) n → m ≡ n → ⊥
+      apart m n s t e = g .aside .pair .differ (i - 1) (j - 1) n (omega arith) (omega (arith, g .to)) (omega (arith, g .upper-to)) (subst (λ (m : List ℕ). Spells line (getD names (i - 1) 0) m) e s) t
+
+      latest-lower : (y : ℕ) → In (i - 1) mid j high y → Latest i mid j high (i - 1) y
+      latest-lower y (two f k) = before (two f k)
+      latest-lower y (one f k) =
+          go (ltb (i - 1) y) refl
+        where
+          go : (b : Bool) → ltb (i - 1) y ≡ b → Latest i mid j high (i - 1) y
+          go true q = before (one (omega (arith, ltb-true (i - 1) y q)) k)
+          go false q = now (omega (arith, ltb-false (i - 1) y q))
+
+      still-lower : (y : ℕ) → In i mid j high y → In (i - 1) mid j high y
+      still-lower y (one f k) = one (omega arith) k
+      still-lower y (two f k) = two f k
+
+      fewer-lower : (y : ℕ) → In low (i - 1) mid j y → In low i mid j y
+      fewer-lower y (one f k) = one f (omega arith)
+      fewer-lower y (two f k) = two f k
+
+      module _ {r : Bool} (t : LaterTold line (getD after (i - 1) 0) at r) where
+        pub join-upper : r ≡ true → Joining line names (set after (i + (j - 1 - mid)) at) low mid high i (j - 1)
+        join-upper e =
+            joined-upper
+            (λ y m n f k s u.
+            let o : orderOf (last-named .name) n ≡ Less = t .more e (last-named .name) n (moved-to (sym last-is) (last-named .spells)) (moved-to (sym at-is) u) (apart (last-named .name) n (last-named .spells) u) in
+            up-to lower (i - 1) (omega (arith, g .to)) (last-named .name) n (last-named .spells) o y m f (omega arith) s)
+
+        greatest-lower : r ≡ false → (y : ℕ) (m n : List ℕ) → In low (i - 1) mid j y → Spells line (getD names y 0) m → Spells line (getD names (i - 1) 0) n → orderOf m n ≡ Less
+        greatest-lower e y m n (one f k) s u = lower .rising y (i - 1) m n f k (omega (arith, g .to)) s u
+        greatest-lower e y m n (two f k) s u =
+            let o : orderOf (at-named .name) n ≡ Less = t .less e n (at-named .name) (moved-to (sym last-is) u) (moved-to (sym at-is) (at-named .spells)) in
+            up-to upper (j - 1) (omega (arith, g .upper-to)) (at-named .name) n (at-named .spells) o y m f (omega arith) s
+
+        pub join-lower : r ≡ false → Joining line names (set after (i - 1 + (j - mid)) (getD after (i - 1) 0)) low mid high (i - 1) j
+        join-lower e =
+            record {
+              aside = g .aside;
+              from = omega arith;
+              to = omega (arith, g .to);
+              upper-from = g .upper-from;
+              upper-to = g .upper-to;
+              long = next-long (getD after (i - 1) 0) (i - 1 + (j - mid));
+              below = λ k f. next-below (getD after (i - 1) 0) (i - 1 + (j - mid)) k (omega arith) ∙ g .below k f;
+              copied = λ k f b. next-above (getD after (i - 1) 0) (i - 1 + (j - mid)) (high + (k - mid)) (omega (arith, g .to, g .upper-to)) ∙ g .copied k f b;
+              left = λ k f b. next-below (getD after (i - 1) 0) (i - 1 + (j - mid)) k (omega arith) ∙ g .left k f (omega arith);
+              placed =
+                  let z : i + (j - mid) ≡ i - 1 + (j - mid) + 1 = omega arith in
+                  placed-more {i′ = i - 1} {j′ = j} (set after (i - 1 + (j - mid)) (getD after (i - 1) 0)) (subst (λ (k : ℕ). Placed line names after low mid high i j k) z (g .placed)) (omega (arith, g .to, g .upper-to)) (next-above (getD after (i - 1) 0) (i - 1 + (j - mid))) (getD-set-same after (i - 1 + (j - mid)) (getD after (i - 1) 0) 0 join-lower-write ∙ last-is) (one (omega arith) (omega arith)) (one (omega arith) (omega (arith, g .to))) latest-lower still-lower fewer-lower (greatest-lower e);
+            }

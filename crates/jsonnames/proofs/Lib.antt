@@ -6,5 +6,6 @@ pub mod Joins
 pub mod Grows
 pub mod Looks
 pub mod Carries
+pub mod Gathers
 pub mod Stores
 pub mod Tables

@@ -6,7 +6,7 @@ use Prim.Native.Nat.{ℕ, _+_, _-_, _<_, _≤_}
 use lib.ListN.{length, getD}
 use Rattle.jsonread.specs.declared.names.Order.the-variants.{Less}
 use Rattle.jsonread.specs.Spelling.{orderOf}
-use Rattle.jsonnames.specs.Sorted.{Spells, Named, Rises, Differ}
+use Rattle.jsonnames.specs.Sorted.{Spells, Rises, Differ}
 
 -- a cell has the place p
 pub record Has (names : List ℕ) (first end p : ℕ) : Type 0 where
@@ -21,28 +21,29 @@ pub record Pair (line names : List ℕ) (low mid high : ℕ) : Type 0 where
   pub upper : Rises line names mid high
   pub differ : Differ line names low high
 
--- and the lower one stands behind them too
+-- and the upper one stands behind them too
 pub record Aside (line names : List ℕ) (low mid high : ℕ) : Type 0 where
   pub pair : Pair line names low mid high
-  pub room : high + (mid - low) ≤ length names
-  pub copied : (k : ℕ) → low ≤ k → k < mid → getD names (high + (k - low)) 0 ≡ getD names k 0
+  pub room : high + (high - mid) ≤ length names
+  pub copied : (k : ℕ) → mid ≤ k → k < high → getD names (high + (k - mid)) 0 ≡ getD names k 0
 
-pub record CopyTold (low mid high : ℕ) (names after : List ℕ) : Type 0 where
+pub record CopyTold (mid high : ℕ) (names after : List ℕ) : Type 0 where
   pub long : length after ≡ length names
   pub below : (k : ℕ) → k < high → getD after k 0 ≡ getD names k 0
-  pub copied : (k : ℕ) → low ≤ k → k < mid → getD after (high + (k - low)) 0 ≡ getD names k 0
+  pub copied : (k : ℕ) → mid ≤ k → k < high → getD after (high + (k - mid)) 0 ≡ getD names k 0
 
--- a name that is not in what is left of a run
-pub record FirstDue (line names : List ℕ) (j high at : ℕ) : Type 0 where
-  pub named : Named line at
-  pub within : high ≤ length names
-  pub places : (k : ℕ) → j ≤ k → k < high → getD names k 0 ≤ length line
+-- two places in the line
+pub record LaterDue (line : List ℕ) (p at : ℕ) : Type 0 where
+  pub other : p ≤ length line
+  pub place : at ≤ length line
 
--- it is before the first name that is left, if there is one; or after it
-pub record FirstTold (line names : List ℕ) (j high at : ℕ) (r : Bool) : Type 0 where
-  pub less : r ≡ true → j < high → (m n : List ℕ) → Spells line at m → Spells line (getD names j 0) n → (m ≡ n → ⊥) → orderOf m n ≡ Less
-  pub more : r ≡ false → (m n : List ℕ) → Spells line at m → Spells line (getD names j 0) n → orderOf n m ≡ Less
-  pub there : r ≡ false → j < high
+-- the second name is after the first, or before it
+pub record LaterTold (line : List ℕ) (p at : ℕ) (r : Bool) : Type 0 where
+  pub more : r ≡ true → (m n : List ℕ) → Spells line p m → Spells line at n → (m ≡ n → ⊥) → orderOf m n ≡ Less
+  pub less : r ≡ false → (m n : List ℕ) → Spells line p m → Spells line at n → orderOf n m ≡ Less
+
+pub record OrderedTold (line names : List ℕ) (low high : ℕ) (r : Bool) : Type 0 where
+  pub rises : r ≡ true → Rises line names low high
 
 -- one run of the same places; cells below it are as they were
 pub record Merged (line names after : List ℕ) (low high : ℕ) : Type 0 where

@@ -7,53 +7,56 @@ use jsonread::names::compare;
 ghost use mathlib.Core.Path.{_≡_};
 ghost use Prim.Native.Nat.{_+_, _-_, _<_, _≤_};
 ghost use lib.ListN.{length};
-ghost use Rattle.jsonnames.specs.Sorted.{Named};
-ghost use Rattle.jsonnames.specs.Merges.{Pair, Aside, CopyTold, FirstDue, FirstTold, Merged};
+ghost use Rattle.jsonnames.specs.Merges.{Pair, Aside, CopyTold, LaterDue, LaterTold, OrderedTold, Merged};
 
-// the lower run copied behind the upper one
-fn set_aside(names: &mut [u64], low: usize, mid: usize, high: usize)
-    requires { ⌜ low ≤ mid ⌝ }
+// the upper run copied behind itself
+fn set_aside(names: &mut [u64], mid: usize, high: usize)
     requires { ⌜ mid ≤ high ⌝ }
-    requires { ⌜ high + (mid - low) ≤ length (now names) ⌝ }
-    ensures { λ _. ⌜ CopyTold low mid high (now (names .entry)) (now (names .exit)) ⌝ }
+    requires { ⌜ high + (high - mid) ≤ length (now names) ⌝ }
+    ensures { λ _. ⌜ CopyTold mid high (now (names .entry)) (now (names .exit)) ⌝ }
 {
-    let mut i = low;
-    while i < mid {
-        names[high + (i - low)] = names[i];
+    let mut i = mid;
+    while i < high {
+        names[high + (i - mid)] = names[i];
         i += 1;
     }
 }
 
-// whether a name comes before what is left of the upper run
-fn comes_first(line: &[u8], names: &[u64], j: usize, high: usize, at: usize) -> bool
-    requires { ⌜ FirstDue (now line) (now names) j high at ⌝ }
-    ensures { λ r. ⌜ FirstTold (now (line .entry)) (now (names .entry)) j high at r ⌝ }
+// whether the second of two names comes last
+fn comes_last(line: &[u8], p: usize, at: usize) -> bool
+    requires { ⌜ LaterDue (now line) p at ⌝ }
+    ensures { λ r. ⌜ LaterTold (now (line .entry)) p at r ⌝ }
 {
-    if high <= j {
-        return true;
-    }
-    match compare(line, at, names[j] as usize) {
+    match compare(line, p, at) {
         Order::More => false,
         Order::Same => true,
         Order::Less => true,
     }
 }
 
-// the lower run set aside, the lesser of both is put again and again
+// the upper run set aside, the greater of both is put again and again, from the end on
 fn join(line: &[u8], names: &mut [u64], low: usize, mid: usize, high: usize)
     requires { ⌜ Aside (now line) (now names) low mid high ⌝ }
     ensures { λ _. ⌜ Merged (now (line .entry)) (now (names .entry)) (now (names .exit)) low high ⌝ }
 {
-    let mut i = low;
-    let mut j = mid;
-    while i < mid {
-        let at = names[high + (i - low)];
-        if comes_first(line, names, j, high, at as usize) {
-            names[i + (j - mid)] = at;
-            i += 1;
+    let mut i = mid;
+    let mut j = high;
+    while mid < j {
+        let last = j - 1;
+        let at = names[high + (last - mid)];
+        if i <= low {
+            names[i + (last - mid)] = at;
+            j = last;
         } else {
-            names[i + (j - mid)] = names[j];
-            j += 1;
+            let k = i - 1;
+            let other = names[k];
+            if comes_last(line, other as usize, at as usize) {
+                names[i + (last - mid)] = at;
+                j = last;
+            } else {
+                names[k + (j - mid)] = other;
+                i = k;
+            }
         }
     }
 }
@@ -76,15 +79,32 @@ fn join_in_place(line: &[u8], names: &mut [u64], low: usize, mid: usize, high: u
     }
 }
 
+// whether the lower run's last name comes before the upper run's first
+fn in_order(line: &[u8], names: &[u64], low: usize, mid: usize, high: usize) -> bool
+    requires { ⌜ Pair (now line) (now names) low mid high ⌝ }
+    ensures { λ r. ⌜ OrderedTold (now (line .entry)) (now (names .entry)) low high r ⌝ }
+{
+    if mid <= low {
+        return true;
+    }
+    if high <= mid {
+        return true;
+    }
+    comes_last(line, names[mid - 1] as usize, names[mid] as usize)
+}
+
 // two runs become one, by the cells behind them where there are enough
 pub fn merge(line: &[u8], names: &mut [u64], low: usize, mid: usize, high: usize)
     requires { ⌜ Pair (now line) (now names) low mid high ⌝ }
     ensures { λ _. ⌜ Merged (now (line .entry)) (now (names .entry)) (now (names .exit)) low high ⌝ }
 {
-    if names.len() - high < mid - low {
+    if in_order(line, names, low, mid, high) {
+        return;
+    }
+    if names.len() - high < high - mid {
         join_in_place(line, names, low, mid, high);
     } else {
-        set_aside(names, low, mid, high);
+        set_aside(names, mid, high);
         join(line, names, low, mid, high);
     }
 }

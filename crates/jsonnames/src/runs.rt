@@ -7,6 +7,7 @@ ghost use mathlib.Core.Path.{_≡_};
 ghost use Prim.Native.Nat.{_+_, _-_, _/_, _<_, _≤_};
 ghost use lib.ListN.{length};
 ghost use Rattle.jsonnames.specs.Sorted.{Named, Sorted};
+ghost use Rattle.jsonnames.specs.Merges.{Merged};
 ghost use Rattle.jsonnames.specs.Runs.{LastDue, LastTold, Looked, LookTold, PutDue, CarryDue, Carried, Stored};
 
 // where a name stands, if it is there
@@ -66,7 +67,7 @@ fn carry(line: &[u8], names: &mut [u64], first: usize, end: usize)
 }
 
 // a name that is in no run before the last one
-fn put_last(
+pub fn put_last(
     line: &[u8],
     names: &mut [u64],
     first: usize,
@@ -100,5 +101,26 @@ pub fn store(line: &[u8], names: &mut [u64], first: usize, end: usize, at: usize
     match look(line, names, first, edge, at) {
         Known::There(p) => Known::There(p),
         Known::New => put_last(line, names, first, edge, end, at),
+    }
+}
+
+// all runs become one
+pub fn gather(line: &[u8], names: &mut [u64], first: usize, end: usize)
+    requires { ⌜ Sorted (now line) (now names) first end ⌝ }
+    ensures { λ _. ⌜ Merged (now (line .entry)) (now (names .entry)) (now (names .exit)) first end ⌝ }
+{
+    let mut low = end - (end - first) % 16;
+    let mut size = 16;
+    let mut count = (end - first) / 16;
+    while 0 < count {
+        if count % 2 == 1 {
+            merge(line, names, low - size, low, end);
+            low -= size;
+            size += size;
+            count /= 2;
+        } else {
+            size += size;
+            count /= 2;
+        }
     }
 }

@@ -1,14 +1,14 @@
-use borrow.Author.Needs.{needs}
 use Prim.Native.Nat.{_-_}
 use Rattle.jsonnames.proofs.Joins.{Copying, copy-start, copy-read, copy-write, copy-on, copy-done}
+use borrow.Author.Needs.{needs}
 use Rattle.jsonnames.proofs.merges.set_aside.Statement.{statement}
 use Rattle.jsonnames.proofs.merges.set_aside.Tie as tie
 
 abbrev Inv-loop : tie.InvT-loop
-Inv-loop names₀ low mid high i₀ names i = Copying low mid high names₀ names i
+Inv-loop names₀ mid high i₀ names i = Copying mid high names₀ names i
 
 abbrev μ-loop : tie.MeasureT-loop
-μ-loop names₀ low mid high i₀ names i = mid - i
+μ-loop names₀ mid high i₀ names i = high - i
 
 loop-holds : tie.Need-loop-holds Inv-loop μ-loop
 loop-holds c = search (copy-start, needs)
@@ -20,7 +20,7 @@ slice-read-names : tie.Need-slice-read-names Inv-loop μ-loop
 slice-read-names c = search (copy-read, needs)
 
 sub-names : tie.Need-sub-names Inv-loop μ-loop
-sub-names c = search (Copying, needs)
+sub-names c = search needs
 
 add-names : tie.Need-add-names Inv-loop μ-loop
 add-names c = search (copy-write, needs)

@@ -13,7 +13,7 @@ use Rattle.laws.specs.Text.{self-same}
 use Rattle.jsontext.specs.declared.Fault.the-variants.{RepeatedName, BadField}
 use Rattle.jsontext.specs.Reading.{Read, got, fault, blanks, want}
 use Rattle.jsontext.specs.Strings.{string}
-use Rattle.jsontext.specs.Values.{J, Name, before, Parts, end, part, memberParts, afterName, members, unlessEmpty, object, value}
+use Rattle.jsontext.specs.Values.{J, Name, before, Parts, end, memberParts, afterName, members, unlessEmpty, object, value}
 use Rattle.jsontrace.specs.Order.{insertPart, ordered, orderedMembers}
 use Rattle.jsonread.proofs.Spelling.{never}
 use Rattle.jsonnames.specs.Sorted.{Spells, Sorted, Lacks}
@@ -312,12 +312,6 @@ module _ (levels : ℕ) {line : List ℕ} {at : ℕ} {names₀ names : List ℕ}
 -- ---- the runs become one
 
 module _ {levels : ℕ} {line : List ℕ} {at : ℕ} {names after : List ℕ} {used : ℕ} {r : Many} (c : CollectTold levels line at (objectRead levels (drop at line)) names after used r) where
-  pub gather-table : Sorted line after used (used + r .count)
-  gather-table = c .table
-
-  pub gather-within : used + r .count ≤ length names
-  gather-within = c .fits
-
   pub gather-told : {final : List ℕ} → Merged line after final used (used + r .count) → SortTold levels line at (objectRead levels (drop at line)) names final used r
   gather-told m =
       record {

@@ -1,5 +1,5 @@
 -- The last run merged with runs as long
-use mathlib.Core.Path.{_≡_, refl, sym, ap, subst, _∙_}
+use mathlib.Core.Path.{_≡_, refl, sym, subst, _∙_}
 use mathlib.Core.Bool.{Bool, true, false}
 use mathlib.Core.List.{List}
 use Prim.Native.Nat.{ℕ, _+_, _-_, _/_, _%_, _<_, _≤_}
@@ -7,11 +7,11 @@ use native.Mathlib.Omega.{arith}
 use lib.Dec.{ltb}
 use lib.ListN.{length, getD}
 use borrow.Author.Tests.{ltb-true, ltb-false}
-use Rattle.jsonnames.specs.Sorted.{Spells, Rises, Runs, even, odd, Differ, edge, Sorted}
+use Rattle.jsonnames.specs.Sorted.{Rises, Runs, even, odd, Differ, edge}
 use Rattle.jsonnames.specs.Merges.{Has, Pair, Merged}
 use Rattle.jsonnames.specs.Runs.{CarryDue, Carried}
 use Rattle.jsonnames.proofs.Halves.{moved-to}
-use Rattle.jsonnames.proofs.Stays.{has-wider, rises-differ, rises-none, runs-from, runs-size, runs-kept, Odd, runs-odd, runs-even}
+use Rattle.jsonnames.proofs.Stays.{has-wider, rises-differ, rises-none, runs-size, runs-kept, runs-odd, runs-even}
 
 -- ---- what a merge leaves of all names
 

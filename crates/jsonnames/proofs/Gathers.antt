@@ -1,5 +1,5 @@
 -- All runs become one, the last ones first
-use mathlib.Core.Path.{_≡_, refl, sym, ap, subst, _∙_}
+use mathlib.Core.Path.{_≡_, refl, subst, _∙_}
 use mathlib.Core.List.{List}
 use Prim.Native.Nat.{ℕ, _+_, _*_, _^_, _-_, _/_, _%_, _<_, _≤_}
 use native.Mathlib.Omega.{arith}
@@ -8,7 +8,7 @@ use mir.Syntax.{w64}
 use lib.ListN.{length, getD}
 use Rattle.jsonnames.specs.Sorted.{Rises, Runs, Differ, edge, Sorted}
 use Rattle.jsonnames.specs.Merges.{Has, Pair, Merged}
-use Rattle.jsonnames.proofs.Stays.{runs-from, runs-size, runs-none, runs-kept, runs-odd, runs-even}
+use Rattle.jsonnames.proofs.Stays.{runs-size, runs-none, runs-kept, runs-odd, runs-even}
 use Rattle.jsonnames.proofs.Carries.{merged-differ, merged-kept, merged-old}
 
 -- a last run, and runs before it

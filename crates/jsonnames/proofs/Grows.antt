@@ -11,7 +11,7 @@ use Rattle.jsonread.specs.declared.names.Order.the-variants.{Less}
 use Rattle.jsonread.specs.Spelling.{orderOf}
 use Rattle.jsonnames.specs.declared.Place.{Place}
 use Rattle.jsonnames.specs.declared.Place.the-variants.{There, Before}
-use Rattle.jsonnames.specs.Sorted.{Spells, Named, Rises, Lacks, Between, FindTold, Inserted}
+use Rattle.jsonnames.specs.Sorted.{Spells, Named, Rises, Between, FindTold, Inserted}
 use Rattle.jsonnames.specs.Merges.{Has, Pair, Merged}
 use Rattle.jsonnames.specs.Runs.{Came, new, old}
 use Rattle.jsonnames.proofs.Halves.{spells-one, moved-to}
@@ -147,9 +147,6 @@ module _ {line names after : List ℕ} {low mid high j : ℕ} (g : Putting line 
         kept = λ k f l. has-wider low high (omega arith) (g .to) (g .kept k f (omega arith));
         old = λ k f l. has-wider low high (omega arith) (g .to) (g .old k f (omega arith));
       }
-
-  pub put-rises : Rises line after low j
-  put-rises = g .rises
 
   module _ (h : j < high) where
     pub put-cell : j < length after

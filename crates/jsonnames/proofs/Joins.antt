@@ -102,16 +102,16 @@ tells p at t x e m n s u = sym (t m n (s .rest) (u .rest) (s .is) (u .is)) ∙ e
 
 module _ {line : List ℕ} {p at : ℕ} {o : Order} (t : OrderTold line p at o) where
   pub later-more : o ≡ More → LaterTold line p at false
-  later-more e = record { more = λ e. absurd (let z : _≡_ {A = ℕ} 0 1 = cc in omega arith); less = λ z m n s u. order-flip m n (tells p at t More e m n s u) }
+  later-more e = record { more = λ e. absurd (let z : _≡_ {A = ℕ} 0 1 = cc in omega arith); less = λ z m n s u d. order-flip m n (tells p at t More e m n s u) }
 
   pub later-less : o ≡ Less → LaterTold line p at true
-  later-less e = record { more = λ z m n s u d. tells p at t Less e m n s u; less = λ e. absurd (let z : _≡_ {A = ℕ} 0 1 = cc in omega arith) }
+  later-less e = record { more = λ z m n s u. tells p at t Less e m n s u; less = λ e. absurd (let z : _≡_ {A = ℕ} 0 1 = cc in omega arith) }
 
-  pub later-same : o ≡ Same → LaterTold line p at true
-  later-same e = record { more = λ z m n s u d. absurd (d (order-equal m n (tells p at t Same e m n s u))); less = λ e. absurd (let z : _≡_ {A = ℕ} 0 1 = cc in omega arith) }
+  pub later-same : o ≡ Same → LaterTold line p at false
+  later-same e = record { more = λ e. absurd (let z : _≡_ {A = ℕ} 0 1 = cc in omega arith); less = λ z m n s u d. absurd (d (order-equal m n (tells p at t Same e m n s u))) }
 
 -- up to a name less than another, all are less
-up-to : {line names : List ℕ} {low high : ℕ} → Rises line names low high → (a : ℕ) → a < high → (o n : List ℕ) → Spells line (getD names a 0) o → orderOf o n ≡ Less → (y : ℕ) (m : List ℕ) → low ≤ y → y ≤ a → Spells line (getD names y 0) m → orderOf m n ≡ Less
+pub up-to : {line names : List ℕ} {low high : ℕ} → Rises line names low high → (a : ℕ) → a < high → (o n : List ℕ) → Spells line (getD names a 0) o → orderOf o n ≡ Less → (y : ℕ) (m : List ℕ) → low ≤ y → y ≤ a → Spells line (getD names y 0) m → orderOf m n ≡ Less
 up-to {line} {names} r a f o n s l y m h k t =
     go (ltb y a) refl
   where
@@ -163,7 +163,7 @@ module _ {line names : List ℕ} {low mid high : ℕ} (p : Pair line names low m
         }
       where
         between : orderOf (last .name) (first .name) ≡ Less
-        between = t .more e (last .name) (first .name) (last .spells) (first .spells) (λ z. p .differ (mid - 1) mid (first .name) (omega arith) (omega arith) b (subst (λ (m : List ℕ). Spells line (getD names (mid - 1) 0) m) z (last .spells)) (first .spells))
+        between = t .more e (last .name) (first .name) (last .spells) (first .spells)
 
         go-named : (k : ℕ) → low ≤ k → k < high → (x : Bool) → ltb k mid ≡ x → Named line (getD names k 0)
         go-named k f h true q = p .lower .named k f (ltb-true k mid q)
@@ -439,13 +439,13 @@ module _ {line names after : List ℕ} {low mid high i j : ℕ} (g : Joining lin
         join-upper e =
             joined-upper
             (λ y m n f k s u.
-            let o : orderOf (last-named .name) n ≡ Less = t .more e (last-named .name) n (moved-to (sym last-is) (last-named .spells)) (moved-to (sym at-is) u) (apart (last-named .name) n (last-named .spells) u) in
+            let o : orderOf (last-named .name) n ≡ Less = t .more e (last-named .name) n (moved-to (sym last-is) (last-named .spells)) (moved-to (sym at-is) u) in
             up-to lower (i - 1) (omega (arith, g .to)) (last-named .name) n (last-named .spells) o y m f (omega arith) s)
 
         greatest-lower : r ≡ false → (y : ℕ) (m n : List ℕ) → In low (i - 1) mid j y → Spells line (getD names y 0) m → Spells line (getD names (i - 1) 0) n → orderOf m n ≡ Less
         greatest-lower e y m n (one f k) s u = lower .rising y (i - 1) m n f k (omega (arith, g .to)) s u
         greatest-lower e y m n (two f k) s u =
-            let o : orderOf (at-named .name) n ≡ Less = t .less e n (at-named .name) (moved-to (sym last-is) u) (moved-to (sym at-is) (at-named .spells)) in
+            let o : orderOf (at-named .name) n ≡ Less = t .less e n (at-named .name) (moved-to (sym last-is) u) (moved-to (sym at-is) (at-named .spells)) (apart n (at-named .name) u (at-named .spells)) in
             up-to upper (j - 1) (omega (arith, g .upper-to)) (at-named .name) n (at-named .spells) o y m f (omega arith) s
 
         pub join-lower : r ≡ false → Joining line names (set after (i - 1 + (j - mid)) (getD after (i - 1) 0)) low mid high (i - 1) j

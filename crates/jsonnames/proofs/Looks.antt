@@ -11,10 +11,12 @@ use lib.ListN.{length, getD}
 use borrow.Author.Tests.{ltb-true, ltb-false, eqb-true, eqb-false}
 use Rattle.jsonnames.specs.declared.Place.{Place}
 use Rattle.jsonnames.specs.declared.Place.the-variants.{There, Before}
-use Rattle.jsonnames.specs.declared.runs.Known.{Known}
 use Rattle.jsonnames.specs.declared.runs.Known.the-variants.{There as Stands, New}
-use Rattle.jsonnames.specs.Sorted.{Spells, Rises, Runs, FindTold, Lacks}
+use Rattle.jsonnames.specs.Sorted.{Spells, Named, Rises, Runs, FindTold, Lacks}
+use Rattle.jsonnames.specs.Merges.{LaterDue, LaterTold}
 use Rattle.jsonnames.specs.Runs.{LastDue, LastTold, Looked, LookTold}
+use Rattle.jsonnames.proofs.Order.{order-self}
+use Rattle.jsonnames.proofs.Joins.{up-to}
 use Rattle.jsonnames.proofs.Stays.{between-lacks, runs-from, runs-size, runs-none, runs-odd, runs-even}
 
 one-of : (n : ℕ) → (n % 2 ≡ 0 → ⊥) → n % 2 ≡ 1
@@ -33,18 +35,32 @@ module _ {line names : List ℕ} {size count high at : ℕ} (d : LastDue line na
         none = λ k z o. cc;
       }
 
-  pub last-room : size ≤ high
-  last-room = d .room
-
-  pub last-place : at ≤ length line
-  last-place = d .place
-
   module _ (n : count % 2 ≡ 0 → ⊥) where
     is-odd : count % 2 ≡ 1
     is-odd = one-of count n
 
     pub last-run : Rises line names (high - size) high
     last-run = d .run is-odd
+
+    last-named : Named line (getD names (high - 1) 0)
+    last-named = last-run .named (high - 1) (omega (arith, d .some, d .room)) (omega (arith, d .some, d .room))
+
+    pub last-read : high - 1 < length names
+    last-read = omega (arith, d .some, d .room, last-run .within)
+
+    pub last-later : LaterDue line (getD names (high - 1) 0) at
+    last-later = record { other = last-named .spells .within; place = d .place }
+
+    pub last-past : {r : Bool} → LaterTold line (getD names (high - 1) 0) at r → r ≡ true → LastTold line names size count high at (Before (high - size))
+    last-past t e =
+        record {
+          odd = λ q z. absurd (let z : _≡_ {A = ℕ} 0 1 = cc in omega arith);
+          there = λ q z. absurd (let z : _≡_ {A = ℕ} 0 1 = cc in omega arith);
+          passed = λ k z o. cc;
+          lacks = λ k z o m s j f h u.
+              order-self m (up-to last-run (high - 1) (omega (arith, d .some, d .room)) (last-named .name) m (last-named .spells) (t .more e (last-named .name) m (last-named .spells) s) j m f (omega arith) u);
+          none = λ k z o. absurd (n o);
+        }
 
     module _ {y : Place} (f : FindTold line names (high - size) high at y) where
       pub last-there : {p : ℕ} → y ≡ There p → LastTold line names size count high at (There p)
@@ -75,6 +91,7 @@ pub record Looking (line names : List ℕ) (first stop at size count high : ℕ)
   pub to : high ≤ stop
   pub within : stop ≤ length names
   pub place : at ≤ length line
+  pub some : 0 < size
   pub lacks : (n : List ℕ) → Spells line at n → Lacks line names high stop n
 
 module _ {line names : List ℕ} {first stop at : ℕ} (d : Looked line names first stop at) where
@@ -82,7 +99,7 @@ module _ {line names : List ℕ} {first stop at : ℕ} (d : Looked line names fi
   look-from = runs-from (d .runs)
 
   pub look-start : Looking line names first stop at 16 ((stop - first) / 16) stop
-  look-start = record { runs = d .runs; to = omega arith; within = d .within; place = d .place; lacks = λ n s k f h u. absurd (omega arith) }
+  look-start = record { runs = d .runs; to = omega arith; within = d .within; place = d .place; some = omega arith; lacks = λ n s k f h u. absurd (omega arith) }
 
 module _ {line names : List ℕ} {first stop at size count high : ℕ} (g : Looking line names first stop at size count high) where
   pub look-none : count ≤ 0 → LookTold line names first stop at New
@@ -98,7 +115,7 @@ module _ {line names : List ℕ} {first stop at size count high : ℕ} (g : Look
     size-room = omega (arith, runs-size (g .runs) h)
 
     pub look-due : LastDue line names size count high at
-    look-due = record { place = g .place; run = λ o. runs-odd (g .runs) o .rises; room = size-room }
+    look-due = record { place = g .place; run = λ o. runs-odd (g .runs) o .rises; room = size-room; some = g .some }
 
     pub look-fits : length names * 8 < 2 ^ 63 → Fits w64 (size + size)
     look-fits l = record { fits = omega (arith, size-room, g .to, g .within) }
@@ -122,11 +139,11 @@ module _ {line names : List ℕ} {first stop at size count high : ℕ} (g : Look
           go true q =
               let o : count % 2 ≡ 0 = eqb-true (count % 2) 0 q in
               subst (λ (k : ℕ). Looking line names first stop at (size + size) (count / 2) k) (sym (t .none k e o))
-              (record { runs = runs-even (g .runs) (λ i. omega arith); to = g .to; within = g .within; place = g .place; lacks = g .lacks })
+              (record { runs = runs-even (g .runs) (λ i. omega arith); to = g .to; within = g .within; place = g .place; some = omega (arith, g .some); lacks = g .lacks })
           go false q =
               let o : count % 2 ≡ 1 = one-of count (eqb-false (count % 2) 0 q) in
               subst (λ (k : ℕ). Looking line names first stop at (size + size) (count / 2) k) (sym (t .passed k e o))
-              (record { runs = runs-odd (g .runs) o .others; to = omega (arith, g .to); within = g .within; place = g .place; lacks = λ n s. both o n s })
+              (record { runs = runs-odd (g .runs) o .others; to = omega (arith, g .to); within = g .within; place = g .place; some = omega (arith, g .some); lacks = λ n s. both o n s })
             where
               both : count % 2 ≡ 1 → (n : List ℕ) → Spells line at n → Lacks line names (high - size) stop n
               both o n s j a b u =

@@ -1,5 +1,5 @@
 -- Runs of names, and that they stay as their cells stay
-use mathlib.Core.Path.{_≡_, refl, sym, subst}
+use mathlib.Core.Path.{_≡_, refl, subst}
 use mathlib.Core.Bool.{Bool, true, false}
 use mathlib.Core.List.{List}
 use Prim.Native.Nat.{ℕ, _+_, _-_, _/_, _%_, _<_, _≤_}
@@ -7,9 +7,7 @@ use native.Mathlib.Omega.{arith}
 use lib.Dec.{ltb}
 use lib.ListN.{length, getD}
 use borrow.Author.Tests.{ltb-true, ltb-false}
-use Rattle.jsonread.specs.declared.names.Order.the-variants.{Less}
-use Rattle.jsonread.specs.Spelling.{orderOf}
-use Rattle.jsonnames.specs.Sorted.{Spells, Named, Rises, Runs, over, even, odd, Differ, edge, Sorted, Lacks, Between}
+use Rattle.jsonnames.specs.Sorted.{Rises, Runs, over, even, odd, Differ, edge, Sorted, Lacks, Between}
 use Rattle.jsonnames.specs.Merges.{Has}
 use Rattle.jsonnames.proofs.Order.{order-self}
 

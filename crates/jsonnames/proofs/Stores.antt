@@ -11,11 +11,11 @@ use Rattle.jsonnames.specs.declared.Place.{Place}
 use Rattle.jsonnames.specs.declared.Place.the-variants.{There, Before}
 use Rattle.jsonnames.specs.declared.runs.Known.{Known}
 use Rattle.jsonnames.specs.declared.runs.Known.the-variants.{There as Stands, New}
-use Rattle.jsonnames.specs.Sorted.{Spells, Named, Rises, Runs, Differ, edge, Sorted, Holds, Lacks, FindTold, Inserted}
+use Rattle.jsonnames.specs.Sorted.{Spells, Named, Rises, Runs, Differ, edge, Sorted, Lacks, FindTold, Inserted}
 use Rattle.jsonnames.specs.Merges.{Has}
-use Rattle.jsonnames.specs.Runs.{Looked, LookTold, CarryDue, Carried, PutDue, Came, new, old, Grown, Stored}
+use Rattle.jsonnames.specs.Runs.{Looked, LookTold, CarryDue, Carried, PutDue, Came, new, old, Stored}
 use Rattle.jsonnames.proofs.Halves.{moved-to}
-use Rattle.jsonnames.proofs.Stays.{has-wider, rises-differ, between-lacks, runs-kept}
+use Rattle.jsonnames.proofs.Stays.{rises-differ, between-lacks, runs-kept}
 use Rattle.jsonnames.proofs.Grows.{rises-still, inserted-kept, inserted-new, inserted-came}
 
 -- ---- blocks of sixteen, with one name more
@@ -56,9 +56,6 @@ whole-of first end h = less-none (end + 1) ((end + 1 - first) % 16) h
 -- ---- looked for in the runs before the last one
 
 module _ {line names : List ℕ} {first end at : ℕ} (s : Sorted line names first end) (n : Named line at) where
-  pub store-from : first ≤ end
-  store-from = s .from
-
   pub store-look : Looked line names first (edge first end) at
   store-look =
       let z : (end - first) / 16 ≡ (edge first end - first) / 16 = omega (arith, s .from) in
@@ -82,20 +79,8 @@ module _ {line names : List ℕ} {first end at : ℕ} (s : Sorted line names fir
 -- ---- put into the last run
 
 module _ {line names : List ℕ} {first last end at : ℕ} (d : PutDue line names first last end at) where
-  rises : Rises line names last end
+  pub rises : Rises line names last end
   rises = subst (λ (k : ℕ). Rises line names k end) (sym (d .last-is)) (d .sorted .last)
-
-  pub put-rises : Rises line names last end
-  put-rises = rises
-
-  pub put-place : at ≤ length line
-  put-place = d .named .spells .within
-
-  pub put-last : last ≤ end
-  put-last = rises .from
-
-  pub put-room : end < length names
-  put-room = d .room
 
   rest : end - last ≡ (end - first) % 16
   rest = rest-is (end - first) end last (omega arith) (d .last-is)

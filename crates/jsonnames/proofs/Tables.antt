@@ -2,27 +2,26 @@
 use mathlib.Core.Path.{_≡_, refl, sym, ap, subst, _∙_}
 use mathlib.Core.Bool.{Bool, true, false}
 use mathlib.Core.List.{List, [], _∷_}
-use mathlib.Core.Option.{none, some}
+use mathlib.Core.Option.{some}
 use Prim.Native.Nat.{ℕ, _+_, _-_, _<_, _≤_}
 use native.Mathlib.Omega.{arith}
 use lib.Dec.{eqb}
 use lib.ListN.{length, drop, getD}
 use borrow.Author.Tests.{eq-eqb, eqb-true}
-use Rattle.meaning.specs.Tests.{_and_, choose}
+use Rattle.meaning.specs.Tests.{_and_}
 use Rattle.laws.specs.Tests.{both, yes, no as otherwise}
 use Rattle.meaning.specs.Equal.{sameList}
 use Rattle.jsontext.specs.declared.Fault.{Fault}
 use Rattle.jsontext.specs.declared.Fault.the-variants.{RepeatedName}
 use Rattle.jsontext.specs.declared.Step.{Step}
 use Rattle.jsontext.specs.declared.Step.the-variants.{At, Bad}
-use Rattle.jsontext.specs.Reading.{got}
 use Rattle.jsontext.specs.Strings.{string}
 use Rattle.jsontext.specs.Values.{Name, before}
-use Rattle.jsonread.specs.Told.{Faulty, Told}
+use Rattle.jsonread.specs.Told.{Told}
 use Rattle.jsonnames.specs.declared.runs.Known.{Known}
 use Rattle.jsonnames.specs.declared.runs.Known.the-variants.{There, New}
-use Rattle.jsonnames.specs.Sorted.{Spells, Named, Sorted, Holds, Lacks, Table, Kept, Repeated, Refuses, unread, again, Entered}
-use Rattle.jsonnames.specs.Runs.{Came, new, old, Grown, Stored}
+use Rattle.jsonnames.specs.Sorted.{Spells, Named, Holds, Lacks, Table, Kept, Repeated, unread, again, Entered}
+use Rattle.jsonnames.specs.Runs.{new, old, Grown, Stored}
 use Rattle.jsonnames.proofs.Halves.{spells-one, moved-to}
 
 same-equal : (s t : List ℕ) → sameList s t ≡ true → s ≡ t

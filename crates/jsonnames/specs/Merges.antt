@@ -37,10 +37,10 @@ pub record LaterDue (line : List ℕ) (p at : ℕ) : Type 0 where
   pub other : p ≤ length line
   pub place : at ≤ length line
 
--- the second name is after the first, or before it
+-- the second name is after the first, or before it where they differ
 pub record LaterTold (line : List ℕ) (p at : ℕ) (r : Bool) : Type 0 where
-  pub more : r ≡ true → (m n : List ℕ) → Spells line p m → Spells line at n → (m ≡ n → ⊥) → orderOf m n ≡ Less
-  pub less : r ≡ false → (m n : List ℕ) → Spells line p m → Spells line at n → orderOf n m ≡ Less
+  pub more : r ≡ true → (m n : List ℕ) → Spells line p m → Spells line at n → orderOf m n ≡ Less
+  pub less : r ≡ false → (m n : List ℕ) → Spells line p m → Spells line at n → (m ≡ n → ⊥) → orderOf n m ≡ Less
 
 pub record OrderedTold (line names : List ℕ) (low high : ℕ) (r : Bool) : Type 0 where
   pub rises : r ≡ true → Rises line names low high

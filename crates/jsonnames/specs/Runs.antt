@@ -15,6 +15,7 @@ pub record LastDue (line names : List ℕ) (size count high at : ℕ) : Type 0 w
   pub place : at ≤ length line
   pub run : count % 2 ≡ 1 → Rises line names (high - size) high
   pub room : size ≤ high
+  pub some : 0 < size
 
 pub record LastTold (line names : List ℕ) (size count high at : ℕ) (r : Place) : Type 0 where
   pub odd : (p : ℕ) → r ≡ Inside p → count % 2 ≡ 1

@@ -23,13 +23,13 @@ fn set_aside(names: &mut [u64], mid: usize, high: usize)
 }
 
 // whether the second of two names comes last
-fn comes_last(line: &[u8], p: usize, at: usize) -> bool
+pub fn comes_last(line: &[u8], p: usize, at: usize) -> bool
     requires { ⌜ LaterDue (now line) p at ⌝ }
     ensures { λ r. ⌜ LaterTold (now (line .entry)) p at r ⌝ }
 {
     match compare(line, p, at) {
         Order::More => false,
-        Order::Same => true,
+        Order::Same => false,
         Order::Less => true,
     }
 }

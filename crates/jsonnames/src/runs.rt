@@ -2,6 +2,7 @@
 use super::Place;
 use super::find;
 use super::insert;
+use super::merges::comes_last;
 use super::merges::merge;
 ghost use mathlib.Core.Path.{_≡_};
 ghost use Prim.Native.Nat.{_+_, _-_, _/_, _<_, _≤_};
@@ -23,6 +24,9 @@ fn look_last(line: &[u8], names: &[u64], size: usize, count: usize, high: usize,
 {
     if count % 2 == 0 {
         return Place::Before(high);
+    }
+    if comes_last(line, names[high - 1] as usize, at) {
+        return Place::Before(high - size);
     }
     match find(line, names, high - size, high, at) {
         Place::There(p) => Place::There(p),

@@ -10,9 +10,6 @@ use Rattle.jsonnames.specs.Runs.{PutDue, Grown, Stored}
 use Rattle.jsonsort.specs.Sort.{KeepDue}
 
 module _ {line names : List ℕ} {first stop at : ℕ} (d : KeepDue line names first stop at) where
-  pub keep-from : first ≤ stop
-  keep-from = d .sorted .from
-
   pub keep-due : PutDue line names first (edge first stop) stop at
   keep-due = record { sorted = d .sorted; last-is = refl; room = d .room; named = d .named; lacks = λ n s k f h u. d .lacks n s k f (omega arith) u }
 

@@ -1,6 +1,6 @@
 use borrow.Author.Needs.{needs}
 use Prim.Native.Nat.{_-_}
-use Rattle.jsonnames.proofs.Grows.{Putting, put-start, put-cell, put-rises, put-place, put-there, put-within, put-on, put-done}
+use Rattle.jsonnames.proofs.Grows.{Putting, put-start, put-cell, put-place, put-there, put-within, put-on, put-done}
 use Rattle.jsonnames.proofs.merges.join_in_place.Statement.{statement}
 use Rattle.jsonnames.proofs.merges.join_in_place.Tie as tie
 
@@ -20,7 +20,7 @@ slice-read-at : tie.Need-slice-read-at Inv-loop μ-loop
 slice-read-at c = search (put-cell, needs)
 
 find-requires : tie.Need-find-requires Inv-loop μ-loop
-find-requires c κs = search (put-rises, put-place, needs)
+find-requires c κs = search (put-place, needs)
 
 enum-told : tie.Need-enum-told Inv-loop μ-loop
 enum-told c = search needs

@@ -1,10 +1,10 @@
-use Rattle.jsonnames.proofs.Stores.{put-rises, put-place, put-there, put-within, put-room, put-carry, put-carried, put-grown}
+use Rattle.jsonnames.proofs.Stores.{rises, put-there, put-within, put-carry, put-carried, put-grown}
 use borrow.Author.Needs.{needs}
 use Rattle.jsonnames.proofs.runs.put_last.Statement.{statement}
 use Rattle.jsonnames.proofs.runs.put_last.Tie as tie
 
 find-requires : tie.Need-find-requires
-find-requires c κs = search (put-rises, put-place, needs)
+find-requires c κs = search (rises, needs)
 
 enum-known-p : tie.Need-enum-known-p
 enum-known-p c = search needs
@@ -13,7 +13,7 @@ enum-known-cell : tie.Need-enum-known-cell
 enum-known-cell c = search needs
 
 insert-requires : tie.Need-insert-requires
-insert-requires c κs = search (put-within, put-room, needs)
+insert-requires c κs = search (put-within, needs)
 
 sub-if1 : tie.Need-sub-if1
 sub-if1 c = search needs

@@ -13,24 +13,27 @@ use Rattle.laws.specs.Text.{self-same}
 use Rattle.jsontext.specs.declared.Fault.the-variants.{RepeatedName, BadField}
 use Rattle.jsontext.specs.Reading.{Read, got, fault, blanks, want}
 use Rattle.jsontext.specs.Strings.{string}
-use Rattle.jsontext.specs.Values.{J, Name, before, Parts, end, part, memberParts, afterName, members, unlessEmpty, object, value}
+use Rattle.jsontext.specs.Values.{J, Name, before, Parts, end, memberParts, afterName, members, unlessEmpty, object, value}
 use Rattle.jsontrace.specs.Order.{insertPart, ordered, orderedMembers}
-use Rattle.jsontrace.specs.Trace.{many}
 use Rattle.jsonread.proofs.Spelling.{never}
-use Rattle.jsonnames.specs.Sorted.{Spells, Sorted}
-use Rattle.jsonnames.proofs.Grows.{sorted-still}
+use Rattle.jsonnames.specs.Sorted.{Spells, Sorted, Lacks}
+use Rattle.jsonnames.specs.Merges.{Merged}
+use Rattle.jsonnames.specs.Runs.{Grown}
+use Rattle.jsonnames.proofs.Halves.{spells-one}
+use Rattle.jsonnames.proofs.Stays.{sorted-none}
 use Rattle.jsonruns.specs.declared.Part.{Part as Position}
 use Rattle.jsonruns.specs.declared.Part.the-variants.{Next as Goes, Closed}
 use Rattle.jsonruns.specs.Good.{Good, Signed, BeginTold, PartTold}
 use Rattle.jsonruns.specs.Run.{Listed, Member}
 use Rattle.jsonruns.proofs.Runs.{same-got, then-of, after-of, Turn, turn, object-listed}
 use Rattle.jsoncount.specs.Sizes.{objectRead}
-use Rattle.jsonsort.specs.Sort.{Put, KeptTold, insertAll, Stands, Cells, none, Fresh, Apart, Away}
-use Rattle.jsonsort.specs.Order.{all-ordered, away-insert, away-end}
-use Rattle.jsonsort.proofs.Cells.{cells-put, fresh-lacks}
-use Rattle.jsonadds.specs.Place.{Spare, Stays, MemberGood, MemberEnds, SortTold, named, namedMembers}
+use Rattle.jsonsort.specs.Sort.{KeepDue, insertAll, Stands, Fresh, Apart, Away, Among, Scattered, Ascends}
+use Rattle.jsonsort.specs.Order.{all-ordered, away-insert, away-end, ascends-insert}
+use Rattle.jsonsort.proofs.Cells.{scattered-lacks, scattered-put, scattered-merged, cells-scattered}
+use Rattle.jsonadds.specs.declared.Many.{Many}
+use Rattle.jsonadds.specs.Place.{Spare, Stays, MemberGood, MemberEnds, CollectTold, SortTold, named, namedMembers}
 use Rattle.jsonadds.proofs.Items.{Others, others-of}
-use Rattle.jsonadds.proofs.Named.{many-insert as many-put, many-members}
+use Rattle.jsonadds.proofs.Named.{many-members}
 use Rattle.jsonadds.proofs.Passing.{Passing, PartEnds, pass-signed, pass-none, pass-empty, pass-start, pass-after, pass-last, pass-closed, pass-again, pass-less}
 
 -- ---- the names of an object that reads well differ
@@ -117,6 +120,9 @@ object-apart levels s ms {rest} e =
 
 -- ---- the loop
 
+among-none : {n : List ℕ} {o : J} → Among n o end → ⊥
+among-none {n} {o} a = elim a [ ]
+
 abbrev Part : ℕ → List ℕ → List ℕ × J → List ℕ → Type 0
 Part levels s m t = Member (λ n. true) (λ n u. value levels u) s m t
 
@@ -127,8 +133,8 @@ members-law line at levels what rest e = object-listed (λ n. true) (λ n u. val
 pub record Sorting (levels : ℕ) (line : List ℕ) (at : ℕ) (names₀ names : List ℕ) (used count i : ℕ) : Type 0 where
   passing : Passing 125 (Part levels) line at (objectRead levels (drop at line)) count i
   sorted : Parts
-  cells : Cells levels line names used sorted
-  many-is : many sorted ≡ count
+  scattered : Scattered levels line names used (used + count) sorted
+  ascends : Ascends sorted
   table : Sorted line names used (used + count)
   goes : insertAll (memberParts (passing .left)) sorted ≡ orderedMembers (memberParts (passing .good .what))
   apart : Apart (memberParts (passing .left))
@@ -148,30 +154,39 @@ module _ (levels : ℕ) {line : List ℕ} {at : ℕ} (g : Good line at (objectRe
     unfolding named
     all-spare = omega (arith, s .is (g .what) (g .rest) (g .is), many-members (g .what))
 
-    pub sort-empty : {e : ℕ} → x ≡ Closed e → SortTold levels line at (objectRead levels (drop at line)) names names used (record { count = 0; end = e })
-    unfolding orderedMembers memberParts
+    no-table : Sorted line names used (used + 0)
+    no-table = let z : used ≡ used + 0 = omega arith in subst (λ (k : ℕ). Sorted line names used k) z (sorted-none line names used (omega (arith, all-spare)))
+
+    none-in : (used stop : ℕ) → used ≡ stop → Scattered levels line names used stop end
+    none-in used stop e = record { all = λ n o a. absurd (among-none a); only = λ k f h. absurd (omega arith) }
+
+    pub sort-empty : {e : ℕ} → x ≡ Closed e → CollectTold levels line at (objectRead levels (drop at line)) names names used (record { count = 0; end = e })
+    unfolding orderedMembers memberParts Ascends
     sort-empty {e} z =
         let c = pass-empty 125 (Part levels) (members-law line at levels) g b z in
+        let n : (what : List (List ℕ × J)) (rest : List ℕ) → objectRead levels (drop at line) ≡ got what rest → what ≡ [] = λ what rest f. sym (same-got (g .is) f) ∙ pass-none 125 (Part levels) (members-law line at levels) g b z in
         record {
           from = c .from;
           within = c .within;
           is = c .is;
           many-is = c .many-is;
-          cells = λ what rest f. let y : what ≡ [] = sym (same-got (g .is) f) ∙ pass-none 125 (Part levels) (members-law line at levels) g b z in rw y none;
+          table = no-table;
+          scattered = λ what rest f. rw (n what rest f) (none-in used (used + 0) (omega arith));
+          ascends = λ what rest f. rw (n what rest f) tt;
           fits = omega (arith, all-spare);
           stays = record { long = refl; same = λ k h. refl };
         }
 
     pub sort-start : {i : ℕ} → x ≡ Goes i → Sorting levels line at names names used 0 i
-    unfolding many
+    unfolding Ascends
     sort-start {i} z =
         let p = pass-start 125 (Part levels) (members-law line at levels) g b z in
         record {
           passing = p;
           sorted = end;
-          cells = none;
-          many-is = refl;
-          table = record { from = omega arith; within = omega (arith, all-spare); named = λ k l h. absurd (omega arith); rising = λ i j m n l h e. absurd (omega arith) };
+          scattered = none-in used (used + 0) (omega arith);
+          ascends = tt;
+          table = no-table;
           goes = all-ordered (memberParts (g .what)) (object-apart levels (drop at line) (g .what) (g .is));
           apart = object-apart levels (drop at line) (g .what) (g .is);
           away = away-end (memberParts (g .what));
@@ -197,9 +212,6 @@ module _ (levels : ℕ) {line : List ℕ} {at : ℕ} {names₀ names : List ℕ}
 
   pub sort-room : used + count < length names
   sort-room = omega (arith, g .spare, g .passing .total, ap length (tail .is), g .stays .long)
-
-  pub sort-table : Sorted line names used (used + count)
-  sort-table = g .table
 
   pub sort-long : (after : List ℕ) → length after ≡ length names → length after ≡ length names₀
   sort-long after e = e ∙ g .stays .long
@@ -228,6 +240,9 @@ module _ (levels : ℕ) {line : List ℕ} {at : ℕ} {names₀ names : List ℕ}
       let w = subst (λ (ms : List (List ℕ × J)). Away (memberParts ms) (g .sorted)) (tail .is) (g .away) in
       record { fresh = w .0; from-others = a .0; apart = a .1; away = w .1; goes = sym (ap (λ (ms : List (List ℕ × J)). insertAll (memberParts ms) (g .sorted)) (tail .is)) ∙ g .goes }
 
+  pub sort-keep : KeepDue line names used (used + count) i
+  sort-keep = record { sorted = g .table; room = sort-room; named = record { name = name; spells = spells }; lacks = λ n s. subst (λ (n : List ℕ). Lacks line names used (used + count) n) (spells-one spells s) (scattered-lacks (g .scattered) name (split .fresh)) }
+
   module _ {e : ℕ} (m : MemberEnds levels line i e) where
     ends : PartEnds 125 (Part levels) line i e
     ends = record { from = m .from; within = m .within; is = m .is }
@@ -235,22 +250,25 @@ module _ (levels : ℕ) {line : List ℕ} {at : ℕ} {names₀ names : List ℕ}
     pub sort-after : Signed line e
     sort-after = pass-after 125 (Part levels) (g .passing) ends
 
-  module _ {after : List ℕ} (k : KeptTold line names after used (used + count) i) where
-    put : Put line names after used (used + count) i name
-    put = k .told name spells (λ c a h s. fresh-lacks levels used (g .sorted) (split .fresh) (g .cells) c a (omega (arith, g .many-is)) s)
+  module _ {after : List ℕ} (k : Grown line names after used (used + count) i) where
+    more : used + count + 1 ≡ used + (count + 1)
+    more = omega arith
 
-    put-cells : Cells levels line after used (insertPart name (ordered (head .what .1)) (g .sorted))
-    put-cells = cells-put levels put used (g .sorted) (omega arith) (put .from) (omega (arith, g .many-is)) stands (g .cells)
+    put-scattered : Scattered levels line after used (used + (count + 1)) (insertPart name (ordered (head .what .1)) (g .sorted))
+    put-scattered = subst (λ (e : ℕ). Scattered levels line after used e (insertPart name (ordered (head .what .1)) (g .sorted))) more (scattered-put (g .scattered) k stands)
+
+    put-ascends : Ascends (insertPart name (ordered (head .what .1)) (g .sorted))
+    put-ascends = ascends-insert name (ordered (head .what .1)) (g .sorted) (split .fresh) (g .ascends)
 
     put-stays : Stays used names₀ after
-    put-stays = record { long = put .inserted .long ∙ g .stays .long; same = λ c h. put .inserted .below c (omega (arith, put .from)) ∙ g .stays .same c h }
+    put-stays = record { long = k .long ∙ g .stays .long; same = λ c h. k .below c h ∙ g .stays .same c h }
 
     put-table : Sorted line after used (used + (count + 1))
-    put-table = let z : used + count + 1 ≡ used + (count + 1) = omega arith in subst (λ (e : ℕ). Sorted line after used e) z (sorted-still (g .table) (put .from) (put .within) sort-room spells (put .between) (put .inserted))
+    put-table = subst (λ (e : ℕ). Sorted line after used e) more (k .sorted)
 
     module _ {e : ℕ} (m : MemberEnds levels line i e) where
       module _ {x : Position} (b : PartTold line e 125 x) where
-        pub sort-closed : {p : ℕ} → x ≡ Closed p → SortTold levels line at (objectRead levels (drop at line)) names₀ after used (record { count = count + 1; end = p })
+        pub sort-closed : {p : ℕ} → x ≡ Closed p → CollectTold levels line at (objectRead levels (drop at line)) names₀ after used (record { count = count + 1; end = p })
         unfolding memberParts insertAll tail head
         sort-closed {p} y =
             let c = pass-closed 125 (Part levels) (g .passing) (ends m) b y in
@@ -260,20 +278,23 @@ module _ (levels : ℕ) {line : List ℕ} {at : ℕ} {names₀ names : List ℕ}
               within = c .within;
               is = c .is;
               many-is = c .many-is;
-              cells = λ what rest f.
-                  let z = ap (λ (ms : List (List ℕ × J)). insertAll (memberParts ms) (insertPart name (ordered (head .what .1)) (g .sorted))) (sym o) ∙ split .goes ∙ ap (λ (ms : List (List ℕ × J)). orderedMembers (memberParts ms)) (same-got (g .passing .good .is) f) in
-                  subst (λ (ps : Parts). Cells levels line after used ps) z put-cells;
+              table = put-table;
+              scattered = λ what rest f. subst (λ (ps : Parts). Scattered levels line after used (used + (count + 1)) ps) (whole o what rest f) put-scattered;
+              ascends = λ what rest f. subst (λ (ps : Parts). Ascends ps) (whole o what rest f) put-ascends;
               fits = omega (arith, sort-room, g .stays .long);
               stays = put-stays;
             }
+          where
+            whole : tail .others ≡ [] → (what : List (List ℕ × J)) (rest : List ℕ) → objectRead levels (drop at line) ≡ got what rest → insertPart name (ordered (head .what .1)) (g .sorted) ≡ orderedMembers (memberParts what)
+            whole o what rest f = ap (λ (ms : List (List ℕ × J)). insertAll (memberParts ms) (insertPart name (ordered (head .what .1)) (g .sorted))) (sym o) ∙ split .goes ∙ ap (λ (ms : List (List ℕ × J)). orderedMembers (memberParts ms)) (same-got (g .passing .good .is) f)
 
         pub sort-again : {j : ℕ} → x ≡ Goes j → Sorting levels line at names₀ after used (count + 1) j
         unfolding tail head
         sort-again {j} y = record {
           passing = pass-again 125 (Part levels) (g .passing) (ends m) b y;
           sorted = insertPart name (ordered (head .what .1)) (g .sorted);
-          cells = put-cells;
-          many-is = many-put name (ordered (head .what .1)) (g .sorted) ∙ omega (arith, g .many-is);
+          scattered = put-scattered;
+          ascends = put-ascends;
           table = put-table;
           goes = split .goes;
           apart = split .apart;
@@ -287,3 +308,18 @@ module _ (levels : ℕ) {line : List ℕ} {at : ℕ} {names₀ names : List ℕ}
 
         pub sort-less : {j : ℕ} → x ≡ Goes j → length line - j < length line - i
         sort-less y = pass-less 125 (Part levels) (g .passing) (ends m) b y
+
+-- ---- the runs become one
+
+module _ {levels : ℕ} {line : List ℕ} {at : ℕ} {names after : List ℕ} {used : ℕ} {r : Many} (c : CollectTold levels line at (objectRead levels (drop at line)) names after used r) where
+  pub gather-told : {final : List ℕ} → Merged line after final used (used + r .count) → SortTold levels line at (objectRead levels (drop at line)) names final used r
+  gather-told m =
+      record {
+        from = c .from;
+        within = c .within;
+        is = c .is;
+        many-is = c .many-is;
+        cells = λ what rest f. cells-scattered (m .rises) used (omega arith) (orderedMembers (memberParts what)) (c .ascends what rest f) (scattered-merged (c .scattered what rest f) m);
+        fits = c .fits;
+        stays = record { long = m .long ∙ c .stays .long; same = λ k h. m .below k h ∙ c .stays .same k h };
+      }

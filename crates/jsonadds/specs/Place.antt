@@ -22,7 +22,8 @@ use Rattle.jsonroom.specs.declared.Bodies.{Bodies}
 use Rattle.jsonroom.specs.declared.Next.{Next}
 use Rattle.jsonroom.specs.declared.Written.{Written}
 use Rattle.jsonview.specs.Room.{Ready, Adds, numbers}
-use Rattle.jsonsort.specs.Sort.{Cells}
+use Rattle.jsonnames.specs.Sorted.{Sorted}
+use Rattle.jsonsort.specs.Sort.{Cells, Scattered, Ascends}
 use Rattle.jsonadds.specs.declared.Many.{Many}
 use Rattle.jsonadds.specs.declared.Flat.{Flat}
 
@@ -206,6 +207,18 @@ pub record SortTold (levels : ℕ) (line : List ℕ) (at : ℕ) (m : Read (List 
   pub is : (what : List (List ℕ × J)) (rest : List ℕ) → m ≡ got what rest → rest ≡ drop (r .end) line
   pub many-is : Counts m (r .count)
   pub cells : (what : List (List ℕ × J)) (rest : List ℕ) → m ≡ got what rest → Cells levels line after used (orderedMembers (memberParts what))
+  pub fits : used + r .count ≤ length names
+  pub stays : Stays used names after
+
+-- an object's names in runs, each at its place
+pub record CollectTold (levels : ℕ) (line : List ℕ) (at : ℕ) (m : Read (List (List ℕ × J))) (names after : List ℕ) (used : ℕ) (r : Many) : Type 0 where
+  pub from : at ≤ r .end
+  pub within : r .end ≤ length line
+  pub is : (what : List (List ℕ × J)) (rest : List ℕ) → m ≡ got what rest → rest ≡ drop (r .end) line
+  pub many-is : Counts m (r .count)
+  pub table : Sorted line after used (used + r .count)
+  pub scattered : (what : List (List ℕ × J)) (rest : List ℕ) → m ≡ got what rest → Scattered levels line after used (used + r .count) (orderedMembers (memberParts what))
+  pub ascends : (what : List (List ℕ × J)) (rest : List ℕ) → m ≡ got what rest → Ascends (orderedMembers (memberParts what))
   pub fits : used + r .count ≤ length names
   pub stays : Stays used names after
 

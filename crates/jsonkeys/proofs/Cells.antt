@@ -8,7 +8,8 @@ use Rattle.jsontext.specs.declared.Step.{Step}
 use Rattle.jsontext.specs.declared.Step.the-variants.{At}
 use Rattle.jsontext.specs.Reading.{Read}
 use Rattle.jsontext.specs.Values.{Name}
-use Rattle.jsonnames.specs.Sorted.{Sorted, Table}
+use Rattle.jsonnames.specs.Sorted.{Table}
+use Rattle.jsonnames.proofs.Stays.{sorted-kept}
 use Rattle.jsonkeys.specs.Keys.{Below, Passed}
 
 pub below-self : {used : ℕ} {names : List ℕ} → Below used names names
@@ -24,19 +25,10 @@ pub same-below : {first : ℕ} {names after : List ℕ} → after ≡ names → 
 same-below e = record { long = ap length e; same = λ k h. ap (λ (l : List ℕ). getD l k 0) e }
 
 -- a table is its cells
-sorted-kept : {line names after : List ℕ} {first end : ℕ} → Below end names after → Sorted line names first end → Sorted line after first end
-sorted-kept {line} {names} {after} {first} {end} b s =
-    record {
-      from = s .from;
-      within = omega (arith, s .within, b .long);
-      named = λ k f l. rw (b .same k l) (s .named k f l);
-      rising = λ i j m n f l g p q. s .rising i j m n f l g (rw (b .same i (omega arith)) at p) (rw (b .same j g) at q);
-    }
-
 pub table-kept : {line names after : List ℕ} {first end : ℕ} {seen : List Name} → Below end names after → Table line names first end seen → Table line after first end seen
 table-kept b t =
     record {
-      sorted = sorted-kept b (t .sorted);
+      sorted = sorted-kept (b .long) (b .same) (t .sorted);
       missing = λ n l. t .missing n (λ k f h s. l k f h (rw (b .same k h) s));
       found = λ p n h. t .found p n (record { cell = h .cell; from = h .from; below = h .below; is = sym (b .same (h .cell) (h .below)) ∙ h .is; spells = h .spells });
     }

@@ -16,6 +16,7 @@ use Rattle.jsonread.specs.Told.{Told}
 use Rattle.jsonread.proofs.Places.{told-bad, told-of, fault-then, then-is}
 use Rattle.jsonread.proofs.Then.{then-then, then-same}
 use Rattle.jsonnames.specs.Sorted.{Table}
+use Rattle.jsonnames.proofs.Stays.{sorted-none}
 use Rattle.jsonkeys.specs.declared.Turn.{Turn}
 use Rattle.jsonkeys.specs.declared.Turn.the-variants.{On, Over, Wrong}
 use Rattle.jsonkeys.specs.Keys.{opened, after, TurnTold, Room, Below, Passed, named, KnownTold, KeyIs, KeyTold, MemberIs, MemberWrong}
@@ -27,7 +28,7 @@ no-names : (line names : List ℕ) (used : ℕ) → used ≤ length names → Ta
 unfolding before
 no-names line names used h =
     record {
-      sorted = record { from = omega arith; within = h; named = λ k f l. absurd (omega arith); rising = λ i j m n f l g p q. absurd (omega arith) };
+      sorted = sorted-none line names used h;
       missing = λ n l. refl;
       found = λ p n h. absurd (omega (arith, h .from, h .below));
     }

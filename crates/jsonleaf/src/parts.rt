@@ -1,6 +1,7 @@
 // How many parts an array or object has, where they end, and an object's names in order.
 use jsonadds::Many;
 use jsonends::value_end;
+use jsonnames::runs::gather;
 use jsonroom::Next;
 use jsonruns::Part;
 use jsonruns::after_sign;
@@ -15,7 +16,7 @@ ghost use Rattle.jsontext.specs.Values.{value, array};
 ghost use Rattle.jsonruns.specs.Good.{Good};
 ghost use Rattle.jsoncount.specs.Sizes.{objectRead};
 ghost use Rattle.jsonview.specs.Room.{leaving};
-ghost use Rattle.jsonadds.specs.Place.{Spare, CountTold, MemberGood, MemberEnds, SortTold, namedMembers};
+ghost use Rattle.jsonadds.specs.Place.{Spare, CountTold, MemberGood, MemberEnds, CollectTold, SortTold, namedMembers};
 
 // the run of so many parts is left free
 pub fn after_run(n: Next, count: usize) -> Next
@@ -59,11 +60,11 @@ fn member_end(line: &[u8], at: usize, levels: u32) -> usize
     value_end(line, after_sign(line, string_end(line, at)), levels)
 }
 
-// an object's names, after its brace, sorted from cell `used` on
-pub fn sort_names(line: &[u8], at: usize, levels: u32, names: &mut [u64], used: usize) -> Many
+// an object's names, after its brace, in runs from cell `used` on
+fn collect_names(line: &[u8], at: usize, levels: u32, names: &mut [u64], used: usize) -> Many
     requires { ⌜ Good (now line) at (objectRead levels (drop at (now line))) ⌝ }
     requires { ⌜ Spare (objectRead levels (drop at (now line))) (now names) used namedMembers ⌝ }
-    ensures { λ r. ⌜ SortTold levels (now (line .entry)) at (objectRead levels (drop at (now (line .entry)))) (now (names .entry)) (now (names .exit)) used r ⌝ }
+    ensures { λ r. ⌜ CollectTold levels (now (line .entry)) at (objectRead levels (drop at (now (line .entry)))) (now (names .entry)) (now (names .exit)) used r ⌝ }
 {
     let mut count = 0;
     let mut i = at;
@@ -84,4 +85,15 @@ pub fn sort_names(line: &[u8], at: usize, levels: u32, names: &mut [u64], used: 
             }
         }
     }
+}
+
+// an object's names, after its brace, sorted from cell `used` on
+pub fn sort_names(line: &[u8], at: usize, levels: u32, names: &mut [u64], used: usize) -> Many
+    requires { ⌜ Good (now line) at (objectRead levels (drop at (now line))) ⌝ }
+    requires { ⌜ Spare (objectRead levels (drop at (now line))) (now names) used namedMembers ⌝ }
+    ensures { λ r. ⌜ SortTold levels (now (line .entry)) at (objectRead levels (drop at (now (line .entry)))) (now (names .entry)) (now (names .exit)) used r ⌝ }
+{
+    let found = collect_names(line, at, levels, names, used);
+    gather(line, names, used, used + found.count);
+    found
 }

@@ -1,31 +1,21 @@
--- A new name among sorted ones, and among those that were seen
+-- A new name in a run, and a run put into another name by name
 use mathlib.Core.Path.{_≡_, refl, sym, ap, subst, _∙_}
 use mathlib.Core.Bool.{Bool, true, false}
-use mathlib.Core.List.{List, [], _∷_}
-use mathlib.Core.Option.{Option, none, some}
+use mathlib.Core.List.{List}
 use Prim.Native.Nat.{ℕ, _+_, _-_, _<_, _≤_}
 use native.Mathlib.Omega.{arith}
-use lib.Dec.{ltb, eqb}
-use lib.ListN.{length, drop, getD}
-use borrow.Author.Tests.{eq-eqb, eqb-true, ltb-true, ltb-false}
-use Rattle.meaning.specs.Tests.{_and_, choose}
-use Rattle.laws.specs.Tests.{both, yes, no as otherwise}
-use Rattle.meaning.specs.Equal.{sameList}
-use Rattle.jsontext.specs.declared.Fault.{Fault}
-use Rattle.jsontext.specs.declared.Fault.the-variants.{RepeatedName}
-use Rattle.jsontext.specs.declared.Step.{Step}
-use Rattle.jsontext.specs.declared.Step.the-variants.{At, Bad}
-use Rattle.jsontext.specs.Reading.{Read, got}
-use Rattle.jsontext.specs.Strings.{string}
-use Rattle.jsontext.specs.Values.{Name, before}
-use Rattle.jsonread.specs.Told.{Faulty, Told}
+use lib.Dec.{ltb}
+use lib.ListN.{length, getD}
+use borrow.Author.Tests.{ltb-true, ltb-false}
 use Rattle.jsonread.specs.declared.names.Order.the-variants.{Less}
 use Rattle.jsonread.specs.Spelling.{orderOf}
 use Rattle.jsonnames.specs.declared.Place.{Place}
 use Rattle.jsonnames.specs.declared.Place.the-variants.{There, Before}
-use Rattle.jsonnames.specs.Sorted.{Spells, Named, Sorted, Holds, Lacks, Between, FindTold, Inserted, Table, Kept, Repeated, Refuses, unread, again, Entered}
-use Rattle.jsonnames.proofs.Order.{order-self}
-use Rattle.jsonnames.proofs.Halves.{spells-one}
+use Rattle.jsonnames.specs.Sorted.{Spells, Named, Rises, Between, FindTold, Inserted}
+use Rattle.jsonnames.specs.Merges.{Has, Pair, Merged}
+use Rattle.jsonnames.specs.Runs.{Came, new, old}
+use Rattle.jsonnames.proofs.Halves.{spells-one, moved-to}
+use Rattle.jsonnames.proofs.Stays.{has-wider}
 
 -- where a cell's place comes from after an insertion: it is the new one's, or an old one's
 data Origin (names : List ℕ) (first end cell : ℕ) (at : ℕ) (k p : ℕ) : Type 0 where
@@ -48,42 +38,7 @@ module _ {names after : List ℕ} {cell end at : ℕ} (i : Inserted cell end at 
           let e : k ≡ cell = omega (arith, ltb-false k cell p, ltb-false cell k q) in
           fresh e (ap (λ (j : ℕ). getD after j 0) e ∙ i .new)
 
-moved-to : {line : List ℕ} {p q : ℕ} {m : List ℕ} → p ≡ q → Spells line p m → Spells line q m
-moved-to {line} {m = m} e s = subst (λ (q : ℕ). Spells line q m) e s
-
-same-equal : (s t : List ℕ) → sameList s t ≡ true → s ≡ t
-unfolding sameList
-same-equal [] [] e = refl
-same-equal [] (b ∷ t) e = cc
-same-equal (a ∷ s) [] e = cc
-same-equal (a ∷ s) (b ∷ t) e =
-    let h = both (eqb a b) (sameList s t) e in
-    let x : a ≡ b = eqb-true a b (h .0) in
-    let y : s ≡ t = same-equal s t (h .1) in
-    cc
-
-same-self : (s : List ℕ) → sameList s s ≡ true
-unfolding sameList _and_
-same-self [] = refl
-same-self (a ∷ s) = rw (eq-eqb a a refl) (same-self s)
-
-differ : (s t : List ℕ) → (s ≡ t → ⊥) → sameList s t ≡ false
-differ s t n =
-    go (sameList s t) refl
-  where
-    go : (x : Bool) → sameList s t ≡ x → sameList s t ≡ false
-    go true e = absurd (n (same-equal s t e))
-    go false e = e
-
-seen-new : (n m : List ℕ) (left : ℕ) (seen : List Name) → n ≡ m → before m (record { name = n; left = left } ∷ seen) ≡ some left
-unfolding before
-seen-new n m left seen e = yes _ (ap (sameList n) (sym e) ∙ same-self n)
-
-seen-old : (n m : List ℕ) (left : ℕ) (seen : List Name) → (n ≡ m → ⊥) → before m (record { name = n; left = left } ∷ seen) ≡ before m seen
-unfolding before
-seen-old n m left seen e = otherwise _ (differ n m e) refl
-
-module _ {line names after : List ℕ} {first end cell at : ℕ} {n : List ℕ} (g : Sorted line names first end) (f : first ≤ cell) (t : cell ≤ end) (room : end < length names) (s : Spells line at n) (b : Between line names first end cell n) (i : Inserted cell end at names after) where
+module _ {line names after : List ℕ} {first end cell at : ℕ} {n : List ℕ} (g : Rises line names first end) (f : first ≤ cell) (t : cell ≤ end) (room : end < length names) (s : Spells line at n) (b : Between line names first end cell n) (i : Inserted cell end at names after) where
   named-still : (k : ℕ) → first ≤ k → k < end + 1 → Named line (getD after k 0)
   named-still k a h =
       elim (origin i first k h) [
@@ -117,8 +72,8 @@ module _ {line names after : List ℕ} {first end cell at : ℕ} {n : List ℕ} 
         | upper z k e d p ↦ g .rising j z m o (omega arith) (omega arith) d u (moved-to p v)
       ]
 
-  pub sorted-still : Sorted line after first (end + 1)
-  sorted-still =
+  pub rises-still : Rises line after first (end + 1)
+  rises-still =
       record {
         from = omega arith;
         within = omega (arith, i .long);
@@ -132,96 +87,117 @@ module _ {line names after : List ℕ} {first end cell at : ℕ} {n : List ℕ} 
             ];
       }
 
-  -- the name was not there
-  pub fresh-lacks : Lacks line names first end n
-  fresh-lacks k a h u =
+-- ---- the places after an insertion
+
+module _ {names after : List ℕ} {first end cell at : ℕ} (f : first ≤ cell) (t : cell ≤ end) (i : Inserted cell end at names after) where
+  pub inserted-kept : (k : ℕ) → first ≤ k → k < end → Has after first (end + 1) (getD names k 0)
+  inserted-kept k a h =
       go (ltb k cell) refl
     where
-      go : (x : Bool) → ltb k cell ≡ x → ⊥
-      go true q = order-self n (b .less k n a (ltb-true k cell q) u)
-      go false q = order-self n (b .more k n (ltb-false k cell q) h u)
+      go : (x : Bool) → ltb k cell ≡ x → Has after first (end + 1) (getD names k 0)
+      go true q = record { cell = k; from = a; below = omega arith; is = i .below k (ltb-true k cell q) }
+      go false q = record { cell = k + 1; from = omega arith; below = omega arith; is = i .moved k (ltb-false k cell q) h }
 
-  lacks-still : (m : List ℕ) → Lacks line after first (end + 1) m → Lacks line names first end m
-  lacks-still m l k a h u =
-      go (ltb k cell) refl
-    where
-      go : (x : Bool) → ltb k cell ≡ x → ⊥
-      go true q = l k a (omega arith) (moved-to (sym (i .below k (ltb-true k cell q))) u)
-      go false q = l (k + 1) (omega arith) (omega arith) (moved-to (sym (i .moved k (ltb-false k cell q) h)) u)
+  pub inserted-new : Has after first (end + 1) at
+  inserted-new = record { cell = cell; from = f; below = omega arith; is = i .new }
 
-  lacks-new : (m : List ℕ) → Lacks line after first (end + 1) m → n ≡ m → ⊥
-  lacks-new m l e = l cell f (omega arith) (moved-to (sym (i .new)) (subst (λ (m : List ℕ). Spells line at m) e s))
+  pub inserted-came : (k : ℕ) → first ≤ k → k < end + 1 → Came names first end at (getD after k 0)
+  inserted-came k a h =
+      elim (origin i first k h) [
+        | fresh e p ↦ new p
+        | lower l p ↦ old (record { cell = k; from = a; below = omega arith; is = sym p })
+        | upper j l e d p ↦ old (record { cell = j; from = omega arith; below = d; is = sym p })
+      ]
 
-  module _ (seen : List Name) (tb : Table line names first end seen) where
-    found-still : (p : ℕ) (m : List ℕ) → Holds line after first (end + 1) p m → before m (record { name = n; left = length line - at } ∷ seen) ≡ some (length line - p)
-    found-still p m h =
-        elim (origin i first (h .cell) (h .below)) [
-          | fresh e q ↦ (let z : p ≡ at = sym (h .is) ∙ q in seen-new n m (length line - at) seen (spells-one s (moved-to z (h .spells))) ∙ ap (λ (k : ℕ). some (length line - k)) (sym z))
-          | lower l q ↦ (let z : getD names (h .cell) 0 ≡ p = sym q ∙ h .is in old (h .cell) (h .from) (omega arith) z)
-          | upper j l e d q ↦ (let z : getD names j 0 ≡ p = sym q ∙ h .is in old j (omega arith) d z)
-        ]
-      where
-        old : (k : ℕ) → first ≤ k → k < end → getD names k 0 ≡ p → before m (record { name = n; left = length line - at } ∷ seen) ≡ some (length line - p)
-        old k a d z =
-            seen-old n m (length line - at) seen (λ y. fresh-lacks k a d (moved-to (sym z) (subst (λ (m : List ℕ). Spells line p m) (sym y) (h .spells))))
-            ∙ tb .found p m (record { cell = k; from = a; below = d; is = z; spells = h .spells })
+-- ---- each name of the upper run put into the lower one
 
-    table-still : Table line after first (end + 1) (record { name = n; left = length line - at } ∷ seen)
-    table-still =
-        record {
-          sorted = sorted-still;
-          missing = λ m l. seen-old n m (length line - at) seen (lacks-new m l) ∙ tb .missing m (lacks-still m l);
-          found = found-still;
-        }
+pub record Putting (line names after : List ℕ) (low mid high j : ℕ) : Type 0 where
+  pub pair : Pair line names low mid high
+  pub from : mid ≤ j
+  pub to : j ≤ high
+  pub long : length after ≡ length names
+  pub below : (k : ℕ) → k < low → getD after k 0 ≡ getD names k 0
+  pub left : (k : ℕ) → j ≤ k → k < high → getD after k 0 ≡ getD names k 0
+  pub rises : Rises line after low j
+  pub kept : (k : ℕ) → low ≤ k → k < j → Has after low j (getD names k 0)
+  pub old : (k : ℕ) → low ≤ k → k < j → Has names low j (getD after k 0)
 
--- ---- a name is read, looked for and kept
+pub put-start : {line names : List ℕ} {low mid high : ℕ} → Pair line names low mid high → Putting line names names low mid high mid
+put-start p =
+    record {
+      pair = p;
+      from = omega arith;
+      to = p .upper .from;
+      long = refl;
+      below = λ k h. refl;
+      left = λ k f h. refl;
+      rises = p .lower;
+      kept = λ k f h. record { cell = k; from = f; below = h; is = refl };
+      old = λ k f h. record { cell = k; from = f; below = h; is = refl };
+    }
 
-module _ {line names : List ℕ} {first end at : ℕ} {x : Step} (t : Told line at x (string (drop at line))) (h : at ≤ length line) where
-  pub enter-unread : {w : Fault} {p q : ℕ} → x ≡ Bad w p q → Entered line names names first end at (Bad w p q)
-  enter-unread {w} {p} {q} e =
+module _ {line names after : List ℕ} {low mid high j : ℕ} (g : Putting line names after low mid high j) where
+  pub put-done : high ≤ j → Merged line names after low high
+  put-done h =
+      let e : j ≡ high = omega (arith, g .to) in
       record {
-        kept = λ k z. absurd (let z : _≡_ {A = ℕ} 0 1 = cc in omega arith);
-        refused = λ v k l z. unread (t .faulty v k l (e ∙ z));
-        same = λ v k l z. refl;
+        long = g .long;
+        rises = subst (λ (x : ℕ). Rises line after low x) e (g .rises);
+        below = g .below;
+        kept = λ k f l. has-wider low high (omega arith) (g .to) (g .kept k f (omega arith));
+        old = λ k f l. has-wider low high (omega arith) (g .to) (g .old k f (omega arith));
       }
 
-  module _ {e : ℕ} (a : x ≡ At e) {y : Place} (u : FindTold line names first end at y) where
-    spelt : Spells line at (t .stands _ a .what)
-    spelt = record { rest = drop e line; within = h; is = t .stands _ a .is }
+  module _ (h : j < high) where
+    pub put-cell : j < length after
+    put-cell = omega (arith, g .pair .upper .within, g .long)
 
-    pub enter-again : {o : ℕ} → y ≡ There o → Entered line names names first end at (Bad RepeatedName at o)
-    enter-again {o} z =
-        let d = u .there _ z (t .stands _ a .what) spelt in
-        let p : Repeated line names first end at o = record { name = t .stands _ a .what; rest = drop e line; place = d .spells .within; is = t .stands _ a .is; seen = λ seen tb. tb .found o (t .stands _ a .what) d } in
-        record {
-          kept = λ k z. absurd (let z : _≡_ {A = ℕ} 0 1 = cc in omega arith);
-          refused = λ v k l z. let x : o ≡ l = cc in again (cc) (cc) (subst (λ (o : ℕ). Repeated line names first end at o) x p);
-          same = λ v k l z. refl;
-        }
+    named : Named line (getD after j 0)
+    named = subst (λ (p : ℕ). Named line p) (sym (g .left j (omega arith) h)) (g .pair .upper .named j (g .from) h)
 
-    pub find-within : {cell : ℕ} → y ≡ Before cell → cell ≤ end
-    find-within z = u .within _ z
+    pub put-place : getD after j 0 ≤ length line
+    put-place = named .spells .within
 
-    pub enter-kept : {cell : ℕ} {after : List ℕ} → Sorted line names first end → end < length names → y ≡ Before cell → Inserted cell end at names after → Entered line names after first end at (At e)
-    enter-kept {cell} {after} g room z i =
-        let s = t .stands _ a in
-        let b = u .before _ z (s .what) spelt in
-        let f = u .from _ z in
-        let w = u .within _ z in
-        let p : Kept line names after first end at e =
-        record {
-          name = s .what;
-          from = s .from;
-          within = s .within;
-          is = s .is;
-          long = i .long;
-          others = λ k l. i .below k (omega arith);
-          new = λ seen tb. tb .missing (s .what) (fresh-lacks g f w room spelt b i);
-          table = λ seen tb. table-still g f w room spelt b i seen tb;
-        }
-        in
-        record {
-          kept = λ k q. let x : e ≡ k = cc in subst (λ (k : ℕ). Kept line names after first end at k) x p;
-          refused = λ v k l q. absurd (let z : _≡_ {A = ℕ} 0 1 = cc in omega arith);
-          same = λ v k l q. absurd (let z : _≡_ {A = ℕ} 0 1 = cc in omega arith);
-        }
+    module _ {y : Place} (f : FindTold line after low j (getD after j 0) y) where
+      pub put-within : {cell : ℕ} → y ≡ Before cell → cell ≤ j
+      put-within e = f .within _ e
+
+      pub put-there : {p : ℕ} → y ≡ There p → Merged line names after low high
+      put-there e =
+          let d = f .there _ e (named .name) (named .spells) in
+          let o = g .old (d .cell) (d .from) (d .below) in
+          absurd (g .pair .differ (o .cell) j (named .name) (o .from) (o .below) h (moved-to (sym (o .is ∙ d .is)) (d .spells)) (moved-to (g .left j (omega arith) h) (named .spells)))
+
+      pub put-on : {cell : ℕ} {next : List ℕ} → y ≡ Before cell → Inserted cell j (getD after j 0) after next → Putting line names next low mid high (j + 1)
+      put-on {cell} {next} e i =
+          let a = f .from _ e in
+          let w = f .within _ e in
+          let b = f .before _ e (named .name) (named .spells) in
+          record {
+            pair = g .pair;
+            from = omega (arith, g .from);
+            to = omega arith;
+            long = i .long ∙ g .long;
+            below = λ k l. i .below k (omega arith) ∙ g .below k l;
+            left = λ k l m. i .beyond k (omega arith) ∙ g .left k (omega arith) m;
+            rises = rises-still (g .rises) a w put-cell (named .spells) b i;
+            kept = λ k l m. go-kept a w i k l m (ltb k j) refl;
+            old = λ k l m. go-old a w i k l m;
+          }
+        where
+          go-kept : low ≤ cell → cell ≤ j → Inserted cell j (getD after j 0) after next → (k : ℕ) → low ≤ k → k < j + 1 → (x : Bool) → ltb k j ≡ x → Has next low (j + 1) (getD names k 0)
+          go-kept a w i k l m true q =
+              let o = g .kept k l (ltb-true k j q) in
+              let z = inserted-kept a w i (o .cell) (o .from) (o .below) in
+              record { cell = z .cell; from = z .from; below = z .below; is = z .is ∙ o .is }
+          go-kept a w i k l m false q =
+              let d : k ≡ j = omega (arith, ltb-false k j q) in
+              let z = inserted-new a w i in
+              record { cell = z .cell; from = z .from; below = z .below; is = z .is ∙ g .left j (omega arith) h ∙ ap (λ (x : ℕ). getD names x 0) (sym d) }
+
+          go-old : low ≤ cell → cell ≤ j → Inserted cell j (getD after j 0) after next → (k : ℕ) → low ≤ k → k < j + 1 → Has names low (j + 1) (getD next k 0)
+          go-old a w i k l m =
+              elim (inserted-came a w i k l m) [
+                | new p ↦ record { cell = j; from = omega (arith, g .from, g .pair .lower .from); below = omega arith; is = sym (p ∙ g .left j (omega arith) h) }
+                | old o ↦ (let u = g .old (o .cell) (o .from) (o .below) in record { cell = u .cell; from = u .from; below = omega (arith, u .below); is = u .is ∙ o .is })
+              ]

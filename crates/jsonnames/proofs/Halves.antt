@@ -14,15 +14,18 @@ use Rattle.jsonread.specs.declared.names.Order.the-variants.{Less, Same, More}
 use Rattle.jsonread.specs.Spelling.{orderOf, OrderTold}
 use Rattle.jsonnames.specs.declared.Place.{Place}
 use Rattle.jsonnames.specs.declared.Place.the-variants.{There, Before}
-use Rattle.jsonnames.specs.Sorted.{Spells, Named, Sorted, Holds, FindTold}
+use Rattle.jsonnames.specs.Sorted.{Spells, Named, Rises, Holds, FindTold}
 use Rattle.jsonnames.proofs.Order.{order-equal, order-flip, order-on}
 
 pub spells-one : {line : List ℕ} {p : ℕ} {m n : List ℕ} → Spells line p m → Spells line p n → m ≡ n
 spells-one s t = cc (s .is, t .is)
 
+pub moved-to : {line : List ℕ} {p q : ℕ} {m : List ℕ} → p ≡ q → Spells line p m → Spells line q m
+moved-to {line} {m = m} e s = subst (λ (q : ℕ). Spells line q m) e s
+
 -- all below low are less than the name, all from high on are more
 pub record Halving (line names : List ℕ) (first end at low high : ℕ) : Type 0 where
-  pub sorted : Sorted line names first end
+  pub sorted : Rises line names first end
   pub place : at ≤ length line
   pub from : first ≤ low
   pub between : low ≤ high
@@ -30,7 +33,7 @@ pub record Halving (line names : List ℕ) (first end at low high : ℕ) : Type 
   pub less : (n : List ℕ) → Spells line at n → (k : ℕ) (m : List ℕ) → first ≤ k → k < low → Spells line (getD names k 0) m → orderOf m n ≡ Less
   pub more : (n : List ℕ) → Spells line at n → (k : ℕ) (m : List ℕ) → high ≤ k → k < end → Spells line (getD names k 0) m → orderOf n m ≡ Less
 
-pub half-start : {line names : List ℕ} {first end at : ℕ} → Sorted line names first end → at ≤ length line → Halving line names first end at first end
+pub half-start : {line names : List ℕ} {first end at : ℕ} → Rises line names first end → at ≤ length line → Halving line names first end at first end
 half-start r h =
     record {
       sorted = r;

@@ -1,4 +1,11 @@
 pub mod Order
 pub mod Halves
 pub mod Moves
+pub mod Stays
+pub mod Joins
 pub mod Grows
+pub mod Looks
+pub mod Carries
+pub mod Gathers
+pub mod Stores
+pub mod Tables

@@ -2,7 +2,7 @@
 use mathlib.Core.Path.{_≡_}
 use mathlib.Core.List.{List, _∷_}
 use mathlib.Core.Option.{none, some}
-use Prim.Native.Nat.{ℕ, _+_, _-_, _<_, _≤_}
+use Prim.Native.Nat.{ℕ, _+_, _-_, _/_, _%_, _<_, _≤_}
 use lib.ListN.{length, drop, getD}
 use Rattle.jsontext.specs.declared.Fault.{Fault}
 use Rattle.jsontext.specs.declared.Fault.the-variants.{RepeatedName}
@@ -28,11 +28,33 @@ pub record Named (line : List ℕ) (p : ℕ) : Type 0 where
   pub spells : Spells line p name
 
 -- from first to end, each cell is the place of a name, and they rise
-pub record Sorted (line names : List ℕ) (first end : ℕ) : Type 0 where
+pub record Rises (line names : List ℕ) (first end : ℕ) : Type 0 where
   pub from : first ≤ end
   pub within : end ≤ length names
   pub named : (k : ℕ) → first ≤ k → k < end → Named line (getD names k 0)
   pub rising : (i j : ℕ) (m n : List ℕ) → first ≤ i → i < j → j < end → Spells line (getD names i 0) m → Spells line (getD names j 0) n → orderOf m n ≡ Less
+
+-- runs below a cell, the last ones first: so many blocks of a size, one run for each bit of their number
+pub data Runs (line names : List ℕ) (first : ℕ) : ℕ → ℕ → ℕ → Type 0 where
+  over : {size count high : ℕ} → count ≡ 0 → high ≡ first → Runs line names first size count high
+  even : {size count high : ℕ} (half : ℕ) → count ≡ half + half → Runs line names first (size + size) half high → Runs line names first size count high
+  odd : {size count high : ℕ} (half low : ℕ) → count ≡ half + half + 1 → high ≡ low + size → Rises line names low high → Runs line names first (size + size) half low → Runs line names first size count high
+
+-- no name stands in two cells
+abbrev pub Differ : List ℕ → List ℕ → ℕ → ℕ → Type 0
+Differ line names first end = (i j : ℕ) (n : List ℕ) → first ≤ i → i < j → j < end → Spells line (getD names i 0) n → Spells line (getD names j 0) n → ⊥
+
+-- past the last whole sixteen
+abbrev pub edge : ℕ → ℕ → ℕ
+edge first end = end - (end - first) % 16
+
+-- the names of an object: blocks of sixteen in runs, then those past the last whole block
+pub record Sorted (line names : List ℕ) (first end : ℕ) : Type 0 where
+  pub from : first ≤ end
+  pub within : end ≤ length names
+  pub differ : Differ line names first end
+  pub last : Rises line names (edge first end) end
+  pub runs : Runs line names first 16 ((end - first) / 16) (edge first end)
 
 -- a cell has the place p of the name n
 pub record Holds (line names : List ℕ) (first end p : ℕ) (n : List ℕ) : Type 0 where

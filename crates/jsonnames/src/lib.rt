@@ -1,4 +1,9 @@
-// The names of an open object, as places in the line, sorted.
+// The names of an open object, as places in the line, sorted in runs.
+pub mod merges;
+pub mod runs;
+
+use self::runs::Known;
+use self::runs::store;
 use jsonread::names::Order;
 use jsonread::names::compare;
 use jsonread::strings::string_at;
@@ -6,7 +11,7 @@ use jsontext::Fault;
 use jsontext::Step;
 ghost use Prim.Native.Nat.{_<_, _≤_};
 ghost use lib.ListN.{length};
-ghost use Rattle.jsonnames.specs.Sorted.{Sorted, FindTold, Inserted, Entered};
+ghost use Rattle.jsonnames.specs.Sorted.{Rises, Sorted, FindTold, Inserted, Entered};
 
 // where a name stands, or the cell before which it belongs
 pub enum Place {
@@ -16,7 +21,7 @@ pub enum Place {
 
 // a name that was read, among those of an object
 pub fn find(line: &[u8], names: &[u64], first: usize, end: usize, at: usize) -> Place
-    requires { ⌜ Sorted (now line) (now names) first end ⌝ }
+    requires { ⌜ Rises (now line) (now names) first end ⌝ }
     requires { ⌜ at ≤ length (now line) ⌝ }
     ensures { λ r. ⌜ FindTold (now (line .entry)) (now (names .entry)) first end at r ⌝ }
 {
@@ -62,12 +67,9 @@ pub fn enter(line: &[u8], names: &mut [u64], first: usize, end: usize, at: usize
 {
     match string_at(line, at) {
         Step::Bad(w, p, q) => Step::Bad(w, p, q),
-        Step::At(after) => match find(line, names, first, end, at) {
-            Place::There(other) => Step::Bad(Fault::RepeatedName, at, other),
-            Place::Before(cell) => {
-                insert(names, cell, end, at);
-                Step::At(after)
-            }
+        Step::At(after) => match store(line, names, first, end, at) {
+            Known::There(other) => Step::Bad(Fault::RepeatedName, at, other),
+            Known::New => Step::At(after),
         },
     }
 }

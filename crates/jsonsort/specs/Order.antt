@@ -10,7 +10,7 @@ use Rattle.meaning.specs.Text.{before}
 use Rattle.encode.specs.Laws.Join.{before-trans, before-neither, before-not}
 use Rattle.jsontext.specs.Values.{J, Parts, end, part}
 use Rattle.jsontrace.specs.Order.{insertPart, ordered, orderedMembers}
-use Rattle.jsonsort.specs.Sort.{insertAll, Fresh, Apart, Away}
+use Rattle.jsonsort.specs.Sort.{insertAll, Fresh, Apart, Away, Among, here, later, Least, Ascends}
 
 pub false-true : {A : Type 0} → false ≡ true → A
 false-true e = absurd (let z : _≡_ {A = ℕ} 0 1 = cc in omega arith)
@@ -108,3 +108,90 @@ pub away-end : (ps : Parts) → Away ps end
 unfolding Away Fresh
 away-end end = tt
 away-end (part n j ps) = (tt, away-end ps)
+
+-- ---- a member put among others
+
+pub data From (n : List ℕ) (o : J) (ps : Parts) (m : List ℕ) (p : J) : Type 0 where
+  new : m ≡ n → p ≡ o → From n o ps m p
+  old : Among m p ps → From n o ps m p
+
+from-past : {n l m : List ℕ} {o k p : J} {ps : Parts} → From n o ps m p → From n o (part l k ps) m p
+from-past (new e f) = new e f
+from-past (old a) = old (later a)
+
+among-past : {n l m : List ℕ} {o k p : J} {ps qs : Parts} → (Among m p qs → From n o ps m p) → Among m p (part l k qs) → From n o (part l k ps) m p
+among-past f here = old here
+among-past f (later a) = from-past (f a)
+
+among-here : {n m : List ℕ} {o p : J} {ps : Parts} → Among m p (part n o ps) → From n o ps m p
+among-here here = new refl refl
+among-here (later a) = old a
+
+pub among-insert : (n : List ℕ) (o : J) (ps : Parts) {m : List ℕ} {p : J} → Among m p (insertPart n o ps) → From n o ps m p
+unfolding insertPart choose
+among-insert n o end a = among-here a
+among-insert n o (part l k ps) {m} {p} a =
+    go (before l n) (λ b. among-insert n o ps b) a
+  where
+    go : (x : Bool) → (Among m p (insertPart n o ps) → From n o ps m p) → Among m p (choose x (part l k (insertPart n o ps)) (part n o (part l k ps))) → From n o (part l k ps) m p
+    go true r b = among-past r b
+    go false r b = among-here b
+
+pub insert-new : (n : List ℕ) (o : J) (ps : Parts) → Among n o (insertPart n o ps)
+unfolding insertPart choose
+insert-new n o end = here
+insert-new n o (part l k ps) =
+    go (before l n) (insert-new n o ps)
+  where
+    go : (x : Bool) → Among n o (insertPart n o ps) → Among n o (choose x (part l k (insertPart n o ps)) (part n o (part l k ps)))
+    go true r = later r
+    go false r = here
+
+later-past : {l m : List ℕ} {k p : J} {ps qs : Parts} → (Among m p ps → Among m p qs) → Among m p (part l k ps) → Among m p (part l k qs)
+later-past f here = here
+later-past f (later a) = later (f a)
+
+pub insert-old : (n : List ℕ) (o : J) (ps : Parts) {m : List ℕ} {p : J} → Among m p ps → Among m p (insertPart n o ps)
+unfolding insertPart choose
+insert-old n o end a = later a
+insert-old n o (part l k ps) {m} {p} a =
+    go (before l n) (λ b. insert-old n o ps b)
+  where
+    go : (x : Bool) → (Among m p ps → Among m p (insertPart n o ps)) → Among m p (choose x (part l k (insertPart n o ps)) (part n o (part l k ps)))
+    go true r = later-past r a
+    go false r = later a
+
+pub fresh-among : (n : List ℕ) (ps : Parts) {m : List ℕ} {p : J} → Fresh n ps → Among m p ps → m ≡ n → ⊥
+unfolding Fresh
+fresh-among n (part m o ps) f here e = f .0 e
+fresh-among n (part l o ps) f (later a) e = fresh-among n ps (f .1) a e
+
+pub least-among : (n : List ℕ) (ps : Parts) {m : List ℕ} {p : J} → Least n ps → Among m p ps → before n m ≡ true
+unfolding Least
+least-among n (part m o ps) f here = f .0
+least-among n (part l o ps) f (later a) = least-among n ps (f .1) a
+
+least-insert : (m n : List ℕ) (o : J) (ps : Parts) → before m n ≡ true → Least m ps → Least m (insertPart n o ps)
+unfolding insertPart Least choose
+least-insert m n o end h l = (h, tt)
+least-insert m n o (part b k ps) h l =
+    go (before b n) (least-insert m n o ps h (l .1))
+  where
+    go : (x : Bool) → Least m (insertPart n o ps) → Least m (choose x (part b k (insertPart n o ps)) (part n o (part b k ps)))
+    go true r = (l .0, r)
+    go false r = (h, l)
+
+least-on : (m n : List ℕ) (ps : Parts) → before m n ≡ true → Least n ps → Least m ps
+unfolding Least
+least-on m n end h l = tt
+least-on m n (part b k ps) h l = (before-trans m n b h (l .0), least-on m n ps h (l .1))
+
+pub ascends-insert : (n : List ℕ) (o : J) (ps : Parts) → Fresh n ps → Ascends ps → Ascends (insertPart n o ps)
+unfolding insertPart Fresh Least Ascends choose
+ascends-insert n o end f a = (tt, tt)
+ascends-insert n o (part m k ps) f a =
+    go (before m n) refl (ascends-insert n o ps (f .1) (a .1))
+  where
+    go : (x : Bool) → before m n ≡ x → Ascends (insertPart n o ps) → Ascends (choose x (part m k (insertPart n o ps)) (part n o (part m k ps)))
+    go true e r = (least-insert m n o ps e (a .0), r)
+    go false e r = let b : before n m ≡ true = either m n (f .0) e in ((b, least-on n m ps b (a .0)), a)

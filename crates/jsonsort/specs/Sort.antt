@@ -1,24 +1,22 @@
 -- Members in order, each in the cell of its name's place
 use mathlib.Core.Path.{_≡_}
 use mathlib.Core.List.{List, _∷_}
-use Prim.Native.Nat.{ℕ, suc, _≤_}
+use mathlib.Core.Bool.{true}
+use Prim.Native.Nat.{ℕ, suc, _<_, _≤_}
 use lib.ListN.{length, drop, getD}
+use Rattle.meaning.specs.Text.{before}
 use Rattle.jsontext.specs.Reading.{got, blanks}
 use Rattle.jsontext.specs.Strings.{string}
 use Rattle.jsontext.specs.Values.{J, Parts, end, part, value}
 use Rattle.jsontrace.specs.Order.{insertPart, ordered}
-use Rattle.jsonnames.specs.Sorted.{Spells, Lacks, Between, Inserted}
+use Rattle.jsonnames.specs.Sorted.{Spells, Named, Sorted, Lacks}
 
--- a new name stands in a cell between those that are less and those that are more
-pub record Put (line names after : List ℕ) (first stop at : ℕ) (n : List ℕ) : Type 0 where
-  pub cell : ℕ
-  pub from : first ≤ cell
-  pub within : cell ≤ stop
-  pub between : Between line names first stop cell n
-  pub inserted : Inserted cell stop at names after
-
-pub record KeptTold (line names after : List ℕ) (first stop at : ℕ) : Type 0 where
-  pub told : (n : List ℕ) → Spells line at n → Lacks line names first stop n → Put line names after first stop at n
+-- a name that is not among those that are kept
+pub record KeepDue (line names : List ℕ) (first stop at : ℕ) : Type 0 where
+  pub sorted : Sorted line names first stop
+  pub room : stop < length names
+  pub named : Named line at
+  pub lacks : (n : List ℕ) → Spells line at n → Lacks line names first stop n
 
 -- members put one after another among those in order
 unfoldable pub insertAll : Parts → Parts → Parts
@@ -56,3 +54,37 @@ Apart (part n j ps) = Fresh n ps × Apart ps
 unfoldable pub Away : Parts → Parts → Type 0
 Away end qs = Unit {0}
 Away (part n j ps) qs = Fresh n qs × Away ps qs
+
+-- ---- members in cells, in whatever order
+
+pub data Among (n : List ℕ) (o : J) : Parts → Type 0 where
+  here : {ps : Parts} → Among n o (part n o ps)
+  later : {m : List ℕ} {p : J} {ps : Parts} → Among n o ps → Among n o (part m p ps)
+
+-- a member's name stands in a cell
+pub record InCell (levels : ℕ) (line names : List ℕ) (first stop : ℕ) (n : List ℕ) (o : J) : Type 0 where
+  pub cell : ℕ
+  pub from : first ≤ cell
+  pub below : cell < stop
+  pub stands : Stands levels line (getD names cell 0) n o
+
+-- a place is that of a member's name
+pub record Belongs (levels : ℕ) (line : List ℕ) (p : ℕ) (ps : Parts) : Type 0 where
+  pub name : List ℕ
+  pub value : J
+  pub among : Among name value ps
+  pub stands : Stands levels line p name value
+
+pub record Scattered (levels : ℕ) (line names : List ℕ) (first stop : ℕ) (ps : Parts) : Type 0 where
+  pub all : (n : List ℕ) (o : J) → Among n o ps → InCell levels line names first stop n o
+  pub only : (k : ℕ) → first ≤ k → k < stop → Belongs levels line (getD names k 0) ps
+
+-- before all members
+unfoldable pub Least : List ℕ → Parts → Type 0
+Least n end = Unit {0}
+Least n (part m o ps) = (before n m ≡ true) × Least n ps
+
+-- each before all that follow
+unfoldable pub Ascends : Parts → Type 0
+Ascends end = Unit {0}
+Ascends (part n o ps) = Least n ps × Ascends ps

@@ -1,4 +1,4 @@
-use Rattle.jsonnames.proofs.Grows.{enter-unread, enter-again, find-within, enter-kept}
+use Rattle.jsonnames.proofs.Tables.{enter-unread, enter-named, enter-again, enter-kept}
 use borrow.Author.Needs.{needs}
 use Rattle.jsonnames.proofs.enter.Statement.{statement}
 use Rattle.jsonnames.proofs.enter.Tie as tie
@@ -12,17 +12,14 @@ enum-known-w c = search needs
 enum-known-after : tie.Need-enum-known-after
 enum-known-after c = search needs
 
-find-requires : tie.Need-find-requires
-find-requires c κs = search needs
+store-requires : tie.Need-store-requires
+store-requires c κs = search (enter-named, needs)
 
 enum-known-other : tie.Need-enum-known-other
 enum-known-other c = search needs
 
-enum-known-cell : tie.Need-enum-known-cell
-enum-known-cell c = search needs
-
-insert-requires : tie.Need-insert-requires
-insert-requires c κs = search (find-within, needs)
+enum-told : tie.Need-enum-told
+enum-told c = search needs
 
 returns : tie.Need-returns
 returns c = search (enter-unread, needs)
@@ -46,10 +43,9 @@ enter-spec =
     string-at-requires
     enum-known-w
     enum-known-after
-    find-requires
+    store-requires
     enum-known-other
-    enum-known-cell
-    insert-requires
+    enum-told
     returns
     same-length
     returns-2

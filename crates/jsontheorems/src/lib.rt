@@ -1,0 +1,1 @@
+// What is shown of the promises of import; no code.

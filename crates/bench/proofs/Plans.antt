@@ -7,6 +7,7 @@ use Prim.Native.Nat.{ℕ, zero, suc, _-_, _*_, _<_, _≤_}
 use native.Mathlib.Omega.{arith}
 use lib.Dec.{eqb, ltb}
 use lib.ListN.{length, take, replicate}
+use lib.Seq.{length-take-le}
 use borrow.Author.Tests.{eq-eqb, ne-eqb, lt-ltb, le-ltb, not-true, not-false}
 use Rattle.meaning.specs.declared.Refusal.{Refusal}
 use Rattle.meaning.specs.declared.Refusal.the-variants.{TooLarge, NoSuchNode}
@@ -17,10 +18,12 @@ use Rattle.meaning.specs.Case.{nodes, vars, nodeAt}
 use Rattle.meaning.specs.Check.{check, Checked}
 use Rattle.meaning.specs.Calls.{answerable, askCall}
 use Rattle.calls.specs.declared.SaidAnswer.{SaidAnswer}
-use Rattle.calls.specs.Promises.{callOf, Answers}
+use Rattle.calls.specs.Promises.{callOf, Answers, Checks}
+use Rattle.calls.specs.Theorems.{check-as}
+use Rattle.casecheck.specs.declared.Checking.{Checking}
 use Rattle.casecheck.specs.declared.Contents.{Contents}
-use Rattle.casecheck.specs.declared.Checking.the-variants.{Refused}
-use Rattle.casecheck.specs.Answer.{contentsOf, answer, asChecking}
+use Rattle.casecheck.specs.declared.Checking.the-variants.{Passes, Refused}
+use Rattle.casecheck.specs.Answer.{contentsOf, answer, asChecking, passed}
 use Rattle.bench.specs.declared.plan.Asking.{Asking}
 use Rattle.bench.specs.declared.plan.Plan.{Plan}
 use Rattle.bench.specs.declared.plan.Plan.the-variants.{Ask, Refuse}
@@ -60,12 +63,24 @@ module _ (s : List ℕ) where
   refused-by r none e = let z : _≡_ {A = ℕ} 0 1 = cc in absurd (omega arith)
   refused-by r (some n) e = ap Refuse cc
 
-  pub unchecked : (r : Refusal) → length s ≤ 65536 → Refused r ≡ asChecking s → Refuse r ≡ planOf s
-  unchecked r h e = after-check h (refused-by r (check s) (unfold asChecking in e))
+  unchecked-as : (r : Refusal) → length s ≤ 65536 → Refused r ≡ asChecking s → Refuse r ≡ planOf s
+  unchecked-as r h e = after-check h (refused-by r (check s) (unfold asChecking in e))
 
-  pub checked : {p : Plan} → length s ≤ 65536 → Checked s → p ≡ planChecked s → p ≡ planOf s
-  unfolding planAfter
-  checked h c e = after-check h (e ∙ ap (λ (o : Option Refusal). planAfter o s) (sym (c .passes)))
+  -- what the check said
+  module _ {u : Checking} (g : Checks s u) where
+    pub unchecked : {r : Refusal} → u ≡ Refused r → length s ≤ 65536 → Refuse r ≡ planOf s
+    unchecked {r} q h = unchecked-as r h (sym q ∙ check-as g)
+
+    module _ {k : Contents} (q : u ≡ Passes k) where
+      pub passes : Checked s
+      passes = passed s k (sym q ∙ check-as g) .0
+
+      pub contents : k ≡ contentsOf s
+      contents = passed s k (sym q ∙ check-as g) .1
+
+      pub checked : {p : Plan} → length s ≤ 65536 → p ≡ planChecked s → p ≡ planOf s
+      unfolding planAfter
+      checked h e = after-check h (e ∙ ap (λ (o : Option Refusal). planAfter o s) (sym (passes .passes)))
 
   -- what is asked is asked of a checked case
   module _ (a : Asking) where
@@ -84,8 +99,15 @@ module _ (s : List ℕ) where
     asked-by false (some r) q e = absurd (not-refused _ e)
     asked-by false none q e = (record { passes = q }, asked-last (eqb (nodes s) 0) (answerable (nodeAt s (nodes s - 1))) e)
 
-    pub asked : Ask a ≡ planOf s → Checked s × (a ≡ askingOf s)
-    asked e = asked-by (ltb 65536 (length s)) (check s) refl (unfold planOf in e)
+    asked-as : Ask a ≡ planOf s → Checked s × (a ≡ askingOf s)
+    asked-as e = asked-by (ltb 65536 (length s)) (check s) refl (unfold planOf in e)
+
+    module _ {p : Plan} (h : p ≡ planOf s) (q : p ≡ Ask a) where
+      pub asked-checked : Checked s
+      asked-checked = asked-as (sym q ∙ h) .0
+
+      pub asked : a ≡ askingOf s
+      asked = asked-as (sym q ∙ h) .1
 
 -- ---- the question at a point
 
@@ -97,6 +119,9 @@ zeros (suc k) (suc n) h = ap (λ (l : List ℕ). 0 ∷ l) (zeros k n (omega arit
 module _ (s : List ℕ) (a : Asking) (c : Checked s) (same : a ≡ askingOf s) where
   pub few : a .vars ≤ 16
   few = omega (arith, vars-most c, ap (λ (a : Asking). a .vars) same)
+
+  pub cells-long : length (take {A = ℕ} (2 * a .vars) (replicate 32 0)) ≡ 2 * a .vars
+  cells-long = length-take-le (2 * a .vars) (replicate 32 0) (omega (arith, few))
 
   unbound : take {A = ℕ} (2 * a .vars) (replicate 32 0) ≡ replicate (2 * vars s) 0
   unbound = zeros (2 * a .vars) 32 (omega (arith, few)) ∙ ap (λ (a : Asking). replicate (2 * a .vars) 0) same

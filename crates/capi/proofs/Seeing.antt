@@ -16,9 +16,9 @@ use Rattle.calls.specs.declared.SaidRows.{SaidRows}
 use Rattle.calls.specs.declared.SaidCarried.{SaidCarried}
 use Rattle.calls.specs.Promises.{Answers, Rowed, Carrying, asCheck, asAnswer, asRows, asCarried}
 use Rattle.calls.specs.Promises.{Checks as CheckSays}
-use Rattle.capi.specs.declared.telling.Telling.{Telling as Told}
-use Rattle.capi.specs.Telling.{cellsOf, Telling}
-use Rattle.capi.specs.Seen.{tooFew, contentsAfter, checkSeen, CheckSeen, Checks, saidNumber, seen, askSeen, Tells, answerCell, sortCell, countCell, noCell, carriedCell, filledCell}
+use Rattle.telling.specs.declared.Telling.{Telling as Told}
+use Rattle.telling.specs.Telling.{cellsOf, Telling}
+use Rattle.telling.specs.Seen.{tooFew, contentsAfter, checkSeen, CheckSeen, Checks, saidNumber, seen, askSeen, Tells, answerCell, sortCell, countCell, noCell, carriedCell, filledCell}
 
 -- ---- asking, whatever the call
 

@@ -1,47 +1,18 @@
 -- From what the writer says to what a caller in C sees
 use mathlib.Core.Path.{_≡_, refl, sym}
-use mathlib.Core.List.{List, [], _∷_}
+use mathlib.Core.List.{List, _∷_}
 use mathlib.Core.Option.{Option, none, some}
 use Prim.Native.Nat.{ℕ, _<_, _≤_}
-use native.Mathlib.Omega.{arith}
-use lib.ListN.{length, drop, set}
+use lib.ListN.{length, drop}
 use borrow.Author.Tests.{lt-ltb, le-ltb}
 use Rattle.meaning.specs.declared.Refusal.{Refusal}
 use Rattle.laws.specs.Tests.{yes, no}
-use Rattle.meaning.specs.Calls.{numberOf}
 use Rattle.encode.specs.Unsorted.{finished}
 use Rattle.encode.specs.Write.{writeRefusal}
 use Rattle.casewrite.specs.declared.Written.{Written}
-use Rattle.casewrite.specs.declared.Written.the-variants.{Wrote, Refused}
 use Rattle.casewrite.specs.Written.{writtenAs, Writes}
-use Rattle.capi.specs.Seen.{tooFew, refusalNumber, sizeCell, writeSeen, WriteTells, seen}
-use Rattle.capi.specs.Telling.{writtenNumber, writtenCell}
-
--- ---- the cell
-
-pub first : (a : ℕ) (s : List ℕ) → 1 ≤ length s → set s 0 a ≡ a ∷ drop 1 s
-first a [] h = absurd (omega (arith, h))
-first a (x ∷ s) h = refl
-
-module _ {said : Written} {size : ℕ} (e : said ≡ Wrote size) where
-  pub number-wrote : 0 ≡ writtenNumber said
-  unfolding writtenNumber
-  number-wrote = rw e refl
-
-  pub cell-wrote : (lent : List ℕ) → 1 ≤ length lent → set lent 0 size ≡ writtenCell said ∷ drop 1 lent
-  unfolding writtenCell
-  cell-wrote lent long = rw e (first size lent long)
-
-module _ {said : Written} {refusal : Refusal} (e : said ≡ Refused refusal) where
-  pub number-refused : {n : ℕ} → n ≡ numberOf refusal → n ≡ writtenNumber said
-  unfolding writtenNumber
-  number-refused q = rw e q
-
-  pub cell-refused : (lent : List ℕ) → 1 ≤ length lent → set lent 0 0 ≡ writtenCell said ∷ drop 1 lent
-  unfolding writtenCell
-  cell-refused lent long = rw e (first 0 lent long)
-
--- ---- the call
+use Rattle.telling.specs.Seen.{tooFew, refusalNumber, sizeCell, writeSeen, WriteTells, seen}
+use Rattle.telling.specs.Telling.{writtenNumber, writtenCell}
 
 number-as : (size : ℕ) (o : Option Refusal) → writtenNumber (writtenAs size o) ≡ refusalNumber o
 unfolding writtenNumber writtenAs refusalNumber

@@ -1,6 +1,4 @@
 // The calls for C, as include/galivodern.h declares them: numbers and slices only, the answer told in cells that the caller lends.
-mod telling;
-
 use calls::checked;
 use casecheck::Checking;
 use meaning::ArithOp;
@@ -25,7 +23,7 @@ ghost use Rattle.meaning.specs.Check.{Checked};
 ghost use Rattle.meaning.specs.Calls.{askCall, rowsCall};
 ghost use Rattle.meaning.specs.Carried.{carriedCall};
 ghost use Rattle.calls.specs.Promises.{callOf};
-ghost use Rattle.capi.specs.Seen.{Checks, Tells, WriteTells, ImportTells, ExportTells, seen, importSeenAs, answerCell, sortCell, countCell, noCell, carriedCell, filledCell};
+ghost use Rattle.telling.specs.Seen.{Checks, Tells, WriteTells, ImportTells, ExportTells, seen, importSeenAs, answerCell, sortCell, countCell, noCell, carriedCell, filledCell};
 ghost use Rattle.capi.specs.Window.{windowNumber};
 
 // the layer's own complaint: the cells for the answer are too few

@@ -13,7 +13,7 @@ use Rattle.jsontext.specs.Reading.{got, blanks}
 use Rattle.jsontext.specs.Strings.{string}
 use Rattle.jsontext.specs.Values.{J, Parts, end, part, value}
 use Rattle.jsontrace.specs.Order.{ordered}
-use Rattle.jsontrace.specs.Trace.{Tables, _⊕_, texts, members, Next as Next·Trace, past, lastValue, many, afterRun, valueAdds, membersAdd}
+use Rattle.jsontrace.specs.Trace.{Tables, _⊕_, texts, Next as Next·Trace, past, lastValue, many, afterRun, valueAdds, membersAdd}
 use Rattle.jsontrace.specs.Laws.Trace.{shaped, shaped-texts, _then_}
 use Rattle.jsonroom.specs.declared.Bodies.{Bodies}
 use Rattle.jsonroom.specs.declared.Next.{Next}

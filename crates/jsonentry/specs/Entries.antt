@@ -2,7 +2,7 @@
 use mathlib.Core.Path.{_≡_}
 use mathlib.Core.List.{List, [], _∷_}
 use Prim.Native.Nat.{ℕ, suc, _+_, _*_, _≤_}
-use lib.ListN.{length, drop}
+use lib.ListN.{length}
 use Rattle.jsontext.specs.Reading.{Read, got}
 use Rattle.jsontext.specs.Values.{Object}
 use Rattle.jsontext.specs.Events.{Item, Event, events, log, line as lineOf}

@@ -64,42 +64,6 @@ begun at = record { at = at + 1; character = 0; left = 0 }
 abbrev Only : ℕ → List ℕ → ℕ → Type 0
 Only b word k = (others : List ℕ) → fieldOf (b ∷ others) ≡ choose (sameList word (b ∷ others)) k 9
 
-only-time : Only 116 «time» 0
-unfolding fieldOf sameList _and_ choose
-only-time others = refl
-
-only-namespace : Only 110 «namespace» 1
-unfolding fieldOf sameList _and_ choose
-only-namespace others = refl
-
-only-action : Only 97 «action» 2
-unfolding fieldOf sameList _and_ choose
-only-action others = refl
-
-only-kind : Only 107 «kind» 3
-unfolding fieldOf sameList _and_ choose
-only-kind others = refl
-
-only-logged : Only 108 «logged» 4
-unfolding fieldOf sameList _and_ choose
-only-logged others = refl
-
-only-context : Only 99 «context» 5
-unfolding fieldOf sameList _and_ choose
-only-context others = refl
-
-only-principal : Only 112 «principal» 6
-unfolding fieldOf sameList _and_ choose
-only-principal others = refl
-
-only-resource : Only 114 «resource» 7
-unfolding fieldOf sameList _and_ choose
-only-resource others = refl
-
-only-entities : Only 101 «entities» 8
-unfolding fieldOf sameList _and_ choose
-only-entities others = refl
-
 only-none : (b : ℕ) (others : List ℕ) → (b ≡ 116 → ⊥) → (b ≡ 110 → ⊥) → (b ≡ 97 → ⊥) → (b ≡ 107 → ⊥) → (b ≡ 108 → ⊥) → (b ≡ 99 → ⊥) → (b ≡ 112 → ⊥) → (b ≡ 114 → ⊥) → (b ≡ 101 → ⊥) → fieldOf (b ∷ others) ≡ 9
 unfolding fieldOf sameList _and_ choose
 only-none b others n0 n1 n2 n3 n4 n5 n6 n7 n8 = rw (ne-eqb 116 b (λ e. n0 (sym e)), ne-eqb 110 b (λ e. n1 (sym e)), ne-eqb 97 b (λ e. n2 (sym e)), ne-eqb 107 b (λ e. n3 (sym e)), ne-eqb 108 b (λ e. n4 (sym e)), ne-eqb 99 b (λ e. n5 (sym e)), ne-eqb 112 b (λ e. n6 (sym e)), ne-eqb 114 b (λ e. n7 (sym e)), ne-eqb 101 b (λ e. n8 (sym e))) refl
@@ -117,31 +81,40 @@ module _ (line : List ℕ) (at : ℕ) {x : Out} (t : NextTold line (begun at) x)
         u n rest q ∙ ap (λ (v : Bool). choose v k 9) (same-turned n word ∙ ap (sameList word) z) ∙ sym (ap fieldOf z ∙ o (y .others))
 
     pub field-time : {r : ℕ} → b ≡ 116 → IfTold line at «time» 0 r → FieldTold line at r
-    field-time f u = by-first «time» 0 116 f only-time u
+    unfolding fieldOf sameList _and_ choose
+    field-time f u = by-first «time» 0 116 f (λ others. refl) u
 
     pub field-namespace : {r : ℕ} → b ≡ 110 → IfTold line at «namespace» 1 r → FieldTold line at r
-    field-namespace f u = by-first «namespace» 1 110 f only-namespace u
+    unfolding fieldOf sameList _and_ choose
+    field-namespace f u = by-first «namespace» 1 110 f (λ others. refl) u
 
     pub field-action : {r : ℕ} → b ≡ 97 → IfTold line at «action» 2 r → FieldTold line at r
-    field-action f u = by-first «action» 2 97 f only-action u
+    unfolding fieldOf sameList _and_ choose
+    field-action f u = by-first «action» 2 97 f (λ others. refl) u
 
     pub field-kind : {r : ℕ} → b ≡ 107 → IfTold line at «kind» 3 r → FieldTold line at r
-    field-kind f u = by-first «kind» 3 107 f only-kind u
+    unfolding fieldOf sameList _and_ choose
+    field-kind f u = by-first «kind» 3 107 f (λ others. refl) u
 
     pub field-logged : {r : ℕ} → b ≡ 108 → IfTold line at «logged» 4 r → FieldTold line at r
-    field-logged f u = by-first «logged» 4 108 f only-logged u
+    unfolding fieldOf sameList _and_ choose
+    field-logged f u = by-first «logged» 4 108 f (λ others. refl) u
 
     pub field-context : {r : ℕ} → b ≡ 99 → IfTold line at «context» 5 r → FieldTold line at r
-    field-context f u = by-first «context» 5 99 f only-context u
+    unfolding fieldOf sameList _and_ choose
+    field-context f u = by-first «context» 5 99 f (λ others. refl) u
 
     pub field-principal : {r : ℕ} → b ≡ 112 → IfTold line at «principal» 6 r → FieldTold line at r
-    field-principal f u = by-first «principal» 6 112 f only-principal u
+    unfolding fieldOf sameList _and_ choose
+    field-principal f u = by-first «principal» 6 112 f (λ others. refl) u
 
     pub field-resource : {r : ℕ} → b ≡ 114 → IfTold line at «resource» 7 r → FieldTold line at r
-    field-resource f u = by-first «resource» 7 114 f only-resource u
+    unfolding fieldOf sameList _and_ choose
+    field-resource f u = by-first «resource» 7 114 f (λ others. refl) u
 
     pub field-entities : {r : ℕ} → b ≡ 101 → IfTold line at «entities» 8 r → FieldTold line at r
-    field-entities f u = by-first «entities» 8 101 f only-entities u
+    unfolding fieldOf sameList _and_ choose
+    field-entities f u = by-first «entities» 8 101 f (λ others. refl) u
 
     pub field-none : (b ≡ 116 → ⊥) → (b ≡ 110 → ⊥) → (b ≡ 97 → ⊥) → (b ≡ 107 → ⊥) → (b ≡ 108 → ⊥) → (b ≡ 99 → ⊥) → (b ≡ 112 → ⊥) → (b ≡ 114 → ⊥) → (b ≡ 101 → ⊥) → FieldTold line at 9
     field-none n0 n1 n2 n3 n4 n5 n6 n7 n8 n rest q =

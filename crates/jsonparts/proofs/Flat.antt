@@ -1,8 +1,8 @@
 -- Values that hold no other
-use mathlib.Core.Path.{_≡_, refl, sym, ap, _∙_}
+use mathlib.Core.Path.{_≡_, refl, sym, _∙_}
 use mathlib.Core.Bool.{Bool, true, false}
 use mathlib.Core.List.{List, [], _∷_}
-use Prim.Native.Nat.{ℕ, _+_, _<_, _≤_}
+use Prim.Native.Nat.{ℕ, _<_, _≤_}
 use native.Mathlib.Omega.{arith}
 use lib.Dec.{eqb}
 use lib.ListN.{length, drop, getD, drop-of-length-le}
@@ -11,8 +11,8 @@ use Rattle.meaning.specs.Tests.{choose}
 use Rattle.laws.specs.Tests.{yes, no as otherwise}
 use Rattle.jsontext.specs.declared.Fault.the-variants.{NotJson}
 use Rattle.jsontext.specs.declared.Step.{Step}
-use Rattle.jsontext.specs.declared.Step.the-variants.{At, Bad}
-use Rattle.jsontext.specs.Reading.{Read, no, mapped}
+use Rattle.jsontext.specs.declared.Step.the-variants.{Bad}
+use Rattle.jsontext.specs.Reading.{no, mapped}
 use Rattle.jsontext.specs.Numbers.{number}
 use Rattle.jsontext.specs.Strings.{string}
 use Rattle.jsontext.specs.Values.{J, Null, Truth, Int, Text, numeral, spelt}

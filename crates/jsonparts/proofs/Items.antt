@@ -13,10 +13,10 @@ use Rattle.jsontext.specs.declared.Fault.the-variants.{NotJson, BadField}
 use Rattle.jsontext.specs.declared.Step.{Step}
 use Rattle.jsontext.specs.declared.Step.the-variants.{At, Bad}
 use Rattle.jsontext.specs.Reading.{Read, got, then, no, mapped, blanks, want}
-use Rattle.jsontext.specs.Values.{begins, due, text, afterPart, items, unlessEmpty, array}
+use Rattle.jsontext.specs.Values.{begins, text, afterPart, items, unlessEmpty, array}
 use Rattle.jsontext.specs.Events.{listed}
 use Rattle.jsonread.specs.Told.{Told, Blanks}
-use Rattle.jsonread.proofs.Places.{byte-at, no-here, told-at, told-bad, wrong-here, told-of, fault-then, then-is}
+use Rattle.jsonread.proofs.Places.{byte-at, told-at, told-bad, wrong-here, told-of, fault-then, then-is}
 use Rattle.jsonread.proofs.Chars.{told-more}
 use Rattle.jsonread.proofs.Firsts.{due-end, due-there, due-not}
 

@@ -2,19 +2,17 @@
 use mathlib.Core.Path.{_≡_, refl, sym, ap, subst, _∙_}
 use mathlib.Core.Bool.{Bool, true, false}
 use mathlib.Core.List.{List, [], _∷_, _++_}
-use Prim.Native.Nat.{ℕ, suc, _+_, _*_, _-_, _^_, _<_, _≤_}
+use Prim.Native.Nat.{ℕ, suc, _+_, _-_, _^_, _<_, _≤_}
 use native.Mathlib.Omega.{arith}
-use lib.ListN.{length, drop, length-append, length-map}
+use lib.ListN.{length, drop, length-append}
 use mir.Val.{Fits}
 use mir.Syntax.{w64}
 use Rattle.meaning.specs.Tests.{choose}
-use Rattle.meaning.specs.Case.{places}
-use Rattle.encode.specs.Laws.Unsorted.{places-long}
 use Rattle.jsontext.specs.Reading.{got}
 use Rattle.jsontext.specs.Values.{Object, fields, array}
 use Rattle.jsontext.specs.Events.{Item, Event, line as lineOf}
-use Rattle.jsontrace.specs.Order.{orderedMembers, orderedMaybe, itemBefore, insertItem, orderedEntities}
-use Rattle.jsontrace.specs.Trace.{Tables, empty, _⊕_, texts, lists, Next as Next·Trace, past, lastValue, naming, entityAdds, entitiesAdd, valueAdds}
+use Rattle.jsontrace.specs.Order.{orderedMembers, itemBefore, insertItem, orderedEntities}
+use Rattle.jsontrace.specs.Trace.{Tables, _⊕_, texts, lists, Next as Next·Trace, past, lastValue, naming, entityAdds, entitiesAdd, valueAdds}
 use Rattle.jsontrace.specs.Laws.Trace.{Shaped, _then_, shaped-entities}
 use Rattle.jsonroom.specs.declared.Bodies.{Bodies}
 use Rattle.jsonroom.specs.declared.Next.{Next}
@@ -23,7 +21,7 @@ use Rattle.jsoncount.specs.Sizes.{entityRead}
 use Rattle.jsonview.specs.Room.{Ready, Adds, numbers}
 use Rattle.jsonview.specs.Filling.{numbers-beyond}
 use Rattle.jsonview.specs.Adding.{ready-first, ready-second, adds-then}
-use Rattle.jsonview.specs.Rows.{adds-next, string-words}
+use Rattle.jsonview.specs.Rows.{adds-next}
 use Rattle.jsonentry.specs.declared.Fields.{Fields}
 use Rattle.jsonentry.specs.declared.Several.{Several}
 use Rattle.jsonentry.specs.Fields.{Stands, MayStand, FieldsStand}
@@ -36,7 +34,7 @@ use Rattle.jsonfields.specs.Few.{cells-listed}
 use Rattle.jsonpieces.specs.declared.Pair.{Pair}
 use Rattle.jsonpieces.specs.declared.Four.{Four}
 use Rattle.jsonpieces.specs.declared.Front.{Front}
-use Rattle.jsonpieces.specs.Parts.{namesAdd, NamesDue, NamesWritten, fieldsTables, fieldsWord, maybeTables, maybeWord, bothTables, PairDue, PairWritten, recordsAdd, partiesAdd, valuesAdd, FourIs, FourSmall, ValuesDue, ValuesWritten, NamesSmall, ValuesSmall, frontAdd, lastAdd, bodyAdd, PieceDue, LastWritten, FrontIs, FrontSmall, FrontWritten, BodyIs, BodySmall, BodyWritten}
+use Rattle.jsonpieces.specs.Parts.{namesAdd, NamesDue, NamesWritten, fieldsTables, fieldsWord, maybeTables, maybeWord, bothTables, PairDue, PairWritten, recordsAdd, partiesAdd, valuesAdd, FourIs, ValuesDue, ValuesWritten, frontAdd, lastAdd, bodyAdd, PieceDue, LastWritten, FrontIs, FrontWritten, BodyIs, BodyWritten}
 use Rattle.jsonpieces.proofs.Values.{shaped-fields, shaped-might}
 use Rattle.jsonpieces.proofs.Names.{shaped-names, inside-of, listed-below}
 

@@ -1,10 +1,9 @@
 -- A point's record, and an event's tables by its parts
-use mathlib.Core.Path.{_≡_, refl, sym, ap, ap₂, subst, _∙_}
+use mathlib.Core.Path.{_≡_, refl, sym, ap, subst, _∙_}
 use mathlib.Core.List.{List, [], _∷_, _++_, append-nil}
 use Prim.Native.Nat.{ℕ, _+_, _*_, _%_, _/_, _≤_}
 use native.Mathlib.Omega.{arith}
-use lib.IntN.{ℤ}
-use lib.ListN.{length, drop, length-append}
+use lib.ListN.{length, drop}
 use mir.Val.{ofZ}
 use mir.Syntax.{w64}
 use Rattle.laws.specs.Writing.{Writing}
@@ -14,16 +13,16 @@ use Rattle.encode.specs.Laws.Words.{packed-long}
 use Rattle.jsontext.specs.declared.Fault.the-variants.{BadField}
 use Rattle.jsontext.specs.Reading.{got}
 use Rattle.jsontext.specs.Numbers.{number}
-use Rattle.jsontext.specs.Values.{numeral, due}
+use Rattle.jsontext.specs.Values.{numeral}
 use Rattle.jsontext.specs.Events.{Event, line as lineOf}
 use Rattle.jsontrace.specs.Order.{arranged, orderedEntities}
 use Rattle.jsontrace.specs.Trace.{Tables, _⊕_, point, Next as Next·Trace, past, low, high, entitiesAdd, eventAdds}
-use Rattle.jsontrace.specs.Laws.Trace.{Shaped, shaped-event, shaped-point}
+use Rattle.jsontrace.specs.Laws.Trace.{Shaped, shaped-point}
 use Rattle.jsonroom.specs.declared.Bodies.{Bodies}
 use Rattle.jsonroom.specs.declared.Next.{Next}
 use Rattle.jsonroom.proofs.Records.{words-more}
 use Rattle.jsonruns.specs.Good.{Good}
-use Rattle.jsonruns.proofs.Runs.{due-of, same-got}
+use Rattle.jsonruns.proofs.Runs.{due-of}
 use Rattle.jsonview.specs.Cells.{write, write-nothing}
 use Rattle.jsonview.specs.Room.{Room, Shows, filled, beyond, numbers, Fit, Grown, Adds}
 use Rattle.jsonview.specs.Showing.{in-points, same-room, same-next, with-none}
@@ -36,7 +35,7 @@ use Rattle.jsonentry.specs.Marks.{MarkReady, MarkAdds}
 use Rattle.jsonentry.specs.Marking.{mark-none, mark-then, mark-ready-first, mark-ready-second}
 use Rattle.jsonpieces.specs.declared.Four.{Four}
 use Rattle.jsonpieces.specs.declared.Body.{Body}
-use Rattle.jsonpieces.specs.Parts.{namesAdd, fieldsTables, fieldsWord, maybeTables, maybeWord, bothTables, recordsAdd, partiesAdd, valuesAdd, FourIs, frontAdd, lastAdd, bodyAdd, PieceDue, BodyIs, BodySmall, BodyWritten, nameWords, valueWords, pointWords, withPoint, PointRoom, PointPut, wordsOf}
+use Rattle.jsonpieces.specs.Parts.{namesAdd, fieldsTables, fieldsWord, maybeTables, maybeWord, bothTables, recordsAdd, partiesAdd, valuesAdd, frontAdd, lastAdd, bodyAdd, PieceDue, BodyIs, BodyWritten, nameWords, valueWords, pointWords, withPoint, PointRoom, PointPut, wordsOf}
 use Rattle.jsonpieces.proofs.Fronts.{past-past, shaped-body, ordered-long}
 
 -- ---- words one after another

@@ -1,9 +1,8 @@
 -- Values that the words of a point name
-use mathlib.Core.Path.{_≡_, refl, sym, ap, ap₂, subst, _∙_}
-use mathlib.Core.Bool.{Bool, true, false}
+use mathlib.Core.Path.{_≡_, refl, sym, ap, subst, _∙_}
 use mathlib.Core.List.{List}
 use mathlib.Core.Option.{Option, none, some}
-use Prim.Native.Nat.{ℕ, zero, suc, _+_, _*_, _-_, _<_, _≤_}
+use Prim.Native.Nat.{ℕ, zero, suc, _+_, _-_, _<_, _≤_}
 use native.Mathlib.Omega.{arith}
 use lib.ListN.{length, drop}
 use Rattle.meaning.specs.Case.{nothing}
@@ -21,13 +20,12 @@ use Rattle.jsoncount.proofs.Triples.{Fielded, fielded, byte-below, byte-left}
 use Rattle.jsonview.specs.Room.{Ready, Adds, numbers, beyond}
 use Rattle.jsonview.specs.Filling.{numbers-beyond}
 use Rattle.jsonview.specs.Showing.{adds-none}
-use Rattle.jsonview.specs.Adding.{ready-first, ready-second, adds-then, fit-first}
+use Rattle.jsonview.specs.Adding.{ready-first, ready-second, adds-then}
 use Rattle.jsonview.specs.Rows.{adds-next, value-words}
 use Rattle.jsonadds.specs.Place.{PlaceDue, Placed, objectValue, valueTables, named, namedMembers}
 use Rattle.jsonadds.proofs.Items.{value-one}
 use Rattle.jsonentry.specs.Fields.{Stands, StandsThere, MayStand}
 use Rattle.jsonpieces.specs.declared.Numbered.{Numbered}
-use Rattle.jsonpieces.specs.declared.Pair.{Pair}
 use Rattle.jsonfields.specs.Few.{cells-value, cells-fields}
 use Rattle.jsonpieces.specs.Parts.{fieldsTables, fieldsWord, maybeTables, maybeWord, OneDue, OneWritten, bothTables, PairDue, PairWritten}
 

@@ -2,7 +2,7 @@
 use mathlib.Core.Path.{_≡_, refl, sym, ap, _∙_}
 use mathlib.Core.Bool.{Bool, true, false, not}
 use mathlib.Core.List.{List, [], _∷_, _++_}
-use Prim.Native.Nat.{ℕ, zero, suc, _+_, _-_, _<_, _≤_}
+use Prim.Native.Nat.{ℕ, suc, _+_, _-_, _<_, _≤_}
 use native.Mathlib.Omega.{arith}
 use lib.Dec.{eqb, ltb}
 use lib.ListN.{length, drop, getD, length-drop, drop-of-length-le}
@@ -16,7 +16,7 @@ use Rattle.jsontext.specs.declared.Fault.{Fault}
 use Rattle.jsontext.specs.declared.Fault.the-variants.{NotJson}
 use Rattle.jsontext.specs.declared.Step.{Step}
 use Rattle.jsontext.specs.declared.Step.the-variants.{At, Bad}
-use Rattle.jsontext.specs.Reading.{Read, got, fault, then, no, mapped, want}
+use Rattle.jsontext.specs.Reading.{Read, got, then, no, mapped, want}
 use Rattle.jsontext.specs.Strings.{utf8Of, escape, isWrong, chars, string}
 use Rattle.jsonread.specs.declared.strings.Mark.{Mark}
 use Rattle.jsonread.specs.declared.strings.Mark.the-variants.{Quote, Backslash, Control, Byte}

@@ -1,7 +1,7 @@
 -- Blanks, and a byte that is due
 use mathlib.Core.Path.{_≡_, refl, sym, _∙_}
 use mathlib.Core.Bool.{Bool, true, false, not}
-use mathlib.Core.List.{List, [], _∷_}
+use mathlib.Core.List.{List}
 use Prim.Native.Nat.{ℕ, _+_, _-_, _<_, _≤_}
 use native.Mathlib.Omega.{arith}
 use lib.Dec.{eqb}
@@ -11,7 +11,7 @@ use Rattle.meaning.specs.Tests.{_or_, choose}
 use Rattle.laws.specs.Tests.{yes, no as otherwise}
 use Rattle.jsontext.specs.declared.Fault.the-variants.{NotJson}
 use Rattle.jsontext.specs.declared.Step.the-variants.{At, Bad}
-use Rattle.jsontext.specs.Reading.{Read, got, no, isBlank, blanks, want}
+use Rattle.jsontext.specs.Reading.{got, no, isBlank, blanks, want}
 use Rattle.jsonread.specs.Told.{Told, Blanks}
 use Rattle.jsonread.proofs.Places.{byte-at, told-at, wrong-here}
 

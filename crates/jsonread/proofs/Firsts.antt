@@ -9,7 +9,6 @@ use lib.ListN.{length, drop, getD, drop-of-length-le}
 use borrow.Author.Tests.{eq-eqb, ne-eqb, not-true, not-false}
 use Rattle.meaning.specs.Tests.{_and_, _or_, choose}
 use Rattle.laws.specs.Tests.{yes, no as otherwise}
-use Rattle.meaning.specs.Equal.{isDigit, sameList}
 use Rattle.jsontext.specs.declared.Fault.{Fault}
 use Rattle.jsontext.specs.declared.Fault.the-variants.{NotJson, BadField}
 use Rattle.jsontext.specs.declared.Form.{Form}
@@ -24,7 +23,7 @@ use Rattle.jsontext.specs.Events.{comma, closing}
 use Rattle.jsonread.specs.Told.{Told, Blanks}
 use Rattle.jsonread.specs.Ahead.{NamedTold, onlyForm}
 use Rattle.jsonread.specs.Spelling.{WordTold}
-use Rattle.jsonread.proofs.Places.{byte-at, no-here, told-at, told-bad, wrong-here, told-of, then-is}
+use Rattle.jsonread.proofs.Places.{byte-at, told-at, wrong-here, told-of, then-is}
 use Rattle.jsonread.proofs.Counts.{digit-below, digit-above}
 
 -- ---- the first byte

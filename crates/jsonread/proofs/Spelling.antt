@@ -1,7 +1,7 @@
 -- The bytes that a string stands for, one after another
 use mathlib.Core.Path.{_≡_, refl, sym, ap, subst, _∙_}
 use mathlib.Core.Bool.{Bool, true, false}
-use mathlib.Core.List.{List, [], _∷_, _++_, append-assoc}
+use mathlib.Core.List.{List, [], _∷_, _++_}
 use Prim.Native.Nat.{ℕ, zero, suc, _+_, _*_, _-_, _/_, _%_, _<_, _≤_}
 use native.Mathlib.Omega.{arith}
 use lib.Dec.{eqb, ltb}
@@ -10,7 +10,7 @@ use borrow.Author.Tests.{eq-eqb, ne-eqb, lt-ltb, le-ltb, ltb-true, ltb-false}
 use Rattle.meaning.specs.Tests.{_and_, choose}
 use Rattle.laws.specs.Tests.{and-false, yes, no as otherwise}
 use Rattle.meaning.specs.Equal.{sameList}
-use Rattle.meaning.specs.Text.{first, follow, next, ended}
+use Rattle.meaning.specs.Text.{follow, next, ended}
 use Rattle.meaning.specs.declared.Due.{Due}
 use Rattle.meaning.specs.declared.Due.the-variants.{Nothing, One, Two, Three, AfterE0, AfterEd, AfterF0, AfterF4, Wrong as Never}
 use Rattle.jsontext.specs.declared.Fault.{Fault}
@@ -24,7 +24,7 @@ use Rattle.jsonread.specs.declared.names.Order.the-variants.{Less, Same,
 use Rattle.jsonread.specs.declared.names.Out.{Out}
 use Rattle.jsonread.specs.declared.names.Out.the-variants.{Byte, Ended}
 use Rattle.jsonread.specs.Told.{CharTold}
-use Rattle.jsonread.specs.Spelling.{lastOf, Begins, Spelt, Yielded, NextTold, orderOf, OrderTold, WordTold, MatchIs, Matching, CompareIs, Comparing, plainly, Alike, Fitting}
+use Rattle.jsonread.specs.Spelling.{lastOf, Begins, Spelt, Yielded, NextTold, orderOf, OrderTold, WordTold, Matching, Comparing, plainly, Alike, Fitting}
 use Rattle.jsonread.proofs.Places.{byte-at, then-is}
 
 -- ---- a character's first byte

@@ -1,5 +1,5 @@
 -- What is left of a line after a byte that was due, and after a string: at least one byte less, and two
-use mathlib.Core.Path.{_≡_, refl, sym, ap, _∙_}
+use mathlib.Core.Path.{_≡_, refl}
 use mathlib.Core.Bool.{Bool, true, false}
 use mathlib.Core.List.{List, [], _∷_, _++_}
 use mathlib.Core.Option.{Option, none, some}
@@ -15,7 +15,7 @@ use Rattle.jsontext.specs.declared.Fault.{Fault}
 use Rattle.jsontext.specs.declared.Fault.the-variants.{NotJson}
 use Rattle.jsontext.specs.declared.Step.{Step}
 use Rattle.jsontext.specs.declared.Step.the-variants.{At}
-use Rattle.jsontext.specs.Reading.{Read, got, fault, then, no, mapped, want, orWrong}
+use Rattle.jsontext.specs.Reading.{Read, got, fault, then, mapped, want, orWrong}
 use Rattle.jsontext.specs.Strings.{hexDigit, hexDigits, hex4, utf8Of, isHigh, isLow, joined, lowUnit, lowHalf, pair, character, simple, escape, isWrong, chars, string}
 use Rattle.jsonread.specs.Told.{Told}
 

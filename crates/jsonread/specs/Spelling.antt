@@ -8,7 +8,7 @@ use lib.ListN.{length, drop}
 use Rattle.meaning.specs.Tests.{choose}
 use Rattle.meaning.specs.Equal.{sameList}
 use Rattle.meaning.specs.declared.Due.{Due}
-use Rattle.jsontext.specs.Reading.{Read, got}
+use Rattle.jsontext.specs.Reading.{got}
 use Rattle.jsontext.specs.Strings.{utf8Of, chars, string}
 use Rattle.jsonread.specs.declared.names.Cursor.{Cursor}
 use Rattle.jsonread.specs.declared.names.Order.{Order}

@@ -12,7 +12,7 @@ use Rattle.jsontext.specs.declared.Fault.{Fault}
 use Rattle.jsontext.specs.declared.Fault.the-variants.{NotJson}
 use Rattle.jsontext.specs.declared.Step.{Step}
 use Rattle.jsontext.specs.declared.Step.the-variants.{At, Bad}
-use Rattle.jsontext.specs.Reading.{Read, got, fault, then, no, blanks}
+use Rattle.jsontext.specs.Reading.{Read, got, fault, then, blanks}
 use Rattle.jsontext.specs.Numbers.{digits, int, frac, unsigned, exp}
 use Rattle.jsontext.specs.Strings.{hex4, isLow, utf8Of}
 use Rattle.jsonread.specs.declared.strings.Unit.{Unit}

@@ -1,7 +1,7 @@
 -- A name that is not among those kept is put into their last run
 use mathlib.Core.Path.{_≡_, refl, sym, subst}
 use mathlib.Core.List.{List}
-use Prim.Native.Nat.{ℕ, _≤_}
+use Prim.Native.Nat.{ℕ}
 use native.Mathlib.Omega.{arith}
 use Rattle.jsonnames.specs.declared.runs.Known.{Known}
 use Rattle.jsonnames.specs.declared.runs.Known.the-variants.{There, New}

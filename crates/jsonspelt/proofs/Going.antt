@@ -21,7 +21,7 @@ use Rattle.jsonread.specs.Told.{CharTold}
 use Rattle.jsonread.proofs.Places.{byte-at, then-is}
 use Rattle.jsonread.proofs.Spelling.{never, Came, came, none-left, afterSlash, slashed, plain, string-none, string-text}
 use Rattle.jsonspelt.specs.declared.Spelt.{Spelt}
-use Rattle.jsonspelt.specs.Spelt.{SpeltIs, SpeltTold, Put, Fits, PutIs, PutTold}
+use Rattle.jsonspelt.specs.Spelt.{SpeltTold, Put, Fits, PutTold}
 use Rattle.jsonspelt.proofs.Characters.{bytes-one, bytes-two, bytes-three, bytes-four}
 
 -- a quotation mark ends a string

@@ -1,12 +1,12 @@
 -- One event a line: the fields of a point (J4, J13), lines and places (J1 to J3)
-use mathlib.Core.Bool.{Bool, true, false}
+use mathlib.Core.Bool.{Bool, false}
 use mathlib.Core.List.{List, [], _∷_}
 use mathlib.Core.Option.{Option, none, some}
-use Prim.Native.Nat.{ℕ, zero, suc, _+_, _-_}
+use Prim.Native.Nat.{ℕ, suc, _+_, _-_}
 use lib.IntN.{ℤ}
 use lib.Dec.{eqb}
 use lib.ListN.{length}
-use Rattle.meaning.specs.Tests.{_and_, _or_, choose, orElse}
+use Rattle.meaning.specs.Tests.{_or_, choose}
 use Rattle.meaning.specs.Equal.{sameList}
 use Rattle.jsontext.specs.declared.Fault.{Fault}
 use Rattle.jsontext.specs.declared.Fault.the-variants.{NotJson, BadField}

@@ -1,11 +1,9 @@
 -- One text for each refusal, both sides of readings J5, J7, J11 to J15, and a log, computed. A fault is told with the bytes left at its place
 use mathlib.Core.Path.{_≡_, refl}
-use mathlib.Core.Bool.{true, false}
-use mathlib.Core.List.{List, [], _∷_, _++_}
+use mathlib.Core.Bool.{true}
+use mathlib.Core.List.{List, [], _∷_}
 use mathlib.Core.Option.{none, some}
-use Prim.Native.Nat.{ℕ}
 use lib.IntN.{pos, negsuc}
-use Rattle.meaning.specs.declared.Due.the-variants.{Nothing, One, Two, Three, AfterE0, AfterEd, AfterF0, AfterF4, Wrong}
 use Rattle.meaning.specs.Tests.{_and_, _or_, choose, onlyIf, orElse}
 use Rattle.meaning.specs.Equal.{isDigit, sameList}
 use Rattle.meaning.specs.Text.{first, follow, next, ended as ended·Text}
@@ -13,8 +11,8 @@ use Rattle.jsontext.specs.declared.Fault.the-variants.{NotJson, Repeated
 use Rattle.jsontext.specs.Reading.{Read, got, fault, then, isBlank, blanks, want, orWrong}
 use Rattle.jsontext.specs.Numbers.{digits, someDigits, int, frac, unsigned, exp, fits, signed, integer, parts, magnitude, number}
 use Rattle.jsontext.specs.Strings.{hexDigit, hexDigits, utf8Of, isHigh, isLow, joined, lowUnit, lowHalf, pair, character, simple, escape, isWrong, chars, string}
-use Rattle.jsontext.specs.Values.{J, Null, Truth, Int, Text, EntityOf, Decimal, Array, Object, Parts, end, part, Name, numeral, begins, due, afterPart, items, unlessEmpty, array, before, afterName, members, object, memberOf, itemParts, memberParts, closesFirst, formNamed, formAfter, form, only, both, entity, argument, extension, spelt, braced, valueOf, value, bare, fields}
-use Rattle.jsontext.specs.Events.{Item, Event, Log, events, refused, comma, closing, triple, unlessNone, fieldReaders, isField, fieldBy, with, found, have, whole, complete, event, ended, line, onto, cut, withEvent, lines, log}
+use Rattle.jsontext.specs.Values.{J, Null, Truth, Int, Text, EntityOf, Decimal, Array, Object, end, part, numeral, begins, due, afterPart, items, unlessEmpty, array, before, afterName, members, object, memberOf, itemParts, memberParts, closesFirst, formNamed, formAfter, form, only, both, entity, argument, extension, spelt, braced, valueOf, value, bare, fields}
+use Rattle.jsontext.specs.Events.{Log, events, refused, comma, closing, triple, unlessNone, fieldReaders, isField, fieldBy, with, found, have, whole, complete, event, ended, line, onto, cut, withEvent, lines, log}
 
 -- each pair is a pair of equals
 abbrev Each : {A : Type 0} → List (A × A) → Type 0

@@ -5,7 +5,7 @@ use Prim.Native.Nat.{ℕ, zero, suc, _+_, _*_, _-_}
 use lib.IntN.{ℤ, pos, negsuc}
 use lib.Dec.{eqb, leb}
 use lib.ListN.{length}
-use Rattle.meaning.specs.Tests.{_and_, _or_, choose}
+use Rattle.meaning.specs.Tests.{_or_, choose}
 use Rattle.meaning.specs.Equal.{isDigit}
 use Rattle.jsontext.specs.declared.Fault.the-variants.{NotJson, BadNumber}
 use Rattle.jsontext.specs.Reading.{Read, got, fault, then, no}

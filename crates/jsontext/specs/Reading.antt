@@ -1,5 +1,5 @@
 -- Reading a line from left to right: what was read and what is left, or the first fault; blanks, and a byte that is due
-use mathlib.Core.Bool.{Bool, true, false}
+use mathlib.Core.Bool.{Bool}
 use mathlib.Core.List.{List, [], _∷_}
 use mathlib.Core.Option.{Option, none, some}
 use Prim.Native.Nat.{ℕ}

@@ -42,35 +42,36 @@ entity-start s t i first count =
     let z : count - 0 ≡ count = omega arith in
     record { inside = omega arith; rest = rw (x, z) refl }
 
-entities-are : (s : List ℕ) (p first count : ℕ) → first ≡ pointWord s p 10 → count ≡ pointWord s p 11 → pointAt s p .entities ≡ map (entityAt s) (places first 3 count)
+-- first and count are the words x and y, in a wider type
+entities-are : (s : List ℕ) (p first count x y : ℕ) → first ≡ x → x ≡ pointWord s p 10 → count ≡ y → y ≡ pointWord s p 11 → pointAt s p .entities ≡ map (entityAt s) (places first 3 count)
 unfolding pointAt
-entities-are s p first count ef ec = rw (ef, ec) refl
+entities-are s p first count x y ef ex ec ey = rw (ef, ex, ec, ey) refl
 
-module _ (s : List ℕ) (t i first count k at : ℕ) (from : EntityFrom s t i first count k) where
-  entity-open : (b : Bool) → k < count → at ≡ first + 3 * k → (eqb t (list s at) and eqb i (list s (at + 1))) ≡ b → attributesOf t i (map (entityAt s) (places first 3 count)) ≡ elim b as (λ b. Option ℕ) [ true ↦ some (list s (at + 2)) | false ↦ attributesOf t i (map (entityAt s) (places (first + 3 * (k + 1)) 3 (count - (k + 1)))) ]
+module _ (s : List ℕ) (t i first count k : ℕ) (from : EntityFrom s t i first count k) where
+  entity-open : (b : Bool) → k < count → (eqb t (list s (first + 3 * k)) and eqb i (list s (first + 3 * k + 1))) ≡ b → attributesOf t i (map (entityAt s) (places first 3 count)) ≡ elim b as (λ b. Option ℕ) [ true ↦ some (list s (first + 3 * k + 2)) | false ↦ attributesOf t i (map (entityAt s) (places (first + 3 * (k + 1)) 3 (count - (k + 1)))) ]
   unfolding entityAt
-  entity-open b h ea e =
-      let x : first + 3 * (k + 1) ≡ at + 3 = omega arith in
-      let open-at : places (first + 3 * k) 3 (count - k) ≡ at ∷ places (first + 3 * (k + 1)) 3 (count - (k + 1)) = rw (← ea) (open-place at 3 count k (first + 3 * (k + 1)) h x) in
-      let cut : map (entityAt s) (places (first + 3 * k) 3 (count - k)) ≡ entityAt s at ∷ map (entityAt s) (places (first + 3 * (k + 1)) 3 (count - (k + 1))) = ap (map (entityAt s)) open-at in
-      sym (from .rest) ∙ ap (attributesOf t i) cut ∙ attributes-by t i (entityAt s at) (map (entityAt s) (places (first + 3 * (k + 1)) 3 (count - (k + 1)))) b e
+  entity-open b h e =
+      let x : first + 3 * (k + 1) ≡ first + 3 * k + 3 = omega arith in
+      let open-at : places (first + 3 * k) 3 (count - k) ≡ (first + 3 * k) ∷ places (first + 3 * (k + 1)) 3 (count - (k + 1)) = open-place (first + 3 * k) 3 count k (first + 3 * (k + 1)) h x in
+      let cut : map (entityAt s) (places (first + 3 * k) 3 (count - k)) ≡ entityAt s (first + 3 * k) ∷ map (entityAt s) (places (first + 3 * (k + 1)) 3 (count - (k + 1))) = ap (map (entityAt s)) open-at in
+      sym (from .rest) ∙ ap (attributesOf t i) cut ∙ attributes-by t i (entityAt s (first + 3 * k)) (map (entityAt s) (places (first + 3 * (k + 1)) 3 (count - (k + 1)))) b e
 
-  module _ (x y : ℕ) (r : Bool) (h : k < count) (ea : at ≡ first + 3 * k) (ex : x ≡ list s at) (ey : y ≡ list s (at + 1)) (er : r ≡ (eqb t x and eqb i y)) where
-    test : (eqb t (list s at) and eqb i (list s (at + 1))) ≡ r
+  module _ (x y : ℕ) (r : Bool) (h : k < count) (ex : x ≡ list s (first + 3 * k)) (ey : y ≡ list s (first + 3 * k + 1)) (er : r ≡ (eqb t x and eqb i y)) where
+    test : (eqb t (list s (first + 3 * k)) and eqb i (list s (first + 3 * k + 1))) ≡ r
     test = sym (er ∙ rw (ex, ey) refl)
 
     pub entity-passed : r ≡ false → EntityFrom s t i first count (k + 1)
-    entity-passed e = record { inside = omega arith; rest = sym (entity-open false h ea (test ∙ e)) }
+    entity-passed e = record { inside = omega arith; rest = sym (entity-open false h (test ∙ e)) }
 
-    pub entity-found : (p : ℕ) (v : ValNo) → first ≡ pointWord s p 10 → count ≡ pointWord s p 11 → v .0 ≡ list s (at + 2) → r ≡ true → foundAt (At v) ≡ attributesOf t i (pointAt s p .entities)
+    pub entity-found : (p u w : ℕ) (v : ValNo) → first ≡ u → u ≡ pointWord s p 10 → count ≡ w → w ≡ pointWord s p 11 → v .0 ≡ list s (first + 3 * k + 2) → r ≡ true → foundAt (At v) ≡ attributesOf t i (pointAt s p .entities)
     unfolding foundAt
-    entity-found p v ef ec ev e = ap some ev ∙ sym (ap (attributesOf t i) (entities-are s p first count ef ec) ∙ entity-open true h ea (test ∙ e))
+    entity-found p u w v ef eu ec ew ev e = ap some ev ∙ sym (ap (attributesOf t i) (entities-are s p first count u w ef eu ec ew) ∙ entity-open true h (test ∙ e))
 
-pub entity-none : (s : List ℕ) (t i first count k p : ℕ) → EntityFrom s t i first count k → first ≡ pointWord s p 10 → count ≡ pointWord s p 11 → count ≤ k → foundAt Nothing ≡ attributesOf t i (pointAt s p .entities)
+pub entity-none : (s : List ℕ) (t i first count k p u w : ℕ) → EntityFrom s t i first count k → first ≡ u → u ≡ pointWord s p 10 → count ≡ w → w ≡ pointWord s p 11 → count ≤ k → foundAt Nothing ≡ attributesOf t i (pointAt s p .entities)
 unfolding foundAt attributesOf
-entity-none s t i first count k p from ef ec h =
+entity-none s t i first count k p u w from ef eu ec ew h =
     ap (λ (l : List ℕ). attributesOf t i (map (entityAt s) l)) (sym (shut-place (first + 3 * k) 3 count k h)) ∙ from .rest
-    ∙ sym (ap (attributesOf t i) (entities-are s p first count ef ec))
+    ∙ sym (ap (attributesOf t i) (entities-are s p first count u w ef eu ec ew))
 
 -- ---- the entity's own parts
 
@@ -88,8 +89,16 @@ differ-at (x ∷ s) [] k h e ne = absurd (omega arith)
 differ-at (x ∷ s) (y ∷ l) zero h e ne = stop _ (ne-eqb x y ne)
 differ-at (x ∷ s) (y ∷ l) (suc k) h e ne = skip (eqb x y) (differ-at s l k (omega arith) (omega arith) ne)
 
-pub differ : (s l : List ℕ) (k : ℕ) → length s ≡ length l → k < length l → (getD s k 0 ≡ getD l k 0 → ⊥) → false ≡ sameList s l
-differ s l k e h ne = sym (differ-at s l k (omega arith) e ne)
+-- a byte that is another: the first, the second, the third
+module _ (s l : List ℕ) (a b c : ℕ) where
+  pub first-other : length s ≡ length (a ∷ l) → (getD s 0 0 ≡ a → ⊥) → false ≡ sameList s (a ∷ l)
+  first-other e ne = sym (differ-at s (a ∷ l) 0 (omega arith) e ne)
+
+  pub second-other : length s ≡ length (a ∷ b ∷ l) → (getD s 1 0 ≡ b → ⊥) → false ≡ sameList s (a ∷ b ∷ l)
+  second-other e ne = sym (differ-at s (a ∷ b ∷ l) 1 (omega arith) e ne)
+
+  pub third-other : length s ≡ length (a ∷ b ∷ c ∷ l) → (getD s 2 0 ≡ c → ⊥) → false ≡ sameList s (a ∷ b ∷ c ∷ l)
+  third-other e ne = sym (differ-at s (a ∷ b ∷ c ∷ l) 2 (omega arith) e ne)
 
 pub last-of-two : (s : List ℕ) (a b : ℕ) → length s ≡ 2 → getD s 0 0 ≡ a → eqb (getD s 1 0) b ≡ sameList s (a ∷ b ∷ [])
 unfolding sameList

@@ -196,8 +196,8 @@ sought-known v from key r k er e ek small =
 pub sought-same : {s t : List ℕ} {path : Run} {v from : ℕ} {found : Found} (u : ValNo) → Sought s path t v from found → found ≡ At u → Sought s path t v from (At u)
 sought-same u o e = rw (← e) o
 
-pub sought-none : {s t : List ℕ} {path : Run} {v from : ℕ} {found : Found} → Sought s path t v from found → found ≡ Nothing → Missed s path t v from
-sought-none o e = rw (← e) o
+pub sought-none : {s t : List ℕ} {path : Run} {v from : ℕ} {found : Found} → found ≡ Nothing → Sought s path t v from found → Missed s path t v from
+sought-none e o = rw (← e) o
 
 -- how far there is to go
 pub look-in-falls : (count from z : ℕ) → 2 * (count - from) + 1 ≡ z → 2 * (count - from) < z

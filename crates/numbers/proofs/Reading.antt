@@ -4,10 +4,8 @@ use mathlib.Core.Bool.{Bool, true, false, not}
 use mathlib.Core.List.{List, [], _∷_}
 use Prim.Native.Nat.{ℕ, zero, suc, _+_, _*_, _-_, _<_, _≤_, min}
 use native.Mathlib.Omega.{arith}
-use native.Mathlib.Numerals.{add-one}
 use lib.Dec.{eqb, ltb, leb}
 use lib.ListN.{length, getD, drop}
-use lib.Seq.{drop-cons}
 use lib.Signed.{mag}
 use borrow.Author.Tests.{leb-true, lt-leb, le-leb, ltb-true, ltb-false, eq-eqb, ne-eqb, not-true, not-false}
 use Rattle.laws.specs.Tests.{both, stop, after, yes, no}

@@ -18,20 +18,46 @@ use Rattle.laws.specs.Number.{bias, bias-clamp, bias-plus, bias-minus, bias-low
 use Rattle.meaning.specs.declared.ArithOp.the-variants.{Add, Sub, Mul}
 use Rattle.numbers.specs.Numbers.{isNegative, magnitudeOf, signedBy}
 
--- x and y are the distances of a and b, r's distance is d
-module _ (a b x y r d : ℕ) (ex : x ≡ bias (toZ w64 a)) (ey : y ≡ bias (toZ w64 b)) (er : bias (toZ w64 r) ≡ d)
+-- x and y are the distances of a and b
+module _ (a b x y r : ℕ) (ex : x ≡ bias (toZ w64 a)) (ey : y ≡ bias (toZ w64 b))
     (ha : a < 18446744073709551616) (hb : b < 18446744073709551616) (hr : r < 18446744073709551616) where
-  pub plus : d ≡ min 18446744073709551615 (x + y - 9223372036854775808) → toZ w64 r ≡ calculate Add (toZ w64 a) (toZ w64 b)
+  plus : (d : ℕ) → bias (toZ w64 r) ≡ d → d ≡ min 18446744073709551615 (x + y - 9223372036854775808) → toZ w64 r ≡ calculate Add (toZ w64 a) (toZ w64 b)
   unfolding calculate
-  plus e =
+  plus d er e =
       bias-inj (toZ w64 r) (calculate Add (toZ w64 a) (toZ w64 b)) (toZ-fits r hr) (clamp-fits _)
       (er ∙ e ∙ rw (ex, ey) (sym (bias-plus (toZ w64 a) (toZ w64 b) (toZ-fits a ha) (toZ-fits b hb))))
 
-  pub minus : d ≡ min 18446744073709551615 (x + 9223372036854775808 - y) → toZ w64 r ≡ calculate Sub (toZ w64 a) (toZ w64 b)
+  minus : (d : ℕ) → bias (toZ w64 r) ≡ d → d ≡ min 18446744073709551615 (x + 9223372036854775808 - y) → toZ w64 r ≡ calculate Sub (toZ w64 a) (toZ w64 b)
   unfolding calculate
-  minus e =
+  minus d er e =
       bias-inj (toZ w64 r) (calculate Sub (toZ w64 a) (toZ w64 b)) (toZ-fits r hr) (clamp-fits _)
       (er ∙ e ∙ rw (ex, ey) (sym (bias-minus (toZ w64 a) (toZ w64 b) (toZ-fits a ha) (toZ-fits b hb))))
+
+  -- a sum: past the least, down from b, past the greatest, up from b
+  pub sum-least : x < 9223372036854775808 → y < 9223372036854775808 - x → bias (toZ w64 r) ≡ 0 → toZ w64 r ≡ calculate Add (toZ w64 a) (toZ w64 b)
+  sum-least h k er = plus 0 er (omega arith)
+
+  pub sum-down : y < 18446744073709551616 → x < 9223372036854775808 → 9223372036854775808 - x ≤ y → bias (toZ w64 r) ≡ y - (9223372036854775808 - x) → toZ w64 r ≡ calculate Add (toZ w64 a) (toZ w64 b)
+  sum-down hy h k er = plus (y - (9223372036854775808 - x)) er (omega arith)
+
+  pub sum-most : 9223372036854775808 ≤ x → 18446744073709551615 - (x - 9223372036854775808) < y → bias (toZ w64 r) ≡ 18446744073709551615 → toZ w64 r ≡ calculate Add (toZ w64 a) (toZ w64 b)
+  sum-most h k er = plus 18446744073709551615 er (omega arith)
+
+  pub sum-up : x < 18446744073709551616 → 9223372036854775808 ≤ x → y ≤ 18446744073709551615 - (x - 9223372036854775808) → bias (toZ w64 r) ≡ y + (x - 9223372036854775808) → toZ w64 r ≡ calculate Add (toZ w64 a) (toZ w64 b)
+  sum-up hx h k er = plus (y + (x - 9223372036854775808)) er (omega arith)
+
+  -- a difference: past the least, below the middle, past the greatest, above the middle
+  pub difference-least : x < y → 9223372036854775808 < y - x → bias (toZ w64 r) ≡ 0 → toZ w64 r ≡ calculate Sub (toZ w64 a) (toZ w64 b)
+  difference-least h k er = minus 0 er (omega arith)
+
+  pub difference-down : x < y → y - x ≤ 9223372036854775808 → bias (toZ w64 r) ≡ 9223372036854775808 - (y - x) → toZ w64 r ≡ calculate Sub (toZ w64 a) (toZ w64 b)
+  difference-down h k er = minus (9223372036854775808 - (y - x)) er (omega arith)
+
+  pub difference-most : y ≤ x → 9223372036854775808 ≤ x - y → bias (toZ w64 r) ≡ 18446744073709551615 → toZ w64 r ≡ calculate Sub (toZ w64 a) (toZ w64 b)
+  difference-most h k er = minus 18446744073709551615 er (omega arith)
+
+  pub difference-up : y ≤ x → x - y < 9223372036854775808 → bias (toZ w64 r) ≡ 9223372036854775808 + (x - y) → toZ w64 r ≡ calculate Sub (toZ w64 a) (toZ w64 b)
+  difference-up h k er = minus (9223372036854775808 + (x - y)) er (omega arith)
 
 -- ---- order
 
@@ -57,14 +83,31 @@ by-bias : (r : ℕ) (z : ℤ) → r < 18446744073709551616 → bias (toZ w64 r) 
 by-bias r z hr e = bias-inj (toZ w64 r) (clamp z) (toZ-fits r hr) (clamp-fits z) (e ∙ sym (bias-clamp z))
 
 module _ (minus : Bool) (r m : ℕ) where
-  pub minus-low : minus ≡ true → r < 9223372036854775808 → r + m ≡ 0 → toZ w64 r ≡ clamp (signedBy minus m)
+  minus-low : minus ≡ true → r < 9223372036854775808 → r + m ≡ 0 → toZ w64 r ≡ clamp (signedBy minus m)
   minus-low s h e = rw s (by-bias r (signedBy true m) (omega arith) (omega (arith, bias-low r h, bias-minus-sign m)))
 
-  pub minus-high : minus ≡ true → 9223372036854775808 ≤ r → r < 18446744073709551616 → r - 9223372036854775808 ≡ 9223372036854775808 - m → toZ w64 r ≡ clamp (signedBy minus m)
+  minus-high : minus ≡ true → 9223372036854775808 ≤ r → r < 18446744073709551616 → r - 9223372036854775808 ≡ 9223372036854775808 - m → toZ w64 r ≡ clamp (signedBy minus m)
   minus-high s h k e = rw s (by-bias r (signedBy true m) k (omega (arith, bias-high r h k, bias-minus-sign m)))
 
-  pub plus-low : minus ≡ false → r < 9223372036854775808 → r ≡ min 9223372036854775807 m → toZ w64 r ≡ clamp (signedBy minus m)
+  plus-low : minus ≡ false → r < 9223372036854775808 → r ≡ min 9223372036854775807 m → toZ w64 r ≡ clamp (signedBy minus m)
   plus-low s h e = rw s (by-bias r (signedBy false m) (omega arith) (omega (arith, bias-low r h, bias-plus-sign m)))
+
+-- the bits by sign and magnitude: the least, none, below 0, the greatest, from 0 on
+module _ (minus : Bool) (m : ℕ) where
+  pub sign-least : minus ≡ true → 9223372036854775808 ≤ m → toZ w64 9223372036854775808 ≡ clamp (signedBy minus m)
+  sign-least s h = minus-high minus 9223372036854775808 m s (omega arith) (omega arith) (omega arith)
+
+  pub sign-none : minus ≡ true → m ≡ 0 → toZ w64 0 ≡ clamp (signedBy minus m)
+  sign-none s h = minus-low minus 0 m s (omega arith) (omega arith)
+
+  pub sign-below : minus ≡ true → m < 9223372036854775808 → (m ≡ 0 → ⊥) → toZ w64 (18446744073709551615 - (m - 1)) ≡ clamp (signedBy minus m)
+  sign-below s h n = minus-high minus (18446744073709551615 - (m - 1)) m s (omega arith) (omega arith) (omega arith)
+
+  pub sign-most : minus ≡ false → 9223372036854775808 ≤ m → toZ w64 9223372036854775807 ≡ clamp (signedBy minus m)
+  sign-most s h = plus-low minus 9223372036854775807 m s (omega arith) (omega arith)
+
+  pub sign-from : minus ≡ false → m < 9223372036854775808 → toZ w64 m ≡ clamp (signedBy minus m)
+  sign-from s h = plus-low minus m m s h (omega arith)
 
 -- ---- products
 

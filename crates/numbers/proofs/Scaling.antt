@@ -6,15 +6,16 @@ use mathlib.Core.Option.{Option, none, some}
 use Prim.Native.Nat.{ℕ, zero, suc, _+_, _*_, _-_, _^_, _<_, _≤_, min}
 use native.Mathlib.Omega.{arith}
 use native.Mathlib.Numerals.{add-one}
+use native.Mathlib.Nat.{mul-le-mul}
 use lib.Dec.{eqb, ltb, leb}
 use lib.ListN.{length, take, drop, length-drop}
 use lib.Seq.{take-all}
 use lib.IntN.{ℤ, pos, negℤ}
 use lib.Signed.{mag}
-use mir.Val.{toZ, ofZ, Fits}
+use mir.Val.{toZ, Fits}
 use mir.Facts.{ofZ-toZ}
 use mir.Syntax.{w64}
-use borrow.Author.Tests.{leb-true, leb-false, lt-leb, le-leb, le-ltb, ltb-true, eq-eqb, ne-eqb, eqb-true, eqb-false, not-true, not-false}
+use borrow.Author.Tests.{leb-true, leb-false, lt-leb, le-leb, le-ltb, ltb-true, ne-eqb, eqb-true, eqb-false, not-true, not-false}
 use Rattle.meaning.specs.Tests.{_and_, onlyIf}
 use Rattle.meaning.specs.Number.{clamp}
 use Rattle.meaning.specs.Case.{caseOf, text}
@@ -51,6 +52,7 @@ module _ (s : List ℕ) (n : ℕ) (e : digits s ≡ true) (h : length s ≤ 4) (
   whole-number : n ≡ natural 0 s
   whole-number = omega (arith, four s e h)
 
+  -- k digits, m what is left of the scale
   pub fraction-of : (k m : ℕ) → length s ≡ k → 10 ^ (4 - k) ≡ m → n * m ≡ natural 0 s * 10 ^ (4 - length s)
   fraction-of k m l p = rw (l, p, whole-number) refl
 
@@ -60,13 +62,18 @@ module _ (s : List ℕ) (n : ℕ) (e : digits s ≡ true) (h : length s ≤ 4) (
       let one : n * 1 ≡ natural 0 s * 10 ^ (4 - length s) = fraction-of 4 1 l refl in
       omega arith
 
-  pub fraction-small : n ≤ 9999
+  pub fraction-small : n < 100000000
   fraction-small = omega (arith, four s e h, whole-number)
+
+  pub scaled-small : (m : ℕ) → leb m 10000 ≡ true → n * m < 100000000
+  scaled-small m q =
+      let nine : n ≤ 9999 = omega (arith, four s e h, whole-number) in
+      omega (arith, mul-le-mul nine (leb-true m 10000 q))
 
 -- ---- the cut
 
 -- a slice from q on
-pub tail-is : (s : List ℕ) (q : ℕ) → take (length s - q) (drop q s) ≡ drop q s
+tail-is : (s : List ℕ) (q : ℕ) → take (length s - q) (drop q s) ≡ drop q s
 tail-is s q = take-all (length s - q) (drop q s) (omega (arith, length-drop q s))
 
 append-none : (l : List ℕ) → l ++ [] ≡ l
@@ -98,11 +105,11 @@ module _ (minus : Bool) (s : List ℕ) (p : ℕ) (ep : p ≡ pointIn s) where
   unfolding decimalOf unsignedOf
   unsigned-none h = let q : length s ≤ pointIn s = omega arith in sym (ap (λ (o : Option (List ℕ × List ℕ)). elim o as (λ o. Option ℤ) [ none ↦ none | some parts ↦ scaled minus (parts .0) (parts .1) ]) (cut-none [] s q))
 
-  pub unsigned-some : (w f : List ℕ) (r : Decimal) → p < length s → w ≡ take p s → f ≡ drop (p + 1) s → decimalOf r ≡ scaled minus w f → decimalOf r ≡ unsignedOf minus s
+  pub unsigned-some : (r : Decimal) → p < length s → decimalOf r ≡ scaled minus (take p s) (take (length s - (p + 1)) (drop (p + 1) s)) → decimalOf r ≡ unsignedOf minus s
   unfolding unsignedOf
-  unsigned-some w f r h ew ef e =
+  unsigned-some r h e =
       let q : pointIn s < length s = omega arith in
-      let same : scaled minus w f ≡ scaled minus (take (pointIn s) s) (drop (suc (pointIn s)) s) = rw (ew, ef, add-one p, ep) refl in
+      let same : scaled minus (take p s) (take (length s - (p + 1)) (drop (p + 1) s)) ≡ scaled minus (take (pointIn s) s) (drop (suc (pointIn s)) s) = rw (tail-is s (p + 1), add-one p, ep) refl in
       e ∙ same ∙ sym (ap (λ (o : Option (List ℕ × List ℕ)). elim o as (λ o. Option ℤ) [ none ↦ none | some parts ↦ scaled minus (parts .0) (parts .1) ]) (cut-some [] s q))
 
 -- ---- the sign
@@ -124,10 +131,10 @@ first-is b s t e = ap (split b s) (sym e) ∙ by (eqb b 45)
     by true = refl
     by false = refl
 
-pub decimal-minus : (s rest : List ℕ) (r : Bool) (d : Decimal) → r ≡ isMinus s → r ≡ true → rest ≡ drop 1 s → decimalOf d ≡ unsignedOf true rest → decimalOf d ≡ decimal s
+pub decimal-minus : (s : List ℕ) (r : Bool) (d : Decimal) → r ≡ isMinus s → r ≡ true → decimalOf d ≡ unsignedOf true (take (length s - 1) (drop 1 s)) → decimalOf d ≡ decimal s
 unfolding isMinus decimal unsignedOf split
-decimal-minus [] rest r d e f g h = let z : _≡_ {A = Bool} true false = sym f ∙ e in let y : _≡_ {A = ℕ} 0 1 = cc in absurd (omega arith)
-decimal-minus (b ∷ s) rest r d e f g h = h ∙ rw g refl ∙ ap (λ (u : Bool × List ℕ). unsignedOf (u .0) (u .1)) (first-is b s true (sym e ∙ f))
+decimal-minus [] r d e f h = let z : _≡_ {A = Bool} true false = sym f ∙ e in let y : _≡_ {A = ℕ} 0 1 = cc in absurd (omega arith)
+decimal-minus (b ∷ s) r d e f h = h ∙ rw (tail-is (b ∷ s) 1) refl ∙ ap (λ (u : Bool × List ℕ). unsignedOf (u .0) (u .1)) (first-is b s true (sym e ∙ f))
 
 pub decimal-plus : (s : List ℕ) (r : Bool) (d : Decimal) → r ≡ isMinus s → r ≡ false → decimalOf d ≡ unsignedOf false s → decimalOf d ≡ decimal s
 unfolding isMinus decimal unsignedOf unsigned split

@@ -27,9 +27,6 @@ module _ (s : List ℕ) (n k u w o p : ℕ) (h : bodies s ≡ true) (e : u ≡ s
   pub node-first : 4 * (p / 4 + 8 * k) + 3 < length s
   node-first = body-fits s 4 (8 * k) u w h (lit< tt) e f o p eo ep (omega (arith, lt))
 
-  pub node-fits : (j : ℕ) → j < 8 → 4 * (p / 4 + 8 * k + j) + 3 < length s
-  node-fits j hj = part-fits s 4 (8 * k) u w o p h (lit< tt) e f eo ep j (omega (arith, lt, hj))
-
   node-start : (r : ℕ) → r ≡ getD (words s) (p / 4 + 8 * k) 0 → r ≡ nodeWord s n 0
   node-start r er =
       let z : 8 * k ≡ 8 * k + 0 = omega arith in
@@ -49,6 +46,10 @@ module _ (s : List ℕ) (n k u w o p : ℕ) (h : bodies s ≡ true) (e : u ≡ s
       (node-part 5 g (lit< tt) eg)
       (node-part 6 l (lit< tt) el)
       er
+
+-- what the place and the number say goes first: then each further fact is sought by a number that is known
+pub node-fits : (s : List ℕ) (k u w o p j : ℕ) → p ≡ o → o ≡ offset s 4 → k < w / 32 → w ≡ u → u ≡ size s 4 → bodies s ≡ true → j < 8 → 4 * (p / 4 + 8 * k + j) + 3 < length s
+node-fits s k u w o p j ep eo lt f e h hj = part-fits s 4 (8 * k) u w o p h (lit< tt) e f eo ep j (omega (arith, lt, hj))
 
 -- ---- times
 

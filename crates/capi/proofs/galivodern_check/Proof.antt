@@ -1,11 +1,10 @@
 use borrow.Author.Needs.{needs}
-use native.Mathlib.Omega.{arith}
 use Rattle.capi.proofs.Seeing.{unchecked, passes, refused}
 use Rattle.capi.proofs.galivodern_check.Statement.{statement}
 use Rattle.capi.proofs.galivodern_check.Tie as tie
 
 returns : tie.Need-returns
-returns c = unchecked _ (c .before .before .before .args .contents .now) (omega (arith, c .if1 .taken))
+returns c = search (unchecked, needs)
 
 check-requires : tie.Need-check-requires
 check-requires c κs = search needs
@@ -26,10 +25,10 @@ same-length : tie.Need-same-length
 same-length c = search needs
 
 returns-2 : tie.Need-returns-2
-returns-2 c = passes (c .before .before .before .before .before .before .before .before .if1 .left) (c .before .before .before .before .before .before .before .check .ensures) (c .before .before .before .before .before .checking .given .1) (c .before .before .tell-contents .ensures .0) (c .before .before .tell-contents .ensures .1)
+returns-2 c = search (passes, needs)
 
 returns-3 : tie.Need-returns-3
-returns-3 c = refused (c .before .before .before .before .before .if1 .left) (c .before .before .before .before .check .ensures) (c .before .before .checking2 .given .1) (c .number .ensures .0)
+returns-3 c = search (refused, needs)
 
 pub galivodern-check-spec : {M : Type 1} → statement M
 galivodern-check-spec =

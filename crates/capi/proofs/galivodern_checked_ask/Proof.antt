@@ -5,8 +5,8 @@ use Rattle.capi.proofs.galivodern_checked_ask.Tie as tie
 use Rattle.capi.proofs.galivodern_checked_ask.Reads as reads
 use Rattle.capi.proofs.galivodern_checked_ask.Lts as lts
 use Rattle.calls.proofs.checked.ask.Reads as ask-reads
-use Rattle.capi.proofs.telling.of_answer.Reads as of-answer-reads
-use Rattle.capi.proofs.telling.tell.Reads as tell-reads
+use Rattle.telling.proofs.of_answer.Reads as of-answer-reads
+use Rattle.telling.proofs.tell.Reads as tell-reads
 
 returns : tie.Need-returns
 returns c = search (unasked, needs)

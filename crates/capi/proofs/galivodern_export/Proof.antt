@@ -4,7 +4,7 @@ use Rattle.capi.proofs.galivodern_export.Statement.{statement}
 use Rattle.capi.proofs.galivodern_export.Tie as tie
 use Rattle.capi.proofs.galivodern_export.Reads as reads
 use Rattle.capi.proofs.galivodern_export.Lts as lts
-use Rattle.capi.proofs.telling.tell_exported.Reads as tell-exported-reads
+use Rattle.telling.proofs.tell_exported.Reads as tell-exported-reads
 use Rattle.jsonexport.proofs.export.Reads as export-reads
 
 returns : tie.Need-returns

@@ -4,7 +4,7 @@ use Rattle.capi.proofs.galivodern_import.Statement.{statement}
 use Rattle.capi.proofs.galivodern_import.Tie as tie
 use Rattle.capi.proofs.galivodern_import.Reads as reads
 use Rattle.capi.proofs.galivodern_import.Lts as lts
-use Rattle.capi.proofs.telling.tell_imported.Reads as tell-imported-reads
+use Rattle.telling.proofs.tell_imported.Reads as tell-imported-reads
 use Rattle.jsonwrite.proofs.import.import.Reads as import-reads
 
 returns : tie.Need-returns

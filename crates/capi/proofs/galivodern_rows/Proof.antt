@@ -5,8 +5,8 @@ use Rattle.capi.proofs.galivodern_rows.Tie as tie
 use Rattle.capi.proofs.galivodern_rows.Reads as reads
 use Rattle.capi.proofs.galivodern_rows.Lts as lts
 use Rattle.calls.proofs.rows.Reads as rows-reads
-use Rattle.capi.proofs.telling.of_rows.Reads as of-rows-reads
-use Rattle.capi.proofs.telling.tell.Reads as tell-reads
+use Rattle.telling.proofs.of_rows.Reads as of-rows-reads
+use Rattle.telling.proofs.tell.Reads as tell-reads
 
 returns : tie.Need-returns
 returns c = search (unasked, needs)

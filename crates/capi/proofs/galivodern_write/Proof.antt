@@ -4,7 +4,7 @@ use Rattle.capi.proofs.galivodern_write.Statement.{statement}
 use Rattle.capi.proofs.galivodern_write.Tie as tie
 use Rattle.capi.proofs.galivodern_write.Reads as reads
 use Rattle.capi.proofs.galivodern_write.Lts as lts
-use Rattle.capi.proofs.telling.tell_written.Reads as tell-written-reads
+use Rattle.telling.proofs.tell_written.Reads as tell-written-reads
 use Rattle.casewrite.proofs.write.Reads as write-reads
 
 returns : tie.Need-returns

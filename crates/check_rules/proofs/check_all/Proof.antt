@@ -1,14 +1,26 @@
-use Prim.Native.Nat.{_+_, _-_, _/_, _<_, _≤_}
+use Prim.Native.Nat.{ℕ, _+_, _-_, _*_, _/_, _<_, _≤_}
 use borrow.Author.Needs.{needs}
-use lib.ListN.{length}
-use mathlib.Core.Path.{_≡_}
+use lib.ListN.{length, set, length-set}
+use mathlib.Core.List.{List}
+use mathlib.Core.Path.{_≡_, _∙_}
 use native.Mathlib.Omega.{arith}
-use Rattle.meaning.specs.Case.{list, words}
 use Rattle.check_rules.proofs.check_all.Statement.{statement}
 use Rattle.check_rules.proofs.check_all.Tie as tie
 
+-- the words from `at` on are not read yet
+record Reading (list : List ℕ) (words : ℕ) (counts : List ℕ) (at : ℕ) : Type 0 where
+  from : 1 ≤ at
+  to : at ≤ words + 1
+  whole : words ≡ length list / 4
+  some : 0 < words
+  sixteen : length counts ≡ 16
+
+-- after a file that lies in the list whole
+next : {list counts : List ℕ} {words at size : ℕ} (answer count : ℕ) → Reading list words counts at → at + 2 ≤ words → size ≤ length list - 4 * (at + 2) → Reading list words (set counts answer count) (at + (2 + (size + 3) / 4))
+next {counts = counts} answer count o lt le = record { from = omega (arith, o .from); to = omega (arith, o .whole); whole = o .whole; some = o .some; sixteen = length-set counts answer count ∙ o .sixteen }
+
 abbrev Inv-loop : tie.InvT-loop
-Inv-loop list words counts₀ files₀ wrong₀ at₀ counts files wrong at = (1 ≤ at) × (at ≤ words + 1) × (words ≡ length list / 4) × (0 < words) × (length counts ≡ 16)
+Inv-loop list words counts₀ files₀ wrong₀ at₀ counts files wrong at = Reading list words counts at
 
 abbrev μ-loop : tie.MeasureT-loop
 μ-loop list words counts₀ files₀ wrong₀ at₀ counts files wrong at = words + 1 - at
@@ -101,7 +113,7 @@ loop-less : tie.Need-loop-less Inv-loop μ-loop
 loop-less c = search needs
 
 loop-again : tie.Need-loop-again Inv-loop μ-loop
-loop-again c = let i = c .before .before .before .before .before .before .before .before .before .before .before .before .loop .inv in (omega (arith, i .0), omega (arith, i .1, i .2, c .before .before .before .before .before .before .if2 .left, c .before .before .before .before .before .before .before .wide2 .ensures), i .2, i .3, search needs)
+loop-again c = search (next, needs)
 
 word-at-requires-3 : tie.Need-word-at-requires-3 Inv-loop μ-loop
 word-at-requires-3 c κs = search needs

@@ -1,6 +1,5 @@
 -- A node is read of its words, or is Broken beyond the table
 use borrow.Author.Needs.{needs}
-use lib.Dec.{lit<}
 use Rattle.laws.specs.Bodies.{long}
 use Rattle.tables.proofs.Records.{node-none, node-first, node-fits, node-whole}
 use Rattle.tables.proofs.node_at.Statement.{statement}
@@ -67,7 +66,7 @@ add-word-at-6 : tie.Need-add-word-at-6
 add-word-at-6 c = search needs
 
 word-at-requires-7 : tie.Need-word-at-requires-7
-word-at-requires-7 c κs = node-fits _ _ _ _ _ _ _ (c .before .before .before .before .before .before .before .before .before .before .before .before .before .pre) (c .before .before .before .before .before .before .before .before .before .before .before .size-of .ensures) (c .before .before .before .before .before .before .before .before .before .before .wide .ensures) (c .before .before .before .before .before .before .before .offset-of .ensures) (c .before .before .before .before .before .before .wide3 .ensures) (c .before .before .before .before .before .before .before .before .before .wide2 .ensures) (c .before .before .before .before .before .before .before .before .if1 .left) 6 (lit< tt)
+word-at-requires-7 c κs = search (node-fits, needs)
 
 node-from-requires : tie.Need-node-from-requires
 node-from-requires c κs = search needs

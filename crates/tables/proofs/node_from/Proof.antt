@@ -2,7 +2,7 @@
 use borrow.Author.Needs.{needs}
 use Rattle.meaning.specs.Case.{nodeFrom, under}
 use Rattle.meaning.specs.Tests.{choose}
-use borrow.Author.Tests.{ne-eqb}
+use Rattle.tables.proofs.Choices.{from-formerly, from-previous, from-since, from-comparison, from-scope, from-arithmetic, from-rest}
 use Rattle.tables.proofs.node_from.Statement.{statement}
 use Rattle.tables.proofs.node_from.Tie as tie
 
@@ -37,24 +37,20 @@ unfolding nodeFrom under choose
 returns-3 c = rw (c .match .keys3)
 
 returns-4 : tie.Need-returns-4
-unfolding nodeFrom under choose
-returns-4 c = rw (c .before .match .keys4, c .interval-of .ensures)
+returns-4 c = search (from-formerly, needs)
 
 returns-5 : tie.Need-returns-5
-unfolding nodeFrom under choose
-returns-5 c = rw (c .before .match .keys5, c .interval-of2 .ensures)
+returns-5 c = search (from-previous, needs)
 
 returns-6 : tie.Need-returns-6
-unfolding nodeFrom under choose
-returns-6 c = rw (c .before .match .keys6, c .interval-of3 .ensures)
+returns-6 c = search (from-since, needs)
 
 returns-7 : tie.Need-returns-7
 unfolding nodeFrom under choose
 returns-7 c = rw (c .match .keys7)
 
 returns-8 : tie.Need-returns-8
-unfolding nodeFrom under choose
-returns-8 c = rw (c .before .match .keys8, c .cmp-of .ensures)
+returns-8 c = search (from-comparison, needs)
 
 returns-9 : tie.Need-returns-9
 unfolding nodeFrom under choose
@@ -73,8 +69,7 @@ unfolding nodeFrom under choose
 returns-12 c = rw (c .match .keys12)
 
 returns-13 : tie.Need-returns-13
-unfolding nodeFrom under choose
-returns-13 c = rw (c .before .match .keys13, c .root-from .ensures)
+returns-13 c = search (from-scope, needs)
 
 returns-14 : tie.Need-returns-14
 unfolding nodeFrom under choose
@@ -89,8 +84,7 @@ unfolding nodeFrom under choose
 returns-16 c = rw (c .match .keys16)
 
 returns-17 : tie.Need-returns-17
-unfolding nodeFrom under choose
-returns-17 c = rw (c .before .match .keys17, c .arith-of .ensures)
+returns-17 c = search (from-arithmetic, needs)
 
 returns-18 : tie.Need-returns-18
 unfolding nodeFrom under choose
@@ -101,8 +95,7 @@ unfolding nodeFrom under choose
 returns-19 c = rw (c .match .keys19)
 
 returns-20 : tie.Need-returns-20
-unfolding nodeFrom under choose
-returns-20 c = simp (ne-eqb _ _ (c .match .rest .1), ne-eqb _ _ (c .match .rest .0 .1), ne-eqb _ _ (c .match .rest .0 .0 .1), ne-eqb _ _ (c .match .rest .0 .0 .0 .1), ne-eqb _ _ (c .match .rest .0 .0 .0 .0 .1), ne-eqb _ _ (c .match .rest .0 .0 .0 .0 .0 .1), ne-eqb _ _ (c .match .rest .0 .0 .0 .0 .0 .0 .1), ne-eqb _ _ (c .match .rest .0 .0 .0 .0 .0 .0 .0 .1), ne-eqb _ _ (c .match .rest .0 .0 .0 .0 .0 .0 .0 .0 .1), ne-eqb _ _ (c .match .rest .0 .0 .0 .0 .0 .0 .0 .0 .0 .1), ne-eqb _ _ (c .match .rest .0 .0 .0 .0 .0 .0 .0 .0 .0 .0 .1), ne-eqb _ _ (c .match .rest .0 .0 .0 .0 .0 .0 .0 .0 .0 .0 .0 .1), ne-eqb _ _ (c .match .rest .0 .0 .0 .0 .0 .0 .0 .0 .0 .0 .0 .0 .1), ne-eqb _ _ (c .match .rest .0 .0 .0 .0 .0 .0 .0 .0 .0 .0 .0 .0 .0 .1), ne-eqb _ _ (c .match .rest .0 .0 .0 .0 .0 .0 .0 .0 .0 .0 .0 .0 .0 .0 .1), ne-eqb _ _ (c .match .rest .0 .0 .0 .0 .0 .0 .0 .0 .0 .0 .0 .0 .0 .0 .0 .1), ne-eqb _ _ (c .match .rest .0 .0 .0 .0 .0 .0 .0 .0 .0 .0 .0 .0 .0 .0 .0 .0 .1), ne-eqb _ _ (c .match .rest .0 .0 .0 .0 .0 .0 .0 .0 .0 .0 .0 .0 .0 .0 .0 .0 .0 .1), ne-eqb _ _ (c .match .rest .0 .0 .0 .0 .0 .0 .0 .0 .0 .0 .0 .0 .0 .0 .0 .0 .0 .0 .1))
+returns-20 c = search (from-rest, needs)
 
 pub node-from-spec : {M : Type 1} → statement M
 node-from-spec =

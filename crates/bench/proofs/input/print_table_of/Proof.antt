@@ -1,8 +1,5 @@
 use borrow.Author.Needs.{needs}
-use mathlib.Core.Path.{sym, subst}
-use native.Mathlib.Omega.{arith}
-use lib.Seq.{length-take-le}
-use Rattle.bench.specs.Input.{Within}
+use Rattle.bench.proofs.Buffer.{read-fits, read-long}
 use Rattle.bench.proofs.input.print_table_of.Statement.{statement}
 use Rattle.bench.proofs.input.print_table_of.Tie as tie
 
@@ -25,10 +22,10 @@ enum-known-input : tie.Need-enum-known-input
 enum-known-input c = search needs
 
 array-share-prefix-buf : tie.Need-array-share-prefix-buf
-array-share-prefix-buf c = omega (arith, subst (Within _) (c .before .input .given .1) (c .before .before .before .before .read-all .ensures), c .before .before .before .before .read-all .kept .1 .0, c .before .before .before .before .before .before .room .ensures)
+array-share-prefix-buf c = search (read-fits, needs)
 
 slice-aggregate-print-table : tie.Need-slice-aggregate-print-table
-slice-aggregate-print-table c = sym (length-take-le _ _ (subst (Within _) (c .before .before .input .given .1) (c .before .before .before .before .before .read-all .ensures)))
+slice-aggregate-print-table c = search (read-long, needs)
 
 print-table-requires : tie.Need-print-table-requires
 print-table-requires c κs = search needs

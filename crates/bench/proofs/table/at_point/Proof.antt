@@ -1,19 +1,17 @@
 use borrow.Author.Needs.{needs}
-use mathlib.Core.Path.{sym}
 use native.Mathlib.Omega.{arith}
-use lib.Seq.{length-take-le}
-use Rattle.bench.proofs.Plans.{few, asked-at}
+use Rattle.bench.proofs.Plans.{few, cells-long, asked-at}
 use Rattle.bench.proofs.table.at_point.Statement.{statement}
 use Rattle.bench.proofs.table.at_point.Tie as tie
 
 mul-cells : tie.Need-mul-cells
-mul-cells c = let p = c .before .before .before .pre in omega (arith, few _ _ (p .0) (p .1))
+mul-cells c = let entry : tie.Start = search needs in omega (arith, few _ _ (entry .pre .0) (entry .pre .1))
 
 array-share-prefix-unbound : tie.Need-array-share-prefix-unbound
-array-share-prefix-unbound c = let p = c .before .before .before .pre in omega (arith, few _ _ (p .0) (p .1))
+array-share-prefix-unbound c = let entry : tie.Start = search needs in omega (arith, few _ _ (entry .pre .0) (entry .pre .1))
 
 slice-aggregate-ask : tie.Need-slice-aggregate-ask
-slice-aggregate-ask c = let p = c .before .before .before .before .pre in sym (length-take-le _ _ (omega (arith, few _ _ (p .0) (p .1))))
+slice-aggregate-ask c = search (cells-long, needs)
 
 ask-requires : tie.Need-ask-requires
 ask-requires c κs = search needs
@@ -22,7 +20,7 @@ same-length : tie.Need-same-length
 same-length c = search needs
 
 returns : tie.Need-returns
-returns c = let p = c .before .before .before .before .before .before .before .before .pre in asked-at _ _ (p .0) (p .1) _ _ _ _ (c .before .before .ask .ensures)
+returns c = search (asked-at, needs)
 
 pub at-point-spec : {M : Type 1} → statement M
 at-point-spec =

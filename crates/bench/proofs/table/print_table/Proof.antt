@@ -1,6 +1,5 @@
 use borrow.Author.Needs.{needs}
-use mathlib.Core.Path.{sym, _∙_}
-use Rattle.bench.proofs.Plans.{asked}
+use Rattle.bench.proofs.Plans.{asked-checked, asked}
 use Rattle.bench.proofs.table.print_table.Statement.{statement}
 use Rattle.bench.proofs.table.print_table.Tie as tie
 
@@ -20,7 +19,7 @@ heading-requires : tie.Need-heading-requires
 heading-requires c κs = search needs
 
 at-points-requires : tie.Need-at-points-requires
-at-points-requires c κs = asked _ _ (sym (c .before .before .planned2 .given .1) ∙ c .before .before .before .before .plan-of .ensures)
+at-points-requires c κs = search (asked-checked, asked, needs)
 
 returns : tie.Need-returns
 returns c = search needs

@@ -1,3 +1,4 @@
+-- What the names lead to, with what led nowhere kept
 use Prim.Native.Nat.{_+_, _*_, _-_}
 use mathlib.Core.Path.{_≡_}
 use lib.ListN.{length}
@@ -75,7 +76,7 @@ look-enum-told : (t : ℕ) → look-lts.Need-enum-told (look-claims t) (look-at 
 look-enum-told t c = search needs
 
 look-note-requires : (t : ℕ) → look-lts.Need-note-requires (look-claims t) (look-at t) look.Post
-look-note-requires t c κs = (sought-none (search needs) (c .before .enum-told .given .1), search needs)
+look-note-requires t c κs = (search (sought-none, needs), search needs)
 
 look-same-length-2 : (t : ℕ) → look-lts.Need-same-length-2 (look-claims t) (look-at t) look.Post
 look-same-length-2 t c = search needs

@@ -1,5 +1,5 @@
+-- The attribute object that a point has of an entity
 use borrow.Author.Needs.{needs}
-use mathlib.Core.Path.{refl, _∙_}
 use Prim.Native.Nat.{_-_}
 use native.Mathlib.Omega.{arith}
 use Rattle.lookup.proofs.Attributes.{EntityFrom, entity-start, entity-found, entity-passed, entity-none}
@@ -52,7 +52,7 @@ list-at-requires-3 : tie.Need-list-at-requires-3 Inv-loop μ-loop
 list-at-requires-3 c κs = search needs
 
 returns : tie.Need-returns Inv-loop μ-loop
-returns c = entity-found _ _ _ _ _ _ _ (c .before .before .before .before .before .before .loop .inv) _ _ _ (c .before .before .before .before .before .loop-test .taken) refl (c .before .before .before .before .list-at .ensures) (c .before .before .before .list-at2 .ensures) (c .before .before .both .ensures) _ _ (c .before .before .before .before .before .before .before .before .before .wide .ensures ∙ c .before .before .before .before .before .before .before .before .before .before .point-word .ensures) (c .before .before .before .before .before .before .before .wide2 .ensures ∙ c .before .before .before .before .before .before .before .before .point-word2 .ensures) (c .list-at3 .ensures) (c .before .if1 .taken)
+returns c = search entity-found depth 1
 
 add-k : tie.Need-add-k Inv-loop μ-loop
 add-k c = omega arith
@@ -61,10 +61,10 @@ loop-less : tie.Need-loop-less Inv-loop μ-loop
 loop-less c = omega arith
 
 loop-again : tie.Need-loop-again Inv-loop μ-loop
-loop-again c = entity-passed _ _ _ _ _ _ _ (c .before .before .before .before .before .loop .inv) _ _ _ (c .before .before .before .before .loop-test .taken) refl (c .before .before .before .list-at .ensures) (c .before .before .list-at2 .ensures) (c .before .both .ensures) (c .if1 .left)
+loop-again c = search entity-passed depth 1
 
 returns-2 : tie.Need-returns-2 Inv-loop μ-loop
-returns-2 c = entity-none _ _ _ _ _ _ _ (c .before .loop .inv) (c .before .before .before .before .wide .ensures ∙ c .before .before .before .before .before .point-word .ensures) (c .before .before .wide2 .ensures ∙ c .before .before .before .point-word2 .ensures) (c .loop-test .left)
+returns-2 c = search entity-none depth 1
 
 pub attributes-of-spec : {M : Type 1} → statement M
 attributes-of-spec =

@@ -1,17 +1,17 @@
+-- Whether a name is `id`
 use borrow.Author.Needs.{needs}
-use lib.Dec.{lit<}
-use Rattle.lookup.proofs.Attributes.{short, differ, last-of-two}
+use Rattle.lookup.proofs.Attributes.{short, first-other, last-of-two}
 use Rattle.lookup.proofs.paths.is_id.Statement.{statement}
 use Rattle.lookup.proofs.paths.is_id.Tie as tie
 
 returns : tie.Need-returns
-returns c = short _ _ (c .if1 .taken)
+returns c = search short depth 1
 
 shared-slice-read-if2 : tie.Need-shared-slice-read-if2
 shared-slice-read-if2 c = search needs
 
 returns-2 : tie.Need-returns-2
-returns-2 c = differ _ _ 0 (c .before .before .if1 .left) (lit< tt) (c .if2 .taken)
+returns-2 c = search first-other depth 1
 
 shared-slice-read-result : tie.Need-shared-slice-read-result
 shared-slice-read-result c = search needs

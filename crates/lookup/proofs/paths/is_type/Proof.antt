@@ -1,29 +1,29 @@
+-- Whether a name is `type`
 use borrow.Author.Needs.{needs}
-use lib.Dec.{lit<}
-use Rattle.lookup.proofs.Attributes.{short, differ, last-of-four}
+use Rattle.lookup.proofs.Attributes.{short, first-other, second-other, third-other, last-of-four}
 use Rattle.lookup.proofs.paths.is_type.Statement.{statement}
 use Rattle.lookup.proofs.paths.is_type.Tie as tie
 
 returns : tie.Need-returns
-returns c = short _ _ (c .if1 .taken)
+returns c = search short depth 1
 
 shared-slice-read-if2 : tie.Need-shared-slice-read-if2
 shared-slice-read-if2 c = search needs
 
 returns-2 : tie.Need-returns-2
-returns-2 c = differ _ _ 0 (c .before .before .if1 .left) (lit< tt) (c .if2 .taken)
+returns-2 c = search first-other depth 1
 
 shared-slice-read-if3 : tie.Need-shared-slice-read-if3
 shared-slice-read-if3 c = search needs
 
 returns-3 : tie.Need-returns-3
-returns-3 c = differ _ _ 1 (c .before .before .before .before .if1 .left) (lit< tt) (c .if3 .taken)
+returns-3 c = search second-other depth 1
 
 shared-slice-read-if4 : tie.Need-shared-slice-read-if4
 shared-slice-read-if4 c = search needs
 
 returns-4 : tie.Need-returns-4
-returns-4 c = differ _ _ 2 (c .before .before .before .before .before .before .if1 .left) (lit< tt) (c .if4 .taken)
+returns-4 c = search third-other depth 1
 
 shared-slice-read-result : tie.Need-shared-slice-read-result
 shared-slice-read-result c = search needs

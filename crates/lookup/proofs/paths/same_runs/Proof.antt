@@ -1,3 +1,4 @@
+-- Whether two runs of the lists hold the same words
 use borrow.Author.Needs.{needs}
 use Prim.Native.Nat.{_-_}
 use native.Mathlib.Omega.{arith}

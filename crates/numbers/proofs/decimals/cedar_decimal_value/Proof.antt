@@ -1,5 +1,6 @@
+-- A decimal, with its sign
 use borrow.Author.Needs.{needs}
-use Rattle.numbers.proofs.Scaling.{tail-is, minus-long, decimal-minus, decimal-plus}
+use Rattle.numbers.proofs.Scaling.{minus-long, decimal-minus, decimal-plus}
 use Rattle.numbers.proofs.decimals.cedar_decimal_value.Statement.{statement}
 use Rattle.numbers.proofs.decimals.cedar_decimal_value.Tie as tie
 
@@ -19,13 +20,13 @@ read-unsigned-requires : tie.Need-read-unsigned-requires
 read-unsigned-requires c κs = search needs
 
 returns : tie.Need-returns
-returns c = decimal-minus _ _ _ _ (c .before .before .before .is-minus .ensures) (c .before .before .if1 .taken) (tail-is (c .before .before .before .before .before .args .s .now) 1) (c .read-unsigned .ensures)
+returns c = search (decimal-minus, needs)
 
 read-unsigned-requires-2 : tie.Need-read-unsigned-requires-2
 read-unsigned-requires-2 c κs = search needs
 
 returns-2 : tie.Need-returns-2
-returns-2 c = decimal-plus _ _ _ (c .before .before .is-minus .ensures) (c .before .if1 .left) (c .read-unsigned2 .ensures)
+returns-2 c = search (decimal-plus, needs)
 
 pub cedar-decimal-value-spec : {M : Type 1} → statement M
 cedar-decimal-value-spec =

@@ -1,3 +1,4 @@
+-- Two decimals by their numbers, or by their texts
 use borrow.Author.Needs.{needs}
 use Rattle.laws.specs.Checked.{checked-bodies, checked-strings}
 use Rattle.numbers.proofs.Scaling.{decimals-same, decimals-both, decimals-left, decimals-text}
@@ -8,13 +9,13 @@ returns : tie.Need-returns
 returns c = search (decimals-same, needs)
 
 text-of-requires : tie.Need-text-of-requires
-text-of-requires c κs = (checked-bodies (c .before .before .before .before .pre), checked-strings (c .before .before .before .before .pre))
+text-of-requires c κs = search (checked-bodies, checked-strings, needs)
 
 cedar-decimal-value-requires : tie.Need-cedar-decimal-value-requires
 cedar-decimal-value-requires c κs = search needs
 
 text-of-requires-2 : tie.Need-text-of-requires-2
-text-of-requires-2 c κs = (checked-bodies (c .before .before .before .before .before .before .pre), checked-strings (c .before .before .before .before .before .before .pre))
+text-of-requires-2 c κs = search (checked-bodies, checked-strings, needs)
 
 cedar-decimal-value-requires-2 : tie.Need-cedar-decimal-value-requires-2
 cedar-decimal-value-requires-2 c κs = search needs

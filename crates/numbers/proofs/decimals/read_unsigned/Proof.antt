@@ -1,8 +1,8 @@
+-- A decimal behind its sign, cut at the point
 use borrow.Author.Needs.{needs}
-use Prim.Native.Nat.{_+_}
-use mathlib.Core.Path.{sym, refl}
+use mathlib.Core.Path.{sym}
 use lib.Seq.{length-take-le}
-use Rattle.numbers.proofs.Scaling.{tail-is, unsigned-none, unsigned-some}
+use Rattle.numbers.proofs.Scaling.{unsigned-none, unsigned-some}
 use Rattle.numbers.proofs.decimals.read_unsigned.Statement.{statement}
 use Rattle.numbers.proofs.decimals.read_unsigned.Tie as tie
 
@@ -31,7 +31,7 @@ scaled-requires : tie.Need-scaled-requires
 scaled-requires c κs = search needs
 
 returns-2 : tie.Need-returns-2
-returns-2 c = unsigned-some (c .before .before .before .before .before .before .args .minus) _ _ (c .before .before .before .before .point-in .ensures) _ _ (c .scaled .result) (c .before .before .before .if1 .left) refl (tail-is (c .before .before .before .before .before .before .args .s .now) (c .before .before .before .before .point-in .result + 1)) (c .scaled .ensures)
+returns-2 c = search (unsigned-some, needs)
 
 pub read-unsigned-spec : {M : Type 1} → statement M
 read-unsigned-spec =

@@ -1,7 +1,6 @@
+-- The digits before and after the point, scaled and signed
 use borrow.Author.Needs.{needs}
-use native.Mathlib.Omega.{arith}
-use mathlib.Core.Path.{sym, _∙_}
-use borrow.Author.Tests.{not-false}
+use Rattle.laws.specs.Tests.{said}
 use Rattle.numbers.proofs.Scaling.{no-whole, no-fraction, long-fraction, no-digits, no-digits-after, too-large, reads}
 use Rattle.numbers.proofs.decimals.scaled.Statement.{statement}
 use Rattle.numbers.proofs.decimals.scaled.Tie as tie
@@ -13,7 +12,7 @@ returns-2 : tie.Need-returns-2
 returns-2 c = search (no-fraction, needs)
 
 returns-3 : tie.Need-returns-3
-returns-3 c = long-fraction (c .before .before .before .before .before .args .minus) (c .before .before .before .before .before .args .whole .now) (c .before .before .before .before .before .args .frac .now) (omega arith)
+returns-3 c = search (long-fraction, needs)
 
 is-digits-requires : tie.Need-is-digits-requires
 is-digits-requires c κs = search needs
@@ -28,13 +27,13 @@ returns-5 : tie.Need-returns-5
 returns-5 c = search (no-digits-after, needs)
 
 natural-requires : tie.Need-natural-requires
-natural-requires c κs = sym (c .before .before .before .is-digits .ensures) ∙ not-false _ (c .before .before .if4 .left)
+natural-requires c κs = search (said, needs)
 
 mul-n : tie.Need-mul-n
 mul-n c = search needs
 
 fraction-requires : tie.Need-fraction-requires
-fraction-requires c κs = (sym (c .before .before .is-digits2 .ensures) ∙ not-false _ (c .before .if5 .left), c .before .before .before .before .before .if3 .left)
+fraction-requires c κs = search (said, needs)
 
 add-n : tie.Need-add-n
 add-n c = search needs
@@ -43,13 +42,13 @@ fits-requires : tie.Need-fits-requires
 fits-requires c κs = search needs
 
 returns-6 : tie.Need-returns-6
-returns-6 c = too-large (c .before .before .before .before .before .before .before .before .before .before .before .before .before .args .minus) _ _ _ _ (c .before .before .before .natural .ensures) (c .before .before .fraction .ensures .0) _ (c .before .fits2 .ensures) (c .if6 .taken)
+returns-6 c = search (too-large, needs)
 
 with-sign-requires : tie.Need-with-sign-requires
 with-sign-requires c κs = search needs
 
 returns-7 : tie.Need-returns-7
-returns-7 c = reads (c .before .before .before .before .before .before .before .before .before .before .before .before .before .before .args .minus) _ _ _ _ (c .before .before .before .before .natural .ensures) (c .before .before .before .fraction .ensures .0) _ (c .before .before .fits2 .ensures) (c .with-sign .result) _ _ (c .before .before .before .before .before .before .before .before .before .before .before .if1 .left) (c .before .before .before .before .before .before .before .before .before .before .if2 .left) (c .before .before .before .before .before .before .before .before .before .if3 .left) (c .before .before .before .before .before .before .before .before .is-digits .ensures) (c .before .before .before .before .before .before .before .if4 .left) (c .before .before .before .before .before .before .is-digits2 .ensures) (c .before .before .before .before .before .if5 .left) (c .before .if6 .left) (c .with-sign .ensures)
+returns-7 c = search (reads, needs)
 
 pub scaled-spec : {M : Type 1} → statement M
 scaled-spec =

@@ -1,5 +1,5 @@
+-- Arithmetic by its op
 use borrow.Author.Needs.{needs}
-use Rattle.meaning.specs.declared.ArithOp.the-variants.{Add, Sub, Mul}
 use Rattle.numbers.proofs.Saturates.{by-op}
 use Rattle.numbers.proofs.integers.calculate.Statement.{statement}
 use Rattle.numbers.proofs.integers.calculate.Tie as tie
@@ -23,13 +23,13 @@ saturating-mul-requires : tie.Need-saturating-mul-requires
 saturating-mul-requires c κs = search needs
 
 returns : tie.Need-returns
-returns c = by-op (c .before .before .before .args .op) Add (c .saturating-add .result) (c .before .before .before .args .a) (c .before .before .before .args .b) (c .before .enum-told .given .1) (c .saturating-add .ensures)
+returns c = search (by-op, needs)
 
 returns-2 : tie.Need-returns-2
-returns-2 c = by-op (c .before .before .before .args .op) Sub (c .saturating-sub .result) (c .before .before .before .args .a) (c .before .before .before .args .b) (c .before .enum-told2 .given .1) (c .saturating-sub .ensures)
+returns-2 c = search (by-op, needs)
 
 returns-3 : tie.Need-returns-3
-returns-3 c = by-op (c .before .before .before .args .op) Mul (c .saturating-mul .result) (c .before .before .before .args .a) (c .before .before .before .args .b) (c .before .enum-told3 .given .1) (c .saturating-mul .ensures)
+returns-3 c = search (by-op, needs)
 
 pub calculate-spec : {M : Type 1} → statement M
 calculate-spec =

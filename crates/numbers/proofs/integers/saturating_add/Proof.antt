@@ -1,6 +1,6 @@
+-- A sum of two numbers, the nearest that 64 bits hold
 use borrow.Author.Needs.{needs}
-use native.Mathlib.Omega.{arith}
-use Rattle.numbers.proofs.Saturates.{plus}
+use Rattle.numbers.proofs.Saturates.{sum-least, sum-down, sum-most, sum-up}
 use Rattle.numbers.proofs.integers.saturating_add.Statement.{statement}
 use Rattle.numbers.proofs.integers.saturating_add.Tie as tie
 
@@ -17,13 +17,13 @@ unbiased-requires : tie.Need-unbiased-requires
 unbiased-requires c κs = search needs
 
 returns : tie.Need-returns
-returns c = plus (c .before .before .before .before .before .args .a) (c .before .before .before .before .before .args .b) _ _ (c .unbiased .result) _ (c .before .before .before .before .biased .ensures) (c .before .before .before .biased2 .ensures) (c .unbiased .ensures) (search needs) (search needs) (search needs) (omega arith)
+returns c = search (sum-least, needs)
 
 unbiased-requires-2 : tie.Need-unbiased-requires-2
 unbiased-requires-2 c κs = search needs
 
 returns-2 : tie.Need-returns-2
-returns-2 c = plus (c .before .before .before .before .before .args .a) (c .before .before .before .before .before .args .b) _ _ (c .unbiased2 .result) _ (c .before .before .before .before .biased .ensures) (c .before .before .before .biased2 .ensures) (c .unbiased2 .ensures) (search needs) (search needs) (search needs) (omega arith)
+returns-2 c = search (sum-down, needs)
 
 sub-if3 : tie.Need-sub-if3
 sub-if3 c = search needs
@@ -32,7 +32,7 @@ unbiased-requires-3 : tie.Need-unbiased-requires-3
 unbiased-requires-3 c κs = search needs
 
 returns-3 : tie.Need-returns-3
-returns-3 c = plus (c .before .before .before .before .before .args .a) (c .before .before .before .before .before .args .b) _ _ (c .unbiased3 .result) _ (c .before .before .before .before .biased .ensures) (c .before .before .before .biased2 .ensures) (c .unbiased3 .ensures) (search needs) (search needs) (search needs) (omega arith)
+returns-3 c = search (sum-most, needs)
 
 add-unbiased : tie.Need-add-unbiased
 add-unbiased c = search needs
@@ -41,7 +41,7 @@ unbiased-requires-4 : tie.Need-unbiased-requires-4
 unbiased-requires-4 c κs = search needs
 
 returns-4 : tie.Need-returns-4
-returns-4 c = plus (c .before .before .before .before .before .args .a) (c .before .before .before .before .before .args .b) _ _ (c .unbiased4 .result) _ (c .before .before .before .before .biased .ensures) (c .before .before .before .biased2 .ensures) (c .unbiased4 .ensures) (search needs) (search needs) (search needs) (omega arith)
+returns-4 c = search (sum-up, needs)
 
 pub saturating-add-spec : {M : Type 1} → statement M
 saturating-add-spec =

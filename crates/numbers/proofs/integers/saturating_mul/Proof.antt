@@ -1,7 +1,6 @@
+-- A product of two numbers, the nearest that 64 bits hold
 use borrow.Author.Needs.{needs}
 use Rattle.numbers.proofs.Saturates.{times-minus, times-plus}
-use mir.Val.{toZ}
-use mir.Syntax.{w64}
 use Rattle.numbers.proofs.integers.saturating_mul.Statement.{statement}
 use Rattle.numbers.proofs.integers.saturating_mul.Tie as tie
 
@@ -24,13 +23,13 @@ with-sign-requires : tie.Need-with-sign-requires
 with-sign-requires c κs = search needs
 
 returns : tie.Need-returns
-returns c = times-minus (toZ w64 (c .before .before .before .before .before .before .before .args .a)) (toZ w64 (c .before .before .before .before .before .before .before .args .b)) _ _ (c .before .before .before .before .before .before .magnitude .ensures) (c .before .before .before .before .before .magnitude2 .ensures) _ (c .with-sign .result) (c .before .before .before .before .product .ensures) (c .before .before .is-negative2 .result) (c .before .before .before .is-negative .result) (c .before .before .is-negative2 .ensures) (c .before .if1 .taken) (c .before .before .before .is-negative .ensures) (c .with-sign .ensures)
+returns c = search (times-minus, needs)
 
 with-sign-requires-2 : tie.Need-with-sign-requires-2
 with-sign-requires-2 c κs = search needs
 
 returns-2 : tie.Need-returns-2
-returns-2 c = times-plus (toZ w64 (c .before .before .before .before .before .before .before .args .a)) (toZ w64 (c .before .before .before .before .before .before .before .args .b)) _ _ (c .before .before .before .before .before .before .magnitude .ensures) (c .before .before .before .before .before .magnitude2 .ensures) _ (c .with-sign2 .result) (c .before .before .before .before .product .ensures) (c .before .before .is-negative2 .result) (c .before .before .before .is-negative .result) (c .before .before .is-negative2 .ensures) (c .before .if1 .left) (c .before .before .before .is-negative .ensures) (c .with-sign2 .ensures)
+returns-2 c = search (times-plus, needs)
 
 pub saturating-mul-spec : {M : Type 1} → statement M
 saturating-mul-spec =

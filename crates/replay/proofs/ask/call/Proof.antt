@@ -1,8 +1,5 @@
-use mathlib.Core.Path.{sym}
-use native.Mathlib.Omega.{arith}
-use lib.Seq.{length-take-le}
-use borrow.Author.Tests.{not-false}
 use borrow.Author.Needs.{needs}
+use Rattle.replay.proofs.Rules.{parts-read, known, known-numbers}
 use Rattle.replay.proofs.ask.call.Statement.{statement}
 use Rattle.replay.proofs.ask.call.Tie as tie
 
@@ -34,7 +31,7 @@ returns-2 : tie.Need-returns-2
 returns-2 c = search needs
 
 size-requires : tie.Need-size-requires
-size-requires c κs = c .before .is-known .ensures (not-false _ (c .if2 .left))
+size-requires c κs = search (known, needs)
 
 mul-n : tie.Need-mul-n
 mul-n c = search needs
@@ -58,16 +55,16 @@ array-share-prefix-parts : tie.Need-array-share-prefix-parts
 array-share-prefix-parts c = search needs
 
 slice-aggregate-is-as-listed : tie.Need-slice-aggregate-is-as-listed
-slice-aggregate-is-as-listed c = sym (length-take-le _ _ (omega (arith, c .before .before .before .take2 .kept .1 .0, c .before .before .before .before .before .buffer .ensures, c .before .before .before .before .before .before .size .ensures)))
+slice-aggregate-is-as-listed c = search (parts-read, needs)
 
 is-as-listed-requires : tie.Need-is-as-listed-requires
-is-as-listed-requires c κs = c .before .before .before .before .before .before .before .before .is-known .ensures (not-false _ (c .before .before .before .before .before .before .before .if2 .left))
+is-as-listed-requires c κs = search (known, needs)
 
 differs-requires : tie.Need-differs-requires
 differs-requires c κs = search needs
 
 compared-requires : tie.Need-compared-requires
-compared-requires c κs = let k = c .before .before .before .before .before .before .before .before .before .before .is-known .ensures (not-false _ (c .before .before .before .before .before .before .before .before .before .if2 .left)) in (k .kind, k .refusal)
+compared-requires c κs = let asked : tie.After-is-known = search needs in known-numbers (asked .is-known .ensures) (search needs)
 
 returns-4 : tie.Need-returns-4
 returns-4 c = search needs

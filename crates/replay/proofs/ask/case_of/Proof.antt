@@ -1,7 +1,5 @@
-use mathlib.Core.Path.{sym}
-use native.Mathlib.Omega.{arith}
-use lib.Seq.{length-take-le}
 use borrow.Author.Needs.{needs}
+use Rattle.replay.proofs.Rules.{first-read}
 use Rattle.replay.proofs.ask.case_of.Statement.{statement}
 use Rattle.replay.proofs.ask.case_of.Tie as tie
 
@@ -39,7 +37,7 @@ array-share-prefix-file : tie.Need-array-share-prefix-file
 array-share-prefix-file c = search needs
 
 slice-aggregate-calls-on : tie.Need-slice-aggregate-calls-on
-slice-aggregate-calls-on c = sym (length-take-le _ _ (omega (arith, c .before .before .before .take .kept .1 .0, c .before .before .before .before .before .room .ensures, c .before .before .before .before .before .before .if1 .left)))
+slice-aggregate-calls-on c = search (first-read, needs)
 
 calls-on-requires : tie.Need-calls-on-requires
 calls-on-requires c κs = search needs

@@ -1,7 +1,6 @@
-use mathlib.Core.Path.{sym}
-use native.Mathlib.Omega.{arith}
 use lib.Seq.{length-take-le}
 use borrow.Author.Needs.{needs}
+use Rattle.replay.proofs.Rules.{first-of}
 use Rattle.replay.proofs.ask.is_as_listed.Statement.{statement}
 use Rattle.replay.proofs.ask.is_as_listed.Tie as tie
 
@@ -18,25 +17,25 @@ array-share-prefix-start : tie.Need-array-share-prefix-start
 array-share-prefix-start c = search needs
 
 slice-aggregate-is-answered : tie.Need-slice-aggregate-is-answered
-slice-aggregate-is-answered c = sym (length-take-le _ _ (omega (arith, c .before .before .before .before .before .before .pre .start, c .before .before .before .cells-at .ensures)))
+slice-aggregate-is-answered c = search (first-of, needs)
 
 array-share-prefix-binders : tie.Need-array-share-prefix-binders
 array-share-prefix-binders c = search needs
 
 slice-aggregate-is-answered-2 : tie.Need-slice-aggregate-is-answered-2
-slice-aggregate-is-answered-2 c = sym (length-take-le _ _ (omega (arith, c .before .before .before .before .before .before .before .pre .binders, c .before .before .words-at .ensures)))
+slice-aggregate-is-answered-2 c = search (first-of, needs)
 
 array-borrow-prefix-work : tie.Need-array-borrow-prefix-work
 array-borrow-prefix-work c = search needs
 
 slice-aggregate-is-answered-3 : tie.Need-slice-aggregate-is-answered-3
-slice-aggregate-is-answered-3 c = sym (length-take-le _ _ (c .before .before .before .before .before .before .before .before .pre .workspace))
+slice-aggregate-is-answered-3 c = search (length-take-le, needs)
 
 array-borrow-prefix-output : tie.Need-array-borrow-prefix-output
 array-borrow-prefix-output c = search needs
 
 slice-aggregate-is-answered-4 : tie.Need-slice-aggregate-is-answered-4
-slice-aggregate-is-answered-4 c = sym (length-take-le _ _ (c .before .before .before .before .before .before .before .before .before .pre .output))
+slice-aggregate-is-answered-4 c = search (length-take-le, needs)
 
 is-answered-requires : tie.Need-is-answered-requires
 is-answered-requires c κs = search needs

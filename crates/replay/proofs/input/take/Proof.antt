@@ -1,4 +1,3 @@
-use mathlib.Core.Path.{sym}
 use lib.Seq.{length-take-le}
 use borrow.Author.Needs.{needs}
 use Rattle.replay.proofs.input.take.Statement.{statement}
@@ -8,7 +7,7 @@ slice-relend-prefix-read-full : tie.Need-slice-relend-prefix-read-full
 slice-relend-prefix-read-full c = search needs
 
 slice-aggregate-read-full : tie.Need-slice-aggregate-read-full
-slice-aggregate-read-full c = sym (length-take-le _ _ (c .before .before .pre))
+slice-aggregate-read-full c = search (length-take-le, needs)
 
 read-full-requires : tie.Need-read-full-requires
 read-full-requires c κs = search needs

@@ -2,9 +2,10 @@ use Prim.Native.Nat.{ℕ}
 use mathlib.Core.Path.{_≡_}
 use mathlib.Core.Bool.{true, false}
 use native.Mathlib.Omega.{arith}
-use borrow.Author.Tests.{leb-true}
+use borrow.Author.Needs.{needs}
 use Rattle.replay.specs.declared.listed.Listed.{Listed}
 use Rattle.replay.specs.Known.{Known}
+use Rattle.replay.proofs.Rules.{known-by}
 use Rattle.replay.proofs.listed.is_known.Statement.{statement}
 use Rattle.replay.proofs.listed.is_known.Tie as tie
 
@@ -30,7 +31,7 @@ returns-6 : tie.Need-returns-6
 returns-6 c = never
 
 returns-7 : tie.Need-returns-7
-returns-7 c = λ e. record { kind = omega (arith, c .before .before .before .before .before .before .before .before .before .before .before .if1 .left); refusal = omega (arith, c .before .before .before .before .before .before .before .before .before .if2 .left); start = c .before .before .before .before .before .before .before .if3 .left; binders = c .before .before .before .before .before .if4 .left; workspace = c .before .before .before .if5 .left; output = c .before .if6 .left; filled = leb-true _ _ e }
+returns-7 c e = search (known-by, needs)
 
 pub is-known-spec : {M : Type 1} → statement M
 is-known-spec =

@@ -1,22 +1,20 @@
 use borrow.Author.Needs.{needs}
-use mathlib.Core.Path.{_≡_, refl, ap, _∙_}
-use lib.ListN.{length, length-set}
+use lib.ListN.{length-set}
 use Prim.Native.Nat.{_-_}
 use native.Mathlib.Omega.{arith}
-use Rattle.meaning.specs.Rows.{cells, at}
 use Rattle.rows.specs.Table.{rowIn}
-use Rattle.rows.proofs.Out.{RowOut, row-none, row-more, row-all}
+use Rattle.rows.proofs.Out.{binder-in, RowOut, row-none, row-more, row-all}
 use Rattle.rows.proofs.output.write_row.Statement.{statement}
 use Rattle.rows.proofs.output.write_row.Tie as tie
 
 abbrev Inv-loop : tie.InvT-loop
-Inv-loop work shape h binders out₀ at n k₀ out k = (length out ≡ length out₀) × RowOut out₀ out at k binders (rowIn shape work h)
+Inv-loop work shape h binders out₀ at n k₀ out k = RowOut out₀ out at k binders (rowIn shape work h)
 
 abbrev μ-loop : tie.MeasureT-loop
 μ-loop work shape h binders out₀ at n k₀ out k = n - k
 
 loop-holds : tie.Need-loop-holds Inv-loop μ-loop
-loop-holds c = (refl, row-none _ _ _ _)
+loop-holds c = search (row-none, needs)
 
 mul-wide : tie.Need-mul-wide Inv-loop μ-loop
 mul-wide c = search needs
@@ -28,7 +26,7 @@ wide-requires : tie.Need-wide-requires Inv-loop μ-loop
 wide-requires c κs = search needs
 
 get-requires : tie.Need-get-requires Inv-loop μ-loop
-get-requires c κs = (c .before .before .before .before .before .before .before .pre .0, c .before .before .before .before .before .before .before .pre .1, omega (arith, c .wide .ensures, c .before .before .before .before .before .before .before .pre .2 .below _ (c .before .before .loop-test .taken)))
+get-requires c κs = search (binder-in, needs)
 
 plain-requires : tie.Need-plain-requires Inv-loop μ-loop
 plain-requires c κs = search needs
@@ -61,13 +59,13 @@ loop-less : tie.Need-loop-less Inv-loop μ-loop
 loop-less c = search needs
 
 loop-again : tie.Need-loop-again Inv-loop μ-loop
-loop-again c = (simp length-set (c .before .before .before .before .before .loop .inv .0), row-more _ _ _ (c .before .before .before .before .before .loop .inv .1) (c .before .before .before .before .loop-test .taken) refl (c .before .before .before .before .before .before .before .before .before .pre .3) (c .before .before .before .before .before .loop .inv .0) (c .plain .ensures ∙ ap cells (c .before .get .ensures ∙ ap (at (rowIn (c .before .before .before .before .before .before .before .before .before .args .shape) (c .before .before .before .before .before .before .before .before .before .args .work .now) (c .before .before .before .before .before .before .before .before .before .args .h))) (c .before .before .wide .ensures))))
+loop-again c = search (row-more, needs)
 
 same-length : tie.Need-same-length Inv-loop μ-loop
-same-length c = c .before .loop .inv .0
+same-length c = search needs
 
 returns : tie.Need-returns Inv-loop μ-loop
-returns c = row-all (c .before .loop .inv .1) (c .loop-test .left)
+returns c = search (row-all, needs)
 
 pub write-row-spec : {M : Type 1} → statement M
 write-row-spec =

@@ -1,0 +1,4 @@
+pub mod Cells
+pub mod Logs
+pub mod Said
+pub mod Written

@@ -25,8 +25,8 @@ unfolding argumentRule argumentOwn
 argument-is s n i = last-first _ _ _
 
 -- a Predicate may have a whole block just if its number is above the block's top
-pub top-is : (s : List ℕ) (n at : ℕ) → n < 4294967296 → ltb (argumentTop s at) n ≡ allBelow 512 (λ j. argumentRule s n (at + 3 * j))
+pub top-is : (s : List ℕ) (n at : ℕ) → n < 4294967296 → ltb (argumentTop s at) n ≡ allBelow 128 (λ j. argumentRule s n (at + 3 * j))
 unfolding argumentTop
 top-is s n at h =
-    bound-is (λ j. argumentOwn s (at + 3 * j)) (λ j. list s (at + 3 * j + 2)) n 511 h
-    ∙ all-same _ _ 512 (λ j hj. sym (argument-is s n (at + 3 * j)))
+    bound-is (λ j. argumentOwn s (at + 3 * j)) (λ j. list s (at + 3 * j + 2)) n 127 h
+    ∙ all-same _ _ 128 (λ j hj. sym (argument-is s n (at + 3 * j)))

@@ -8,6 +8,7 @@ use pointcheck::path_run;
 use pointcheck::string_run;
 use pointcheck::variable_run;
 use stringcheck::both;
+use stringcheck::larger_byte;
 use stringcheck::list_count;
 use stringcheck::node_count;
 use stringcheck::string_count;
@@ -18,7 +19,6 @@ use tables::node_at;
 use tables::node_word;
 use tables::wide;
 use valuecheck::larger;
-use valuecheck::larger_byte;
 use valuecheck::literal_values;
 ghost use mathlib.Core.Path.{_≡_};
 ghost use mathlib.Core.Bool.{Bool, true};
@@ -120,7 +120,7 @@ fn since_rule(s: &[u8], n: u32, l: NodeNo, r: NodeNo) -> bool
 }
 
 // the rule of an argument, path run and term, but for the term's number
-fn argument_own(s: &[u8], undotted: &[bool; 16384], paths: &[bool; 1024], i: usize) -> bool
+fn argument_own(s: &[u8], undotted: &[bool; 16384], paths: &[u32; 8192], i: usize) -> bool
     requires { ⌜ bodies (now s) ≡ true ⌝ }
     requires { ⌜ mosts (now s) ≡ true ⌝ }
     requires { ⌜ Undotted (now s) (now undotted) ⌝ }
@@ -135,7 +135,7 @@ fn argument_own(s: &[u8], undotted: &[bool; 16384], paths: &[bool; 1024], i: usi
     both(path, both(20 <= kind, kind <= 24))
 }
 
-fn argument_rule(s: &[u8], undotted: &[bool; 16384], paths: &[bool; 1024], n: u32, i: usize) -> bool
+fn argument_rule(s: &[u8], undotted: &[bool; 16384], paths: &[u32; 8192], n: u32, i: usize) -> bool
     requires { ⌜ bodies (now s) ≡ true ⌝ }
     requires { ⌜ mosts (now s) ≡ true ⌝ }
     requires { ⌜ Undotted (now s) (now undotted) ⌝ }
@@ -147,8 +147,8 @@ fn argument_rule(s: &[u8], undotted: &[bool; 16384], paths: &[bool; 1024], n: u3
     both(own, list_at(s, i + 2) < n)
 }
 
-// a Predicate may have the whole block of 512 arguments from `at` on if its number is above this
-fn argument_top(s: &[u8], undotted: &[bool; 16384], paths: &[bool; 1024], at: usize) -> u32
+// a Predicate may have the whole block of 128 arguments from `at` on if its number is above this
+fn argument_top(s: &[u8], undotted: &[bool; 16384], paths: &[u32; 8192], at: usize) -> u32
     requires { ⌜ bodies (now s) ≡ true ⌝ }
     requires { ⌜ mosts (now s) ≡ true ⌝ }
     requires { ⌜ Undotted (now s) (now undotted) ⌝ }
@@ -158,7 +158,7 @@ fn argument_top(s: &[u8], undotted: &[bool; 16384], paths: &[bool; 1024], at: us
 {
     let mut top = 0;
     let mut i = 0;
-    while i < 512 {
+    while i < 128 {
         if !argument_own(s, undotted, paths, at + 3 * i) {
             return 4294967295;
         }
@@ -168,19 +168,19 @@ fn argument_top(s: &[u8], undotted: &[bool; 16384], paths: &[bool; 1024], at: us
     top
 }
 
-// entry 3 · b + r is of the block that starts at word 1536 · b + r
-fn argument_tops(s: &[u8], undotted: &[bool; 16384], paths: &[bool; 1024]) -> [u32; 2052]
+// entry 3 · b + r is of the block that starts at word 384 · b + r
+fn argument_tops(s: &[u8], undotted: &[bool; 16384], paths: &[u32; 8192]) -> [u32; 8192]
     requires { ⌜ bodies (now s) ≡ true ⌝ }
     requires { ⌜ mosts (now s) ≡ true ⌝ }
     requires { ⌜ Undotted (now s) (now undotted) ⌝ }
     requires { ⌜ Paths (now s) (now paths) ⌝ }
     ensures { λ r. ⌜ ArgumentTops (now (s .entry)) r ⌝ }
 {
-    let n = 3 * (wide(list_count(s)) / 1536);
-    let mut tops = [0u32; 2052];
+    let n = 3 * (wide(list_count(s)) / 384);
+    let mut tops = [0u32; 8192];
     let mut k = 0;
     while k < n {
-        tops[k] = argument_top(s, undotted, paths, 1536 * (k / 3) + k % 3);
+        tops[k] = argument_top(s, undotted, paths, 384 * (k / 3) + k % 3);
         k += 1;
     }
     tops
@@ -189,8 +189,8 @@ fn argument_tops(s: &[u8], undotted: &[bool; 16384], paths: &[bool; 1024]) -> [u
 fn argument_run(
     s: &[u8],
     undotted: &[bool; 16384],
-    paths: &[bool; 1024],
-    terms: &[u32; 2052],
+    paths: &[u32; 8192],
+    terms: &[u32; 8192],
     n: u32,
     first: u32,
     items: u32,
@@ -208,18 +208,18 @@ fn argument_run(
     let mut i = 0;
     while i < items {
         let at = wide(first) + 3 * wide(i);
-        if 3 <= at % 1536 || items - i < 512 {
+        if 3 <= at % 384 || items - i < 128 {
             if !argument_rule(s, undotted, paths, n, at) {
                 return false;
             }
             i += 1;
             continue;
         }
-        let k = 3 * (at / 1536) + at % 1536;
+        let k = 3 * (at / 384) + at % 384;
         if n <= terms[k] {
             return false;
         }
-        i += 512;
+        i += 128;
     }
     true
 }
@@ -228,8 +228,8 @@ fn predicate_rule(
     s: &[u8],
     tops: &[u32; 1024],
     undotted: &[bool; 16384],
-    paths: &[bool; 1024],
-    terms: &[u32; 2052],
+    paths: &[u32; 8192],
+    terms: &[u32; 8192],
     n: u32,
     namespace: Run,
     action: StrNo,
@@ -312,7 +312,7 @@ fn literal_rule(s: &[u8], literals: &[bool; 16384], n: u32, v: ValNo) -> bool
     both(literals[at], zeros_from(s, n, 2))
 }
 
-fn context_rule(s: &[u8], undotted: &[bool; 16384], paths: &[bool; 1024], n: u32, path: Run) -> bool
+fn context_rule(s: &[u8], undotted: &[bool; 16384], paths: &[u32; 8192], n: u32, path: Run) -> bool
     requires { ⌜ bodies (now s) ≡ true ⌝ }
     requires { ⌜ mosts (now s) ≡ true ⌝ }
     requires { ⌜ Undotted (now s) (now undotted) ⌝ }
@@ -324,7 +324,7 @@ fn context_rule(s: &[u8], undotted: &[bool; 16384], paths: &[bool; 1024], n: u32
 }
 
 // a scope's path, whatever its root
-fn scope_rule(s: &[u8], undotted: &[bool; 16384], paths: &[bool; 1024], n: u32, path: Run) -> bool
+fn scope_rule(s: &[u8], undotted: &[bool; 16384], paths: &[u32; 8192], n: u32, path: Run) -> bool
     requires { ⌜ bodies (now s) ≡ true ⌝ }
     requires { ⌜ mosts (now s) ≡ true ⌝ }
     requires { ⌜ Undotted (now s) (now undotted) ⌝ }
@@ -378,8 +378,8 @@ fn node_rule(
     s: &[u8],
     tops: &[u32; 1024],
     undotted: &[bool; 16384],
-    paths: &[bool; 1024],
-    terms: &[u32; 2052],
+    paths: &[u32; 8192],
+    terms: &[u32; 8192],
     literals: &[bool; 16384],
     n: u32,
 ) -> bool
@@ -441,7 +441,7 @@ fn check_each_node(
     s: &[u8],
     tops: &[u32; 1024],
     undotted: &[bool; 16384],
-    paths: &[bool; 1024],
+    paths: &[u32; 8192],
 ) -> bool
     requires { ⌜ bodies (now s) ≡ true ⌝ }
     requires { ⌜ mosts (now s) ≡ true ⌝ }
@@ -570,7 +570,7 @@ pub fn check_nodes(
     s: &[u8],
     tops: &[u32; 1024],
     undotted: &[bool; 16384],
-    paths: &[bool; 1024],
+    paths: &[u32; 8192],
 ) -> bool
     requires { ⌜ bodies (now s) ≡ true ⌝ }
     requires { ⌜ mosts (now s) ≡ true ⌝ }

@@ -10,10 +10,10 @@ use borrow.Author.Tests.{ltb-false, lt-ltb, le-ltb, leb-true, le-leb, lt-leb}
 use Rattle.meaning.specs.Tests.{_and_, allBelow, greatest}
 use Rattle.meaning.specs.Text.{free}
 use Rattle.meaning.specs.Case.{strings, lists, list, text}
-use Rattle.meaning.specs.Check.{bodies, mosts, inTable, isString, pathName}
-use Rattle.laws.specs.Tests.{Filled, Passing, passing-block, passing-out, said, denied, stop, pass, after, all-same}
+use Rattle.meaning.specs.Check.{bodies, mosts, inTable, isString}
+use Rattle.laws.specs.Tests.{Filled, Passing, passing-block, passing-out, said, stop, pass, after, all-same}
 use Rattle.stringcheck.specs.Mosts.{string-most, list-most}
-use Rattle.pointcheck.specs.Blocks.{Tops, Paths, blockStart}
+use Rattle.pointcheck.specs.Blocks.{Tops, blockStart}
 use Rattle.pointcheck.specs.Laws.{top-is}
 
 -- a run of items of so many words lies in the lists
@@ -56,14 +56,11 @@ module _ {s : List ℕ} {first items i f j : ℕ} (r : InLists s 1 first items) 
     from-first : (word : ℕ → Bool) → ((x : ℕ) → test x ≡ word (first + x)) → allBelow 1024 (λ x. word (f + j + x)) ≡ allBelow 1024 (λ x. test (i + x))
     from-first word same = all-same (λ x. word (f + j + x)) (λ x. test (i + x)) 1024 (λ x hx. let q : f + j + x ≡ first + (i + x) = omega arith in rw q (sym (same (i + x))))
 
-    -- by the greatest word of a block, and by blocks that hold names of paths alone
+    -- by the greatest word of a block
     top-of : {tops : List ℕ} → Tops s tops → (bound : ℕ) → ((x : ℕ) → test x ≡ ltb (list s (first + x)) bound) → ltb (getD tops ((f + j) / 1024) 0) bound ≡ allBelow 1024 (λ x. test (i + x))
     top-of t bound same =
         ap (λ (x : ℕ). ltb x bound) (block-at (λ b. greatest 1024 (λ x. list s (b + x))) t)
         ∙ sym (top-is (λ x. list s (f + j + x)) bound 1023) ∙ from-first (λ n. ltb (list s n) bound) same
-
-    names-of : {paths : List Bool} → Paths s paths → ((x : ℕ) → test x ≡ pathName s (first + x)) → getD paths ((f + j) / 1024) false ≡ allBelow 1024 (λ x. test (i + x))
-    names-of t same = block-at (λ b. allBelow 1024 (λ x. pathName s (b + x))) t ∙ from-first (pathName s) same
 
 module _ {s : List ℕ} {first items i f j : ℕ} {test : ℕ → Bool} where
   module _ {tops : List ℕ} (bound : ℕ) where
@@ -72,13 +69,6 @@ module _ {s : List ℕ} {first items i f j : ℕ} {test : ℕ → Bool} where
 
     pub words-no : bound ≤ getD tops ((f + j) / 1024) 0 → f ≡ first → j ≡ i → (f + j) % 1024 ≡ 0 → ltb (items - i) 1024 ≡ false → i < items → Passing test items i → InLists s 1 first items → Tops s tops → ((x : ℕ) → test x ≡ ltb (list s (first + x)) bound) → false ≡ allBelow items test
     words-no h ef ej a w lt p r t same = passing-out p 1024 (block-fits r ef ej lt w) (sym (top-of r ef ej lt w a p t bound same) ∙ le-ltb _ _ h) refl
-
-  module _ {paths : List Bool} where
-    pub names-more : not (getD paths ((f + j) / 1024) false) ≡ false → f ≡ first → j ≡ i → (f + j) % 1024 ≡ 0 → ltb (items - i) 1024 ≡ false → i < items → Passing test items i → InLists s 1 first items → Paths s paths → ((x : ℕ) → test x ≡ pathName s (first + x)) → Passing test items (i + 1024)
-    names-more n ef ej a w lt p r t same = passing-block p 1024 (block-fits r ef ej lt w) (said n (names-of r ef ej lt w a p t same))
-
-    pub names-no : not (getD paths ((f + j) / 1024) false) ≡ true → f ≡ first → j ≡ i → (f + j) % 1024 ≡ 0 → ltb (items - i) 1024 ≡ false → i < items → Passing test items i → InLists s 1 first items → Paths s paths → ((x : ℕ) → test x ≡ pathName s (first + x)) → false ≡ allBelow items test
-    names-no n ef ej a w lt p r t same = passing-out p 1024 (block-fits r ef ej lt w) (denied n (names-of r ef ej lt w a p t same)) refl
 
 -- blocks of 512 items of three words
 module _ (s : List ℕ) {k w : ℕ} (ek : k ≡ lists s) (ew : w ≡ k) where

@@ -1,7 +1,9 @@
--- The local tables that the rules of points and nodes are read from: marks of strings and values, and the lists by blocks of 1024 words
-use mathlib.Core.Bool.{Bool, false}
+-- The local tables that the rules of points and nodes are read from: marks of strings and values, and the lists by blocks
+use mathlib.Core.Path.{_≡_}
+use mathlib.Core.Bool.{Bool, true, false}
 use mathlib.Core.List.{List}
-use Prim.Native.Nat.{ℕ, _+_, _*_, _/_, _%_}
+use Prim.Native.Nat.{ℕ, _+_, _*_, _/_, _%_, _<_, _≤_}
+use lib.ListN.{getD}
 use Rattle.meaning.specs.Tests.{allBelow, greatest}
 use Rattle.meaning.specs.Text.{free}
 use Rattle.meaning.specs.Case.{strings, values, lists, list, text}
@@ -24,9 +26,16 @@ Literals s table = Filled false (literal s) table (values s)
 abbrev pub Tops : List ℕ → List ℕ → Type 0
 Tops s table = Filled 0 (λ b. greatest 1024 (λ j. list s (1024 * b + j))) table (lists s / 1024)
 
--- the blocks that hold path names alone
-abbrev pub Paths : List ℕ → List Bool → Type 0
-Paths s table = Filled false (λ b. allBelow 1024 (λ j. pathName s (1024 * b + j))) table (lists s / 1024)
+-- names of paths that begin at word i go on up to e: the first word from there on that is none, or the lists' end
+pub record Names (s : List ℕ) (i e : ℕ) : Type 0 where
+  pub low : i ≤ e
+  pub high : e ≤ lists s
+  pub names : (k : ℕ) → i ≤ k → k < e → pathName s k ≡ true
+  pub ends : e < lists s → pathName s e ≡ false
+
+-- how far they go on from the start of each block of 128 words
+pub record Paths (s table : List ℕ) : Type 0 where
+  pub from : (b : ℕ) → 128 * b < lists s → Names s (128 * b) (getD table b 0)
 
 -- a block of 512 items of three words, that starts at a word of each remainder of 3
 abbrev pub blockStart : ℕ → ℕ

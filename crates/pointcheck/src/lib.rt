@@ -17,7 +17,7 @@ ghost use mathlib.Core.Path.{_≡_};
 ghost use mathlib.Core.Bool.{Bool, true, false};
 ghost use Prim.Native.Nat.{_+_, _*_, _/_, _<_};
 ghost use lib.Dec.{ltb};
-ghost use Rattle.meaning.specs.Tests.{_and_, allBelow, greatest};
+ghost use Rattle.meaning.specs.Tests.{_and_, allBelow, choose, greatest};
 ghost use Rattle.meaning.specs.Case.{lists, list, text};
 ghost use Rattle.meaning.specs.Check.{bodies, mosts, inTable, pathName, pathRun, stringRun, variableRun, endToEnd, isObject, maybeValue, entityBefore, isString, entityRule, entityItem, entityRun, pointRule, pointRules};
 ghost use Rattle.pointcheck.specs.Blocks.{Tops, Undotted, Paths, Unquoted, Entities};
@@ -129,44 +129,37 @@ fn path_name(s: &[u8], undotted: &[bool; 16384], i: usize) -> bool
     undotted[at]
 }
 
-// whether the block from `at` on holds path names alone
-fn path_block(s: &[u8], undotted: &[bool; 16384], at: usize) -> bool
-    requires { ⌜ bodies (now s) ≡ true ⌝ }
-    requires { ⌜ mosts (now s) ≡ true ⌝ }
-    requires { ⌜ Undotted (now s) (now undotted) ⌝ }
-    requires { ⌜ at < 4294967296 ⌝ }
-    ensures { λ r. ⌜ _≡_ {A = Bool} r (allBelow 1024 (λ j. pathName (now (s .entry)) (at + j))) ⌝ }
+// where names that go on to `end` end, with word i before them
+fn names_end(name: bool, i: u32, end: u32) -> u32
+    ensures { λ r. ⌜ r ≡ choose name end i ⌝ }
 {
-    let mut i = 0;
-    while i < 1024 {
-        if !path_name(s, undotted, at + i) {
-            return false;
-        }
-        i += 1;
-    }
-    true
+    if name { end } else { i }
 }
 
-pub fn path_blocks(s: &[u8], undotted: &[bool; 16384]) -> [bool; 1024]
+// how far path names go on from the start of each block of 128 words; in a block the last store is its start's
+pub fn path_blocks(s: &[u8], undotted: &[bool; 16384]) -> [u32; 8192]
     requires { ⌜ bodies (now s) ≡ true ⌝ }
     requires { ⌜ mosts (now s) ≡ true ⌝ }
     requires { ⌜ Undotted (now s) (now undotted) ⌝ }
     ensures { λ r. ⌜ Paths (now (s .entry)) r ⌝ }
 {
-    let n = wide(list_count(s)) / 1024;
-    let mut paths = [false; 1024];
-    let mut b = 0;
-    while b < n {
-        paths[b] = path_block(s, undotted, 1024 * b);
-        b += 1;
+    let mut end = list_count(s);
+    let mut i = end;
+    let mut paths = [0u32; 8192];
+    while 0 < i {
+        i -= 1;
+        end = names_end(path_name(s, undotted, wide(i)), i, end);
+        let b = wide(i / 128);
+        paths[b] = end;
     }
     paths
 }
 
+// word by word up to a block's start, and from there on at once
 pub fn path_run(
     s: &[u8],
     undotted: &[bool; 16384],
-    paths: &[bool; 1024],
+    paths: &[u32; 8192],
     first: u32,
     items: u32,
 ) -> bool
@@ -182,18 +175,14 @@ pub fn path_run(
     let mut i = 0;
     while i < items {
         let at = wide(first) + wide(i);
-        if at % 1024 != 0 || items - i < 1024 {
-            if !path_name(s, undotted, at) {
-                return false;
-            }
-            i += 1;
-            continue;
+        if at % 128 == 0 {
+            let b = at / 128;
+            return wide(first) + wide(items) <= wide(paths[b]);
         }
-        let b = at / 1024;
-        if !paths[b] {
+        if !path_name(s, undotted, at) {
             return false;
         }
-        i += 1024;
+        i += 1;
     }
     true
 }

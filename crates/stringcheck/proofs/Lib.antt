@@ -1,2 +1,3 @@
 pub mod Choices
+pub mod Letters
 pub mod Orders

@@ -18,19 +18,19 @@ both-more : (x y : List ℕ) (i : ℕ) → i < length x → i < length y → bef
 unfolding before
 both-more x y i h k = rw (add-one i, drop-cons x i 0 h, drop-cons y i 0 k)
 
-pub no-more : (x y : List ℕ) (i : ℕ) → i < length x → length y ≤ i → before (drop i x) (drop i y) ≡ false
+no-more : (x y : List ℕ) (i : ℕ) → i < length x → length y ≤ i → before (drop i x) (drop i y) ≡ false
 unfolding before
 no-more x y i h k = rw (drop-cons x i 0 h, drop-of-length-le y k)
 
-pub less : (x y : List ℕ) (i : ℕ) → i < length x → i < length y → getD x i 0 < getD y i 0 → before (drop i x) (drop i y) ≡ true
+less : (x y : List ℕ) (i : ℕ) → i < length x → i < length y → getD x i 0 < getD y i 0 → before (drop i x) (drop i y) ≡ true
 unfolding _or_
 less x y i h k l = both-more x y i h k ∙ rw (lt-ltb _ _ l)
 
-pub more : (x y : List ℕ) (i : ℕ) → i < length x → i < length y → getD y i 0 ≤ getD x i 0 → (getD x i 0 ≡ getD y i 0 → ⊥) → before (drop i x) (drop i y) ≡ false
+more : (x y : List ℕ) (i : ℕ) → i < length x → i < length y → getD y i 0 ≤ getD x i 0 → (getD x i 0 ≡ getD y i 0 → ⊥) → before (drop i x) (drop i y) ≡ false
 unfolding _or_ _and_
 more x y i h k l n = both-more x y i h k ∙ rw (le-ltb _ _ l, ne-eqb _ _ n)
 
-pub alike : (x y : List ℕ) (i : ℕ) → i < length x → i < length y → getD y i 0 ≤ getD x i 0 → getD x i 0 ≡ getD y i 0 → before (drop i x) (drop i y) ≡ before (drop (i + 1) x) (drop (i + 1) y)
+alike : (x y : List ℕ) (i : ℕ) → i < length x → i < length y → getD y i 0 ≤ getD x i 0 → getD x i 0 ≡ getD y i 0 → before (drop i x) (drop i y) ≡ before (drop (i + 1) x) (drop (i + 1) y)
 unfolding _or_ _and_
 alike x y i h k l e = both-more x y i h k ∙ rw (le-ltb _ _ l, eq-eqb _ _ e)
 
@@ -50,8 +50,27 @@ shifted n i =
 measured : (y : List ℕ) (i : ℕ) → ltb i (length y) ≡ ltb 0 (length (drop i y))
 measured y i = rw (length-drop i y) (shifted (length y) i)
 
-pub ends : (x y : List ℕ) (i : ℕ) → length x ≤ i → ltb i (length y) ≡ before (drop i x) (drop i y)
+ends : (x y : List ℕ) (i : ℕ) → length x ≤ i → ltb i (length y) ≡ before (drop i x) (drop i y)
 ends x y i h = rw (drop-of-length-le x h) (measured y i ∙ sym (at-end (drop i y)))
+
+-- of a loop that has read i bytes of both, which are the same
+module _ (x y : List ℕ) (i : ℕ) (is : before (drop i x) (drop i y) ≡ before x y) where
+  pub order-short : i < length x → length y ≤ i → false ≡ before x y
+  order-short h k = sym (no-more x y i h k) ∙ is
+
+  pub order-ends : length x ≤ i → ltb i (length y) ≡ before x y
+  order-ends h = ends x y i h ∙ is
+
+  module _ (h : i < length x) (k : i < length y) where
+    pub order-less : getD x i 0 < getD y i 0 → true ≡ before x y
+    order-less l = sym (less x y i h k l) ∙ is
+
+    module _ (l : getD y i 0 ≤ getD x i 0) where
+      pub order-more : (getD x i 0 ≡ getD y i 0 → ⊥) → false ≡ before x y
+      order-more n = sym (more x y i h k l n) ∙ is
+
+      pub order-same : getD x i 0 ≡ getD y i 0 → before (drop (i + 1) x) (drop (i + 1) y) ≡ before x y
+      order-same e = sym (alike x y i h k l e) ∙ is
 
 -- ---- the same bytes up to j
 

@@ -1,3 +1,4 @@
 pub mod Mosts
 pub mod Tables
 pub mod Eight
+pub mod Letters

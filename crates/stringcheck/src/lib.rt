@@ -9,14 +9,15 @@ use tables::text_of;
 use tables::wide;
 ghost use mathlib.Core.Path.{_≡_};
 ghost use mathlib.Core.Bool.{Bool, true, false};
-ghost use Prim.Native.Nat.{_+_, _<_, _≤_};
-ghost use lib.ListN.{length};
-ghost use Rattle.meaning.specs.Tests.{_and_, _or_, allBelow};
+ghost use Prim.Native.Nat.{_+_, _<_, _≤_, max};
+ghost use lib.ListN.{length, getD};
+ghost use Rattle.meaning.specs.Tests.{_and_, _or_, allBelow, choose, greatest};
 ghost use Rattle.meaning.specs.Text.{before, free, utf8, first, follow, next, ended};
 ghost use Rattle.meaning.specs.Case.{strings, values, members, points, nodes, lists, vars, text};
 ghost use Rattle.meaning.specs.Check.{recordBytes, bodies, mosts, endToEnd, utf8Rule, orderRule, stringRules};
 ghost use Rattle.laws.specs.Tests.{Filled};
 ghost use Rattle.stringcheck.specs.Eight.{Lesser, eightOf, Eight};
+ghost use Rattle.stringcheck.specs.Letters.{liesAt, twoFollow, threeFollow, LetterAt};
 
 // ---- rules of several parts
 
@@ -255,16 +256,104 @@ pub fn is_ended(d: Due) -> bool
     }
 }
 
+// byte i is there and lies from low to high
+fn lies(t: &[u8], i: usize, low: u8, high: u8) -> bool
+    ensures { λ r. ⌜ _≡_ {A = Bool} r (liesAt (now (t .entry)) i low high) ⌝ }
+{
+    if t.len() <= i {
+        return false;
+    }
+    both(low <= t[i], t[i] <= high)
+}
+
+// two bytes follow from i on, the first of them from low to high
+fn two_follow(t: &[u8], i: usize, low: u8, high: u8) -> bool
+    requires { ⌜ i ≤ length (now t) ⌝ }
+    ensures { λ r. ⌜ _≡_ {A = Bool} r (twoFollow (now (t .entry)) i low high) ⌝ }
+{
+    if !lies(t, i, low, high) {
+        return false;
+    }
+    lies(t, i + 1, 128, 191)
+}
+
+fn three_follow(t: &[u8], i: usize, low: u8, high: u8) -> bool
+    requires { ⌜ i ≤ length (now t) ⌝ }
+    ensures { λ r. ⌜ _≡_ {A = Bool} r (threeFollow (now (t .entry)) i low high) ⌝ }
+{
+    if !lies(t, i, low, high) {
+        return false;
+    }
+    two_follow(t, i + 1, 128, 191)
+}
+
+// how many bytes there are of a letter that is so long; 0 where it does not go on so
+fn sized(whole: bool, n: usize) -> usize
+    ensures { λ r. ⌜ r ≡ choose whole n 0 ⌝ }
+{
+    if whole { n } else { 0 }
+}
+
+// how many bytes the letter at i has, 0 for none
+fn letter_size(t: &[u8], i: usize) -> usize
+    requires { ⌜ i < length (now t) ⌝ }
+    ensures { λ r. ⌜ LetterAt (now (t .entry)) i r ⌝ }
+{
+    let d = first_due(t[i]);
+    match d {
+        Due::Nothing => 1,
+        Due::One => sized(lies(t, i + 1, 128, 191), 2),
+        Due::Two => sized(two_follow(t, i + 1, 128, 191), 3),
+        Due::Three => sized(three_follow(t, i + 1, 128, 191), 4),
+        Due::AfterE0 => sized(two_follow(t, i + 1, 160, 191), 3),
+        Due::AfterEd => sized(two_follow(t, i + 1, 128, 159), 3),
+        Due::AfterF0 => sized(three_follow(t, i + 1, 144, 191), 4),
+        Due::AfterF4 => sized(three_follow(t, i + 1, 128, 143), 4),
+        Due::Wrong => 0,
+    }
+}
+
+// letter by letter
+fn are_letters(t: &[u8]) -> bool
+    ensures { λ r. ⌜ _≡_ {A = Bool} r (utf8 Due.Nothing (now (t .entry))) ⌝ }
+{
+    let mut i = 0;
+    while i < t.len() {
+        let n = letter_size(t, i);
+        if n == 0 {
+            return false;
+        }
+        i += n;
+    }
+    true
+}
+
+pub fn larger_byte(a: u8, b: u8) -> u8
+    ensures { λ r. ⌜ r ≡ max a b ⌝ }
+{
+    if a < b { b } else { a }
+}
+
+// the greatest byte, many at once
+fn greatest_byte(t: &[u8]) -> u8
+    ensures { λ r. ⌜ r ≡ greatest (length (now (t .entry))) (λ i. getD (now (t .entry)) i 0) ⌝ }
+{
+    let mut top = 0;
+    let mut i = 0;
+    while i < t.len() {
+        top = larger_byte(top, t[i]);
+        i += 1;
+    }
+    top
+}
+
 fn is_utf8(t: &[u8]) -> bool
     ensures { λ r. ⌜ _≡_ {A = Bool} r (utf8 Due.Nothing (now (t .entry))) ⌝ }
 {
-    let mut d = Due::Nothing;
-    let mut i = 0;
-    while i < t.len() {
-        d = next_due(d, t[i]);
-        i += 1;
+    if greatest_byte(t) < 128 {
+        return true;
     }
-    is_ended(d)
+    are_letters(t)
 }
 
 fn check_utf8(s: &[u8]) -> bool
@@ -398,17 +487,17 @@ pub fn check_strings(s: &[u8]) -> bool
 
 // ---- what later rules ask: strings in which a byte does not occur
 
+// all bytes are read, many at once
 fn is_free(b: u8, t: &[u8]) -> bool
     ensures { λ r. ⌜ _≡_ {A = Bool} r (free b (now (t .entry))) ⌝ }
 {
+    let mut none = true;
     let mut i = 0;
     while i < t.len() {
-        if t[i] == b {
-            return false;
-        }
+        none = both(none, t[i] != b);
         i += 1;
     }
-    true
+    none
 }
 
 // which strings hold no byte b

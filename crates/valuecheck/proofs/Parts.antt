@@ -159,3 +159,7 @@ module _ (s : List ℕ) {first items m w f j : ℕ} (rest : Bool) (em : m ≡ me
 
   pub run-inside : {q : Bool} → f + j ≤ w → q ≡ rest → q ≡ (inTable (members s) 1 first items and rest)
   run-inside h e = e ∙ sym (after (le-leb (first + 1 * items) (members s) (omega arith)))
+
+-- the block that starts at item i of a run is one of the table's
+pub in-tops : (s : List ℕ) (items : ℕ) {first i f j : ℕ} → f ≡ first → j ≡ i → bodies s ≡ true → mosts s ≡ true → first + items ≤ members s → ltb (items - i) 512 ≡ false → i < items → (f + j) / 512 < 1024
+in-tops s items {i = i} ef ej b m l w h = omega (arith, ltb-false (items - i) 512 w, member-most s m b)

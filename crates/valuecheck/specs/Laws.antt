@@ -3,17 +3,17 @@ use mathlib.Core.Path.{_≡_, refl, sym, _∙_, ap}
 use mathlib.Core.Bool.{Bool, true, false}
 use mathlib.Core.List.{List, [], _∷_}
 use mathlib.Core.Logic.{_⊎_, inl, inr, ⊎-elim}
-use Prim.Native.Nat.{ℕ, zero, suc, _+_, _*_, _<_, _≤_, max}
+use Prim.Native.Nat.{ℕ, zero, suc, _+_, _*_, _-_, _<_, _≤_, max}
 use native.Mathlib.Omega.{arith}
 use lib.Dec.{ltb, eqb}
 use lib.ListN.{getD, set, replicate}
 use lib.Seq.{getD-set-other}
 use borrow.Author.Tests.{lt-ltb, le-ltb, ltb-true, ltb-false}
-use Rattle.meaning.specs.Tests.{_and_, choose, allBelow, greatest}
+use Rattle.meaning.specs.Tests.{_and_, choose, allBelow, rises, greatest}
 use Rattle.meaning.specs.Case.{nothing, memberWord}
-use Rattle.meaning.specs.Check.{arrayItem, depth}
-use Rattle.laws.specs.Tests.{Filled, stop, skip, pass, after, yes, no, all-same, all-at}
-use Rattle.valuecheck.specs.Blocks.{topOf, Depths, Marked, Lower}
+use Rattle.meaning.specs.Check.{arrayItem, objectItem, depth}
+use Rattle.laws.specs.Tests.{Filled, both, stop, skip, pass, after, yes, no, all-same, all-at}
+use Rattle.valuecheck.specs.Blocks.{topOf, objectName, objectTop, Depths, Marked, Lower}
 use Rattle.stringcheck.specs.Tables.{replicate-same}
 
 -- the greatest of a run and a block
@@ -92,6 +92,72 @@ pub array-top : (s : List ℕ) {tops : List ℕ} (v first i b : ℕ) {n : ℕ} �
 array-top s v first i b t hb q h =
     ap (λ (x : ℕ). ltb x v) (t .at b hb) ∙ top-is s v (512 * b) h
     ∙ all-same (arrayItem s v (512 * b)) (λ j. arrayItem s v first (i + j)) 512 (λ j hj. shift s v (512 * b) first i j q)
+
+-- ---- a run whose items look at the one before goes on by a whole block, which starts at item i
+
+module _ (item here : ℕ → Bool) (i : ℕ) (inner : (j : ℕ) → item (i + suc j) ≡ here (suc j)) where
+  pub run-more : (n : ℕ) → allBelow i item ≡ true → item i ≡ true → allBelow n here ≡ true → allBelow (i + n) item ≡ true
+  run-more n a h b = all-true item (i + n) (λ m l. go m l (ltb m i) refl (ltb i m) refl)
+    where
+      go : (m : ℕ) → m < i + n → (x : Bool) → ltb m i ≡ x → (y : Bool) → ltb i m ≡ y → item m ≡ true
+      go m l true p y q = all-at item i m a (ltb-true m i p)
+      go m l false p false q = let z : m ≡ i = omega (arith, ltb-false m i p, ltb-false i m q) in rw z h
+      go m l false p true q =
+          let g : i < m = ltb-true i m q in
+          let z : i + suc (m - i - 1) ≡ m = omega arith in
+          ap item (sym z) ∙ inner (m - i - 1) ∙ all-at here n (suc (m - i - 1)) b (omega arith)
+
+  pub run-stop : (items n : ℕ) → i + n ≤ items → (item i ≡ true → here 0 ≡ true) → allBelow n here ≡ false → allBelow items item ≡ false
+  run-stop items n l opens b = go (allBelow items item) refl
+    where
+      whole : allBelow items item ≡ true → (j : ℕ) → j < n → here j ≡ true
+      whole h zero hj = opens (all-at item items i h (omega arith))
+      whole h (suc j) hj = sym (inner j) ∙ all-at item items (i + suc j) h (omega arith)
+
+      go : (x : Bool) → allBelow items item ≡ x → allBelow items item ≡ false
+      go false q = q
+      go true q = cc (all-true here n (whole q))
+
+-- ---- an object's items by their names and the greatest value held
+
+last-two : (a l w : Bool) → ((a and l) and w) ≡ ((a and w) and l)
+unfolding _and_
+last-two false l w = refl
+last-two true true true = refl
+last-two true true false = refl
+last-two true false true = refl
+last-two true false false = refl
+
+object-is : (s : List ℕ) (v first i : ℕ) → objectItem s v first i ≡ (objectName s first i and ltb (memberWord s (first + i) 1) v)
+unfolding objectItem objectName
+object-is s v first i = last-two _ _ _
+
+module _ (s : List ℕ) (v first i at : ℕ) (e : at ≡ first + i) where
+  inside : (j : ℕ) → objectItem s v first (i + suc j) ≡ objectItem s v at (suc j)
+  unfolding objectItem rises
+  inside j =
+      let q : i + suc j ≡ suc (i + j) = omega arith in
+      let this : first + suc (i + j) ≡ at + suc j = omega arith in
+      let last : first + (i + j) ≡ at + j = omega arith in
+      rw (q, this, last) refl
+
+  opens : objectItem s v first i ≡ true → objectItem s v at 0 ≡ true
+  unfolding objectItem rises
+  opens h = let q : at + 0 ≡ first + i = omega arith in pass (rw q (both _ _ h .0)) refl
+
+  module _ (b : ℕ) {tops : List ℕ} {n : ℕ} (t : Filled 0 (λ b. objectTop s (512 * b)) tops n) (hb : b < n) (q : 512 * b ≡ at) (fits : v < 4294967296) where
+    block : ltb (getD tops b 0) v ≡ allBelow 512 (objectItem s v at)
+    unfolding objectTop
+    block =
+        ap (λ (x : ℕ). ltb x v) (t .at b hb ∙ ap (objectTop s) q)
+        ∙ bound-is (objectName s at) (λ i. memberWord s (at + i) 1) v 511 fits
+        ∙ all-same _ _ 512 (λ i hi. sym (object-is s v at i))
+
+    pub object-more : allBelow i (objectItem s v first) ≡ true → objectItem s v first i ≡ true → getD tops b 0 < v → allBelow (i + 512) (objectItem s v first) ≡ true
+    object-more a h l = run-more (objectItem s v first) (objectItem s v at) i inside 512 a h (sym block ∙ lt-ltb _ _ l)
+
+    pub object-stop : (items : ℕ) → i + 512 ≤ items → v ≤ getD tops b 0 → allBelow items (objectItem s v first) ≡ false
+    object-stop items f l = run-stop (objectItem s v first) (objectItem s v at) i inside items 512 f opens (sym block ∙ le-ltb _ _ l)
 
 -- ---- what is kept of blocks
 

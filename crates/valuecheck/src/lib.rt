@@ -2,6 +2,7 @@
 use meaning::ValNo;
 use stringcheck::both;
 use stringcheck::either;
+use stringcheck::larger_byte;
 use stringcheck::member_count;
 use stringcheck::string_count;
 use stringcheck::value_count;
@@ -17,7 +18,7 @@ ghost use Rattle.meaning.specs.Case.{values, members, memberWord};
 ghost use Rattle.meaning.specs.Check.{bodies, mosts, inTable, memberRule, arrayItem, objectItem, valueRule, valueRules, depthRule, depth, partCount, partValue, literal};
 ghost use Rattle.laws.specs.Tests.{Filled};
 ghost use Rattle.laws.specs.Values.{Runs};
-ghost use Rattle.valuecheck.specs.Blocks.{topOf, Lower, Depths, Marked};
+ghost use Rattle.valuecheck.specs.Blocks.{topOf, objectName, objectTop, Lower, Depths, Marked};
 
 // ---- members
 
@@ -142,8 +143,61 @@ fn array_items(s: &[u8], tops: &[u32; 1024], v: u32, first: u32, items: u32) -> 
     true
 }
 
-fn object_items(s: &[u8], v: u32, first: u32, items: u32) -> bool
+// the name of item i from `at` on is a string, after the one before it
+fn name_follows(s: &[u8], at: usize, i: usize) -> bool
     requires { ⌜ bodies (now s) ≡ true ⌝ }
+    requires { ⌜ at < 4294967296 ⌝ }
+    requires { ⌜ i < 512 ⌝ }
+    ensures { λ r. ⌜ _≡_ {A = Bool} r (objectName (now (s .entry)) at i) ⌝ }
+{
+    let name = member_word(s, at + i, 0);
+    if string_count(s) <= name {
+        return false;
+    }
+    if i == 0 {
+        return true;
+    }
+    member_word(s, at + i - 1, 0) < name
+}
+
+// an object may hold the block from `at` on, whose first name follows what is before it, if its number is above this
+fn object_top(s: &[u8], at: usize) -> u32
+    requires { ⌜ bodies (now s) ≡ true ⌝ }
+    requires { ⌜ at < 4294967296 ⌝ }
+    ensures { λ r. ⌜ r ≡ objectTop (now (s .entry)) at ⌝ }
+{
+    let mut top = 0;
+    let mut i = 0;
+    while i < 512 {
+        if !name_follows(s, at, i) {
+            return 4294967295;
+        }
+        top = larger(top, member_word(s, at + i, 1));
+        i += 1;
+    }
+    top
+}
+
+fn object_tops(s: &[u8]) -> [u32; 1024]
+    requires { ⌜ bodies (now s) ≡ true ⌝ }
+    requires { ⌜ mosts (now s) ≡ true ⌝ }
+    ensures { λ r. ⌜ Filled 0 (λ b. objectTop (now (s .entry)) (512 * b)) r (members (now (s .entry)) / 512) ⌝ }
+{
+    let n = wide(member_count(s)) / 512;
+    let mut tops = [0u32; 1024];
+    let mut b = 0;
+    while b < n {
+        tops[b] = object_top(s, 512 * b);
+        b += 1;
+    }
+    tops
+}
+
+fn object_items(s: &[u8], tops: &[u32; 1024], v: u32, first: u32, items: u32) -> bool
+    requires { ⌜ bodies (now s) ≡ true ⌝ }
+    requires { ⌜ mosts (now s) ≡ true ⌝ }
+    requires { ⌜ Filled 0 (λ b. objectTop (now s) (512 * b)) (now tops) (members (now s) / 512) ⌝ }
+    requires { ⌜ first + items ≤ members (now s) ⌝ }
     ensures { λ r. ⌜ _≡_ {A = Bool} r (allBelow items (objectItem (now (s .entry)) v first)) ⌝ }
 {
     let mut i = 0;
@@ -151,7 +205,16 @@ fn object_items(s: &[u8], v: u32, first: u32, items: u32) -> bool
         if !object_item(s, v, first, i) {
             return false;
         }
-        i += 1;
+        let at = wide(first) + wide(i);
+        if at % 512 != 0 || items - i < 512 {
+            i += 1;
+            continue;
+        }
+        let b = at / 512;
+        if v <= tops[b] {
+            return false;
+        }
+        i += 512;
     }
     true
 }
@@ -168,22 +231,25 @@ fn array_run(s: &[u8], tops: &[u32; 1024], v: u32, first: u32, items: u32) -> bo
     array_items(s, tops, v, first, items)
 }
 
-fn object_run(s: &[u8], v: u32, first: u32, items: u32) -> bool
+fn object_run(s: &[u8], tops: &[u32; 1024], v: u32, first: u32, items: u32) -> bool
     requires { ⌜ bodies (now s) ≡ true ⌝ }
+    requires { ⌜ mosts (now s) ≡ true ⌝ }
+    requires { ⌜ Filled 0 (λ b. objectTop (now s) (512 * b)) (now tops) (members (now s) / 512) ⌝ }
     ensures { λ r. ⌜ _≡_ {A = Bool} r (inTable (members (now (s .entry))) 1 first items and allBelow items (objectItem (now (s .entry)) v first)) ⌝ }
 {
     if wide(member_count(s)) < wide(first) + wide(items) {
         return false;
     }
-    object_items(s, v, first, items)
+    object_items(s, tops, v, first, items)
 }
 
 // ---- values
 
-fn value_rule(s: &[u8], tops: &[u32; 1024], v: u32) -> bool
+fn value_rule(s: &[u8], tops: &[u32; 1024], objects: &[u32; 1024], v: u32) -> bool
     requires { ⌜ bodies (now s) ≡ true ⌝ }
     requires { ⌜ mosts (now s) ≡ true ⌝ }
     requires { ⌜ Filled 0 (λ b. topOf (now s) (512 * b)) (now tops) (members (now s) / 512) ⌝ }
+    requires { ⌜ Filled 0 (λ b. objectTop (now s) (512 * b)) (now objects) (members (now s) / 512) ⌝ }
     ensures { λ r. ⌜ _≡_ {A = Bool} r (valueRule (now (s .entry)) v) ⌝ }
 {
     let n = string_count(s);
@@ -199,7 +265,7 @@ fn value_rule(s: &[u8], tops: &[u32; 1024], v: u32) -> bool
         4 => both(a < n, both(b == 0, c == 0)),
         5 => both(a < n, both(b < n, c == 0)),
         6 => both(c == 0, array_run(s, tops, v, a, b)),
-        7 => both(c == 0, object_run(s, v, a, b)),
+        7 => both(c == 0, object_run(s, objects, v, a, b)),
         _ => false,
     }
 }
@@ -211,9 +277,10 @@ fn check_each_value(s: &[u8]) -> bool
 {
     let n = value_count(s);
     let tops = block_tops(s);
+    let objects = object_tops(s);
     let mut v = 0;
     while v < n {
-        if !value_rule(s, &tops, v) {
+        if !value_rule(s, &tops, &objects, v) {
             return false;
         }
         v += 1;
@@ -222,12 +289,6 @@ fn check_each_value(s: &[u8]) -> bool
 }
 
 // ---- depth: children are lower, so one pass upward; a block's greatest depth is kept once it is known
-
-pub fn larger_byte(a: u8, b: u8) -> u8
-    ensures { λ r. ⌜ r ≡ max a b ⌝ }
-{
-    if a < b { b } else { a }
-}
 
 // the greatest depth of what the block from `at` on holds, which is below v
 fn block_depth(s: &[u8], depths: &[u8; 16384], at: usize, v: u32) -> u8

@@ -11,9 +11,15 @@ use crate::timing::by_turns;
 pub fn print_table() -> Result<bool, String> {
     println!("| file | bytes | check, MB/s | plain pass, MB/s | times as long |");
     println!("|---|---|---|---|---|");
-    for (name, tables) in
-        [("a log of 5,400 points", log()?), ("16,384 long strings", strings()), ("one array", array())]
-    {
+    for (name, tables) in [
+        ("a log of 5,400 points", log()?),
+        ("16,384 long strings", strings("", &"x".repeat(240))),
+        ("the same, 240 bytes in common", strings(&"x".repeat(240), "")),
+        ("letters of two bytes", strings("", &"äöü".repeat(40))),
+        ("letters of three bytes", strings("", &"漢字か".repeat(26))),
+        ("letters of one to four bytes", strings("", &"aé漢b😀 word".repeat(12))),
+        ("one array", array()),
+    ] {
         let file = tables.encode();
         if check(&file) != 0 {
             return Err(format!("{name}: refused {}", check(&file)));
@@ -43,11 +49,11 @@ fn log() -> Result<Tables, String> {
     pack(&text).map(|packed| packed.tables).map_err(|fault| fault.to_string())
 }
 
-/// Text and little else.
-fn strings() -> Tables {
+/// Text and little else: a number in each string, with the same before and after it.
+fn strings(before: &str, after: &str) -> Tables {
     let mut builder = Builder::new(0);
     for k in 0..16_384 {
-        builder.string(&format!("{k:05}{}", "x".repeat(240)));
+        builder.string(&format!("{before}{k:05}{after}"));
     }
     builder.finish()
 }

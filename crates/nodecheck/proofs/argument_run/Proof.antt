@@ -13,25 +13,26 @@ use Rattle.laws.specs.Tests.{Passing, passing-none, passing-more, passing-no, p
 use Rattle.meaning.specs.Tests.{allBelow}
 use Rattle.nodecheck.specs.Laws.{top-is}
 use Rattle.nodecheck.specs.Terms.{ArgumentTops, argumentTop}
-use Rattle.pointcheck.proofs.Runs.{InLists, run-past, run-fits, run-whole, third-in, third-fits, third-at}
+use Rattle.pointcheck.proofs.Runs.{InLists, run-past, run-fits, run-whole}
+use Rattle.nodecheck.proofs.Blocks.{block-in, block-fits, block-at}
 use Rattle.nodecheck.proofs.argument_run.Statement.{statement}
 use Rattle.nodecheck.proofs.argument_run.Tie as tie
 
 at-is : (s : List ℕ) (n : ℕ) {first i f j : ℕ} {r : Bool} → r ≡ argumentRule s n (f + 3 * j) → f ≡ first → j ≡ i → r ≡ argumentRule s n (first + 3 * i)
 at-is s n e a b = e ∙ rw (a, b) refl
 
-module _ {s : List ℕ} {first items i f j : ℕ} (r : InLists s 3 first items) (ef : f ≡ first) (ej : j ≡ i) (lt : i < items) (a : (f + 3 * j) % 1536 < 3) (w : ltb (items - i) 512 ≡ false) {terms : List ℕ} (t : ArgumentTops s terms) {test : ℕ → Bool} (p : Passing test items i) (n : ℕ) (fits : n < 4294967296) (same : (x : ℕ) → test x ≡ argumentRule s n (first + 3 * x)) where
-  block : ltb (getD terms (3 * ((f + 3 * j) / 1536) + (f + 3 * j) % 1536) 0) n ≡ allBelow 512 (λ x. test (i + x))
+module _ {s : List ℕ} {first items i f j : ℕ} (r : InLists s 3 first items) (ef : f ≡ first) (ej : j ≡ i) (lt : i < items) (a : (f + 3 * j) % 384 < 3) (w : ltb (items - i) 128 ≡ false) {terms : List ℕ} (t : ArgumentTops s terms) {test : ℕ → Bool} (p : Passing test items i) (n : ℕ) (fits : n < 4294967296) (same : (x : ℕ) → test x ≡ argumentRule s n (first + 3 * x)) where
+  block : ltb (getD terms (3 * ((f + 3 * j) / 384) + (f + 3 * j) % 384) 0) n ≡ allBelow 128 (λ x. test (i + x))
   block =
-      ap (λ (x : ℕ). ltb x n) (third-at r ef ej lt a w (argumentTop s) t) ∙ top-is s n (f + 3 * j) fits
-      ∙ all-same (λ x. argumentRule s n (f + 3 * j + 3 * x)) (λ x. test (i + x)) 512 (λ x hx. let q : f + 3 * j + 3 * x ≡ first + 3 * (i + x) = omega arith in rw q (sym (same (i + x))))
+      ap (λ (x : ℕ). ltb x n) (block-at r ef ej lt a w (argumentTop s) t) ∙ top-is s n (f + 3 * j) fits
+      ∙ all-same (λ x. argumentRule s n (f + 3 * j + 3 * x)) (λ x. test (i + x)) 128 (λ x hx. let q : f + 3 * j + 3 * x ≡ first + 3 * (i + x) = omega arith in rw q (sym (same (i + x))))
 
 module _ {s : List ℕ} {first items i f j : ℕ} {terms : List ℕ} {test : ℕ → Bool} (n : ℕ) where
-  block-more : getD terms (3 * ((f + 3 * j) / 1536) + (f + 3 * j) % 1536) 0 < n → f ≡ first → j ≡ i → (f + 3 * j) % 1536 < 3 → ltb (items - i) 512 ≡ false → i < items → Passing test items i → InLists s 3 first items → ArgumentTops s terms → n < 4294967296 → ((x : ℕ) → test x ≡ argumentRule s n (first + 3 * x)) → Passing test items (i + 512)
-  block-more d ef ej a w lt p r t fits same = passing-block p 512 (third-fits r ef ej lt a w) (sym (block r ef ej lt a w t p n fits same) ∙ lt-ltb _ _ d)
+  block-more : getD terms (3 * ((f + 3 * j) / 384) + (f + 3 * j) % 384) 0 < n → f ≡ first → j ≡ i → (f + 3 * j) % 384 < 3 → ltb (items - i) 128 ≡ false → i < items → Passing test items i → InLists s 3 first items → ArgumentTops s terms → n < 4294967296 → ((x : ℕ) → test x ≡ argumentRule s n (first + 3 * x)) → Passing test items (i + 128)
+  block-more d ef ej a w lt p r t fits same = passing-block p 128 (block-fits r ef ej lt a w) (sym (block r ef ej lt a w t p n fits same) ∙ lt-ltb _ _ d)
 
-  block-no : n ≤ getD terms (3 * ((f + 3 * j) / 1536) + (f + 3 * j) % 1536) 0 → f ≡ first → j ≡ i → (f + 3 * j) % 1536 < 3 → ltb (items - i) 512 ≡ false → i < items → Passing test items i → InLists s 3 first items → ArgumentTops s terms → n < 4294967296 → ((x : ℕ) → test x ≡ argumentRule s n (first + 3 * x)) → false ≡ allBelow items test
-  block-no d ef ej a w lt p r t fits same = passing-out p 512 (third-fits r ef ej lt a w) (sym (block r ef ej lt a w t p n fits same) ∙ le-ltb _ _ d) refl
+  block-no : n ≤ getD terms (3 * ((f + 3 * j) / 384) + (f + 3 * j) % 384) 0 → f ≡ first → j ≡ i → (f + 3 * j) % 384 < 3 → ltb (items - i) 128 ≡ false → i < items → Passing test items i → InLists s 3 first items → ArgumentTops s terms → n < 4294967296 → ((x : ℕ) → test x ≡ argumentRule s n (first + 3 * x)) → false ≡ allBelow items test
+  block-no d ef ej a w lt p r t fits same = passing-out p 128 (block-fits r ef ej lt a w) (sym (block r ef ej lt a w t p n fits same) ∙ le-ltb _ _ d) refl
 
 abbrev Inv-loop : tie.InvT-loop
 Inv-loop s undotted paths terms n first items i₀ i = Passing (λ k. argumentRule s n (first + 3 * k)) items i × InLists s 3 first items
@@ -105,7 +106,7 @@ mul-if5 : tie.Need-mul-if5 Inv-loop μ-loop
 mul-if5 c = search needs
 
 element-copy-out-if5 : tie.Need-element-copy-out-if5 Inv-loop μ-loop
-element-copy-out-if5 c = search (third-in, needs)
+element-copy-out-if5 c = search (block-in, needs)
 
 returns-3 : tie.Need-returns-3 Inv-loop μ-loop
 unfolding argumentRun

@@ -10,20 +10,20 @@ use Rattle.nodecheck.specs.Terms.{argumentOwn, argumentTop}
 use Rattle.nodecheck.proofs.argument_top.Statement.{statement}
 use Rattle.nodecheck.proofs.argument_top.Tie as tie
 
-module _ (s : List ℕ) (at : ℕ) {i : ℕ} (p : Passing (λ j. argumentOwn s (at + 3 * j)) 512 i) where
-  broken : {r : Bool} → i < 512 → not r ≡ true → r ≡ argumentOwn s (at + 3 * i) → 4294967295 ≡ argumentTop s at
+module _ (s : List ℕ) (at : ℕ) {i : ℕ} (p : Passing (λ j. argumentOwn s (at + 3 * j)) 128 i) where
+  broken : {r : Bool} → i < 128 → not r ≡ true → r ≡ argumentOwn s (at + 3 * i) → 4294967295 ≡ argumentTop s at
   unfolding argumentTop
   broken h e f = sym (no _ (sym (passing-no p h e f refl)) refl)
 
-  whole : {top : ℕ} → Growing (λ j. list s (at + 3 * j + 2)) 512 i top → 512 ≤ i → top ≡ argumentTop s at
+  whole : {top : ℕ} → Growing (λ j. list s (at + 3 * j + 2)) 128 i top → 128 ≤ i → top ≡ argumentTop s at
   unfolding argumentTop
   whole g h = growing-all g h refl ∙ sym (yes _ (sym (passing-all p h refl)))
 
 abbrev Inv-loop : tie.InvT-loop
-Inv-loop s undotted paths at top₀ i₀ top i = Passing (λ j. argumentOwn s (at + 3 * j)) 512 i × Growing (λ j. list s (at + 3 * j + 2)) 512 i top
+Inv-loop s undotted paths at top₀ i₀ top i = Passing (λ j. argumentOwn s (at + 3 * j)) 128 i × Growing (λ j. list s (at + 3 * j + 2)) 128 i top
 
 abbrev μ-loop : tie.MeasureT-loop
-μ-loop s undotted paths at top₀ i₀ top i = 512 - i
+μ-loop s undotted paths at top₀ i₀ top i = 128 - i
 
 loop-holds : tie.Need-loop-holds Inv-loop μ-loop
 loop-holds c = (search (passing-none, needs), search (growing-none, needs))

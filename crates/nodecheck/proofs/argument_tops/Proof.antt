@@ -1,15 +1,14 @@
 -- What is kept of each block of arguments, as a table filled from the front
 use Prim.Native.Nat.{_-_}
 use borrow.Author.Needs.{needs}
-use Rattle.nodecheck.specs.Terms.{argumentTop}
-use Rattle.pointcheck.specs.Blocks.{blockStart}
+use Rattle.nodecheck.specs.Terms.{argumentTop, argumentStart}
 use Rattle.stringcheck.specs.Tables.{Filling, filling-none, filling-more, filling-all}
-use Rattle.pointcheck.proofs.Runs.{thirds-few, thirds-all}
+use Rattle.nodecheck.proofs.Blocks.{blocks-few, blocks-all}
 use Rattle.nodecheck.proofs.argument_tops.Statement.{statement}
 use Rattle.nodecheck.proofs.argument_tops.Tie as tie
 
 abbrev Inv-loop : tie.InvT-loop
-Inv-loop s undotted paths n tops₀ k₀ tops k = Filling 0 (λ k. argumentTop s (blockStart k)) 2052 n tops k
+Inv-loop s undotted paths n tops₀ k₀ tops k = Filling 0 (λ k. argumentTop s (argumentStart k)) 8192 n tops k
 
 abbrev μ-loop : tie.MeasureT-loop
 μ-loop s undotted paths n tops₀ k₀ tops k = n - k
@@ -24,7 +23,7 @@ mul-n : tie.Need-mul-n Inv-loop μ-loop
 mul-n c = search needs
 
 loop-holds : tie.Need-loop-holds Inv-loop μ-loop
-loop-holds c = search (filling-none, thirds-few, needs)
+loop-holds c = search (filling-none, blocks-few, needs)
 
 mul-argument-top : tie.Need-mul-argument-top Inv-loop μ-loop
 mul-argument-top c = search needs
@@ -51,7 +50,7 @@ loop-again : tie.Need-loop-again Inv-loop μ-loop
 loop-again c = search (filling-more, needs)
 
 returns : tie.Need-returns Inv-loop μ-loop
-returns c = search (filling-all, thirds-all, needs)
+returns c = search (filling-all, blocks-all, needs)
 
 pub argument-tops-spec : {M : Type 1} → statement M
 argument-tops-spec =

@@ -1,14 +1,13 @@
--- A run holds path names alone, a block at once where a table marks it
-use Prim.Native.Nat.{_+_, _-_, ℕ}
+-- A run holds path names alone: word by word to a block's start, and from there by how far names go on
 use borrow.Author.Needs.{needs}
-use borrow.Author.Tests.{ltb-false}
+use Prim.Native.Nat.{_+_, _-_, ℕ}
 use mathlib.Core.Bool.{Bool}
 use mathlib.Core.List.{List}
 use mathlib.Core.Path.{_∙_, _≡_, refl}
-use native.Mathlib.Omega.{arith}
 use Rattle.meaning.specs.Check.{pathName, pathRun}
 use Rattle.laws.specs.Tests.{Passing, passing-none, passing-more, passing-no, passing-all, fails-here, fails-later}
-use Rattle.pointcheck.proofs.Runs.{InLists, run-in, run-whole, block-in, names-more, names-no}
+use Rattle.pointcheck.proofs.Names.{names-rest, names-in}
+use Rattle.pointcheck.proofs.Runs.{InLists, run-in, run-whole}
 use Rattle.pointcheck.proofs.path_run.Statement.{statement}
 use Rattle.pointcheck.proofs.path_run.Tie as tie
 
@@ -40,15 +39,34 @@ wide-requires-2 c κs = search needs
 add-at : tie.Need-add-at Inv-loop μ-loop
 add-at c = search needs
 
-sub-if3 : tie.Need-sub-if3 Inv-loop μ-loop
-sub-if3 c = search needs
+wide-requires-3 : tie.Need-wide-requires-3 Inv-loop μ-loop
+wide-requires-3 c κs = search needs
+
+wide-requires-4 : tie.Need-wide-requires-4 Inv-loop μ-loop
+wide-requires-4 c κs = search needs
+
+add-result : tie.Need-add-result Inv-loop μ-loop
+add-result c = search needs
+
+mul-wide : tie.Need-mul-wide Inv-loop μ-loop
+mul-wide c = search needs
+
+element-copy-out-wide : tie.Need-element-copy-out-wide Inv-loop μ-loop
+element-copy-out-wide c = search (names-in, needs)
+
+wide-requires-5 : tie.Need-wide-requires-5 Inv-loop μ-loop
+wide-requires-5 c κs = search needs
+
+returns-2 : tie.Need-returns-2 Inv-loop μ-loop
+unfolding pathRun
+returns-2 c = search (names-rest, needs)
 
 path-name-requires : tie.Need-path-name-requires Inv-loop μ-loop
 path-name-requires c κs = search needs
 
-returns-2 : tie.Need-returns-2 Inv-loop μ-loop
+returns-3 : tie.Need-returns-3 Inv-loop μ-loop
 unfolding pathRun
-returns-2 c = search (fails-later, passing-no, name-is, needs)
+returns-3 c = search (fails-later, passing-no, name-is, needs)
 
 add-i : tie.Need-add-i Inv-loop μ-loop
 add-i c = search needs
@@ -58,22 +76,6 @@ loop-less c = search needs
 
 loop-again : tie.Need-loop-again Inv-loop μ-loop
 loop-again c = (search (passing-more, name-is, needs), search needs)
-
-element-copy-out-if5 : tie.Need-element-copy-out-if5 Inv-loop μ-loop
-element-copy-out-if5 c = search (block-in, needs)
-
-returns-3 : tie.Need-returns-3 Inv-loop μ-loop
-unfolding pathRun
-returns-3 c = search (fails-later, names-no, needs)
-
-add-i-2 : tie.Need-add-i-2 Inv-loop μ-loop
-add-i-2 c = omega (arith, ltb-false)
-
-loop-less-2 : tie.Need-loop-less-2 Inv-loop μ-loop
-loop-less-2 c = search needs
-
-loop-again-2 : tie.Need-loop-again-2 Inv-loop μ-loop
-loop-again-2 c = (search (names-more, needs), search needs)
 
 returns-4 : tie.Need-returns-4 Inv-loop μ-loop
 unfolding pathRun
@@ -91,15 +93,16 @@ path-run-spec =
     wide-requires
     wide-requires-2
     add-at
-    sub-if3
-    path-name-requires
+    wide-requires-3
+    wide-requires-4
+    add-result
+    mul-wide
+    element-copy-out-wide
+    wide-requires-5
     returns-2
+    path-name-requires
+    returns-3
     add-i
     loop-less
     loop-again
-    element-copy-out-if5
-    returns-3
-    add-i-2
-    loop-less-2
-    loop-again-2
     returns-4)

@@ -1,17 +1,16 @@
--- A byte does not occur in a text: byte by byte
+-- A byte does not occur in a text: of the bytes read so far, and of the others
 use borrow.Author.Needs.{needs}
 use mathlib.Core.Path.{_≡_, refl, sym, _∙_, ap}
-use mathlib.Core.Bool.{true, false, not}
+use mathlib.Core.Bool.{Bool, not}
 use mathlib.Core.List.{List}
 use Prim.Native.Nat.{ℕ, _≤_, _<_, _+_, _-_}
 use native.Mathlib.Numerals.{add-one}
 use lib.Dec.{eqb}
 use lib.ListN.{length, getD, drop, drop-of-length-le}
 use lib.Seq.{drop-cons}
-use borrow.Author.Tests.{ne-eqb, eq-eqb}
 use Rattle.meaning.specs.Tests.{_and_}
 use Rattle.meaning.specs.Text.{free}
-use Rattle.laws.specs.Tests.{stop, after}
+use Rattle.laws.specs.Tests.{and-assoc, and-true}
 use Rattle.stringcheck.proofs.is_free.Statement.{statement}
 use Rattle.stringcheck.proofs.is_free.Tie as tie
 
@@ -19,31 +18,32 @@ peel : (t : List ℕ) (b i : ℕ) → i < length t → free b (drop i t) ≡ (no
 unfolding free
 peel t b i h = rw (add-one i, drop-cons t i 0 h)
 
-module _ (t : List ℕ) (b i : ℕ) (is : free b (drop i t) ≡ free b t) where
-  found : i < length t → getD t i 0 ≡ b → false ≡ free b t
-  found h e = sym (sym is ∙ peel t b i h ∙ stop _ (ap not (eq-eqb _ _ e)))
+module _ (t : List ℕ) (b i : ℕ) (none : Bool) (is : free b t ≡ (none and free b (drop i t))) where
+  more : {r : Bool} → r ≡ (none and not (eqb (getD t i 0) b)) → i < length t → free b t ≡ (r and free b (drop (i + 1) t))
+  more e h =
+      is ∙ ap (λ (x : Bool). none and x) (peel t b i h)
+      ∙ sym (and-assoc none (not (eqb (getD t i 0) b)) (free b (drop (i + 1) t)))
+      ∙ ap (λ (x : Bool). x and free b (drop (i + 1) t)) (sym e)
 
-  other : i < length t → (getD t i 0 ≡ b → ⊥) → free b (drop (i + 1) t) ≡ free b t
-  other h e = sym (peel t b i h ∙ after (ap not (ne-eqb _ _ e))) ∙ is
-
-  ends : length t ≤ i → true ≡ free b t
+  ends : length t ≤ i → none ≡ free b t
   unfolding free
-  ends h = rw (drop-of-length-le t h) at is
+  ends h = sym (rw (drop-of-length-le t h) at is ∙ and-true none)
 
 abbrev Inv-loop : tie.InvT-loop
-Inv-loop b t i₀ i = (i ≤ length t) × (free b (drop i t) ≡ free b t)
+Inv-loop b t none₀ i₀ none i = (i ≤ length t) × (free b t ≡ (none and free b (drop i t)))
 
 abbrev μ-loop : tie.MeasureT-loop
-μ-loop b t i₀ i = length t - i
+μ-loop b t none₀ i₀ none i = length t - i
 
 loop-holds : tie.Need-loop-holds Inv-loop μ-loop
+unfolding _and_
 loop-holds c = (search needs, refl)
 
-shared-slice-read-if1 : tie.Need-shared-slice-read-if1 Inv-loop μ-loop
-shared-slice-read-if1 c = search needs
+shared-slice-read-both : tie.Need-shared-slice-read-both Inv-loop μ-loop
+shared-slice-read-both c = search needs
 
-returns : tie.Need-returns Inv-loop μ-loop
-returns c = search (found, needs)
+both-requires : tie.Need-both-requires Inv-loop μ-loop
+both-requires c κs = search needs
 
 add-i : tie.Need-add-i Inv-loop μ-loop
 add-i c = search needs
@@ -52,10 +52,10 @@ loop-less : tie.Need-loop-less Inv-loop μ-loop
 loop-less c = search needs
 
 loop-again : tie.Need-loop-again Inv-loop μ-loop
-loop-again c = search (other, needs)
+loop-again c = search (more, needs)
 
-returns-2 : tie.Need-returns-2 Inv-loop μ-loop
-returns-2 c = search (ends, needs)
+returns : tie.Need-returns Inv-loop μ-loop
+returns c = search (ends, needs)
 
 pub is-free-spec : {M : Type 1} → statement M
 is-free-spec =
@@ -64,9 +64,9 @@ is-free-spec =
     Inv-loop
     μ-loop
     loop-holds
-    shared-slice-read-if1
-    returns
+    shared-slice-read-both
+    both-requires
     add-i
     loop-less
     loop-again
-    returns-2)
+    returns)

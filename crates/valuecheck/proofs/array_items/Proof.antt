@@ -4,17 +4,17 @@ use borrow.Author.Needs.{needs}
 use borrow.Author.Tests.{ltb-false, lt-ltb, le-ltb}
 use lib.Dec.{ltb}
 use lib.ListN.{getD}
-use mathlib.Core.Bool.{false, true}
+use mathlib.Core.Bool.{false}
 use mathlib.Core.List.{List}
 use mathlib.Core.Path.{_≡_, refl, sym, _∙_}
 use native.Mathlib.Omega.{arith}
 use Rattle.meaning.specs.Case.{members}
-use Rattle.meaning.specs.Check.{arrayItem, bodies, mosts}
+use Rattle.meaning.specs.Check.{arrayItem}
 use Rattle.laws.specs.Tests.{Filled, Passing, passing-none, passing-more, passing-no, passing-all, passing-block, passing-out}
 use Rattle.meaning.specs.Tests.{allBelow}
-use Rattle.stringcheck.specs.Mosts.{member-most}
 use Rattle.valuecheck.specs.Blocks.{topOf}
 use Rattle.valuecheck.specs.Laws.{array-top}
+use Rattle.valuecheck.proofs.Parts.{in-tops}
 use Rattle.valuecheck.proofs.array_items.Statement.{statement}
 use Rattle.valuecheck.proofs.array_items.Tie as tie
 
@@ -27,9 +27,6 @@ module _ (s : List ℕ) {tops : List ℕ} (v : ℕ) {first items i f j : ℕ} (p
 
   block-more : getD tops ((f + j) / 512) 0 < v → Passing (arrayItem s v first) items (i + 512)
   block-more d = passing-block p 512 (omega (arith, ltb-false (items - i) 512 w)) (sym top ∙ lt-ltb _ _ d)
-
-in-tops : (s : List ℕ) (items : ℕ) {first i f j : ℕ} → f ≡ first → j ≡ i → bodies s ≡ true → mosts s ≡ true → first + items ≤ members s → ltb (items - i) 512 ≡ false → i < items → (f + j) / 512 < 1024
-in-tops s items {i = i} ef ej b m l w h = omega (arith, ltb-false (items - i) 512 w, member-most s m b)
 
 abbrev Inv-loop : tie.InvT-loop
 Inv-loop s tops v first items i₀ i = Passing (arrayItem s v first) items i

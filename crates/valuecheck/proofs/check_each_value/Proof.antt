@@ -7,16 +7,19 @@ use Rattle.valuecheck.proofs.check_each_value.Statement.{statement}
 use Rattle.valuecheck.proofs.check_each_value.Tie as tie
 
 abbrev Inv-loop : tie.InvT-loop
-Inv-loop s n tops v₀ v = Passing (valueRule s) n v
+Inv-loop s n tops objects v₀ v = Passing (valueRule s) n v
 
 abbrev μ-loop : tie.MeasureT-loop
-μ-loop s n tops v₀ v = n - v
+μ-loop s n tops objects v₀ v = n - v
 
 value-count-requires : tie.Need-value-count-requires Inv-loop μ-loop
 value-count-requires c κs = search needs
 
 block-tops-requires : tie.Need-block-tops-requires Inv-loop μ-loop
 block-tops-requires c κs = search needs
+
+object-tops-requires : tie.Need-object-tops-requires Inv-loop μ-loop
+object-tops-requires c κs = search needs
 
 loop-holds : tie.Need-loop-holds Inv-loop μ-loop
 loop-holds c = search (passing-none, needs)
@@ -47,6 +50,7 @@ check-each-value-spec =
     μ-loop
     value-count-requires
     block-tops-requires
+    object-tops-requires
     loop-holds
     value-rule-requires
     returns

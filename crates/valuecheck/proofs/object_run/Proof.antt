@@ -1,6 +1,6 @@
 -- An object's run lies in its table, and its items pass
 use borrow.Author.Needs.{needs}
-use Rattle.valuecheck.proofs.Parts.{run-past, run-inside}
+use Rattle.valuecheck.proofs.Parts.{run-past, run-inside, run-fits}
 use Rattle.valuecheck.proofs.object_run.Statement.{statement}
 use Rattle.valuecheck.proofs.object_run.Tie as tie
 
@@ -23,7 +23,7 @@ returns : tie.Need-returns
 returns c = search (run-past, needs)
 
 object-items-requires : tie.Need-object-items-requires
-object-items-requires c κs = search needs
+object-items-requires c κs = search (run-fits, needs)
 
 returns-2 : tie.Need-returns-2
 returns-2 c = search (run-inside, needs)

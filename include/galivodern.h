@@ -15,7 +15,10 @@
  *   - an array that a call may write to overlaps no other array of that call;
  *   - the galivodern_checked_ calls get a file for which galivodern_check has
  *     returned 0, unchanged since. The other calls take any bytes;
- *   - 1 MiB of stack is left; a call uses well below that.
+ *   - 640 KiB of stack are left (GALIVODERN_STACK_BYTES). How deep calls go is bounded by the
+ *     limits on a value's depth and a node's height; the deepest cases known stay below
+ *     608 KiB for an export, 464 to write, 384 for a question, 72 for a check and 48 for an
+ *     import, on x86-64 (tests/c/stack.c runs them on threads of these sizes).
  *
  * Link libgalivodern.a: tools/install puts it in place, with a file for
  * pkg-config (`cc main.c $(pkg-config --cflags --libs galivodern)`).
@@ -65,6 +68,9 @@ enum galivodern_refusal {
 
 /* The most bytes that a case may have. */
 #define GALIVODERN_MOST_BYTES 4194304u
+
+/* Bytes of stack that a call is to find left. */
+#define GALIVODERN_STACK_BYTES 655360u
 
 /* Cells of `contents`, of `told`, of `written` and of `imported` that a call needs. */
 #define GALIVODERN_CONTENTS_CELLS 5

@@ -11,6 +11,7 @@ mod reading;
 mod shapes;
 mod speed;
 mod timing;
+mod worst;
 mod writing;
 mod written;
 
@@ -30,6 +31,8 @@ const USAGE: &str = "usage: figures speed                        time a question
        figures once SHAPE TIMES ours|rust   ask one shape so often, to be profiled
        figures dots [K]                     time one lookup in files of shared names, in all or in file K
        figures lookups                      time a name's lookup in records of 4 to 16,384 members
+       figures worst [OF]                   the worst files known: the check, a lookup, a comparison, a term, a row
+                                            pass, a step; all or those of one, or one by its name
        figures lookup MEMBERS first|last|miss TIMES ours|rust   one of them so often, to be profiled";
 
 fn main() -> ExitCode {
@@ -60,6 +63,10 @@ fn main() -> ExitCode {
         ["lookups"] => lookups::print_table(),
         ["dots"] => dots::print_table(None),
         ["dots", file] => number(file).and_then(|file| dots::print_table(Some(file as usize))),
+        ["worst"] => worst::print_table(None),
+        ["worst", wanted] => worst::print_table(Some(wanted)),
+        // what `worst` starts for each file
+        ["worst-one", file, bytes] => number(file).and_then(|k| worst::print_one(k as usize, number(bytes)? as usize)),
         ["lookup", members, name, times, who] => {
             number(members).and_then(|m| lookups::once(m as usize, name, number(times)?, who == "rust"))
         }

@@ -47,6 +47,11 @@ pub fn by_turns<A, B>(mut ours: impl FnMut() -> A, mut theirs: impl FnMut() -> B
     (least, their_least)
 }
 
+/// The time of this one call, in nanoseconds.
+pub fn once<A>(mut call: impl FnMut() -> A) -> f64 {
+    sample(&mut call, 1)
+}
+
 /// The least time of one call, in nanoseconds.
 pub fn by_itself<A>(mut call: impl FnMut() -> A) -> f64 {
     let calls = calls_for_a_sample(&mut call);

@@ -12,16 +12,16 @@ use borrow.Author.Tests.{ltb-true, ltb-false, eqb-true, eqb-false, not-true, not
 use Rattle.meaning.specs.Tests.{choose}
 use Rattle.meaning.specs.Text.{before}
 use Rattle.meaning.specs.Case.{text, strings}
-use Rattle.encode.specs.Join.{insertNew, below, joined}
+use Rattle.encode.specs.Join.{insertNew, joined}
 use Rattle.encode.specs.Unsorted.{texts}
 use Rattle.encode.specs.Laws.Join.{Rising, every-at, before-neither, before-not, insert-rises, place-above, place-inside}
 use Rattle.stringcheck.specs.Tables.{replicate-same}
-use Rattle.joining.specs.Order.{Cut, Place, listed, InOrder, Joins, Put}
+use Rattle.joining.specs.Order.{Cut, listed, InOrder, Joins, Put}
 use Rattle.joining.specs.Fresh.{insertAll}
 use Rattle.joining.specs.Run.{Begun}
 use Rattle.joining.specs.Laws.{listed-long, listed-at, listed-more}
 use Rattle.joining.specs.Insert.{before-after, commute, again, all-below, all-more}
-use Rattle.joining.specs.Guess.{Bounds, Runs, Picks, Capped, Follows, Repeats, Grows, Seen, Takes}
+use Rattle.joining.specs.Guess.{Beyond, picked, Same, IsKept, PutNext, PutsNext, KeptOne, KeepsOne, Sifts, Few, Follows, Repeats, Grows, Seen, Takes}
 use Rattle.joining.specs.declared.Joined.the-variants.{Made}
 use Rattle.joining.specs.declared.Next.{Next}
 use Rattle.joining.specs.declared.Next.the-variants as nexts
@@ -33,51 +33,8 @@ use Rattle.joining.proofs.Runs.{begun-none}
 never : {P : Type 0} → _≡_ {A = Bool} false true → P
 never e = let w : _≡_ {A = ℕ} 0 1 = cc in absurd (omega arith)
 
--- ---- places of two runs that are merged
-
-pub picks-right : {i middle j high : ℕ} → Runs i middle j high → middle ≤ i → Picks i middle j high false
-picks-right u h = record { left = λ e. never e; right = λ e. omega (arith, u .left, u .some) }
-
-pub picks-left : {i middle j high : ℕ} → Runs i middle j high → high ≤ j → Picks i middle j high true
-picks-left u h = record { left = λ e. omega (arith, u .right, u .some); right = λ e. never (sym e) }
-
--- k entries are merged: i is the next of the left run, j that of the right one
-pub record Picking (middle high i j k : ℕ) : Type 0 where
-  pub left : i ≤ middle
-  pub right : j ≤ high
-  pub count : i + j ≡ k + middle
-
-pub picking-none : {low middle high : ℕ} → Bounds low middle high → Picking middle high low middle low
-picking-none b = record { left = b .low-middle; right = b .middle-high; count = refl }
-
-module _ {low middle high i j k : ℕ} (p : Picking middle high i j k) (b : Bounds low middle high) where
-  pub picking-runs : k < high → Runs i middle j high
-  picking-runs a = record {
-    left = p .left;
-    right = p .right;
-    some = omega (arith, p .count);
-    fits = b .middle-high;
-    inside = b .inside;
-  }
-
-  module _ {r : Bool} (q : Picks i middle j high r) where
-    pub left-inside : r ≡ true → i < 16384
-    left-inside e = omega (arith, q .left e, b .middle-high, b .inside)
-
-    pub right-inside : r ≡ false → j < 16384
-    right-inside e = omega (arith, q .right e, b .inside)
-
-    pub picking-left : r ≡ true → Picking middle high (i + 1) j (k + 1)
-    picking-left e = record { left = omega (arith, q .left e); right = p .right; count = omega (arith, p .count) }
-
-    pub picking-right : r ≡ false → Picking middle high i (j + 1) (k + 1)
-    picking-right e = record { left = p .left; right = omega (arith, q .right e); count = omega (arith, p .count) }
-
-pub pass-bounds : {low middle high n width : ℕ} → Capped low width n middle → Capped middle width n high → n ≤ 16384 → Bounds low middle high
-pass-bounds a b h = record { low-middle = a .low; middle-high = b .low; inside = omega (arith, b .high) }
-
-pub pass-less : {low middle high n width : ℕ} → Capped low width n middle → Capped middle width n high → low < n → 0 < width → n - high < n - low
-pass-less a b h w = omega (arith, a .on w h, b .low, b .high)
+pub beyond : {low high many : ℕ} → low < high → high ≤ many → many ≤ 16384 → Beyond low high
+beyond a b c = record { some = a; inside = omega arith }
 
 -- ---- one string behind those in order
 
@@ -194,19 +151,122 @@ with-all f l n (suc k) r h le =
     ∙ ap (insertNew (f k)) (with-all f l n k r h (omega arith))
     ∙ h k (omega arith)
 
--- what was gathered of the first i entries of a table: rising texts of strings, and all that were seen
-pub record Gathering (s first : List ℕ) (many : ℕ) (order : List ℕ) (seen : List Bool) (n i : ℕ) : Type 0 where
+-- ---- those kept
+
+pub same-not : {x y : List ℕ} → Same x y false
+same-not = record { is = λ e. never e }
+
+pub same-as : {x y : List ℕ} {a b : Bool} → a ≡ before x y → a ≡ false → b ≡ before y x → Same x y (not b)
+same-as {x} {y} {a} {b} said away told = record { is = λ e. before-neither x y (sym said ∙ away) (sym told ∙ not-true b e) }
+
+pub kept-not : {s kept : List ℕ} {m k : ℕ} → IsKept s kept m k false
+kept-not = record { is = λ e. never e }
+
+pub kept-as : {s kept x y : List ℕ} {m j k : ℕ} {r : Bool} → j < m → Cut s (getD kept j 0) x → Cut s k y → Same x y r → IsKept s kept m k r
+kept-as {s} {kept} {x} {y} {m} {j} {k} {r} h one other same = record {
+  is = λ e.
+      ap (λ (t : List ℕ). insertNew t (joined (picked s kept) m)) (sym (other .is) ∙ sym (same .is e) ∙ one .is)
+      ∙ joined-there (picked s kept) j m h;
+}
+
+-- what is joined says nothing of what is behind it
+joined-same : (f g : ℕ → List ℕ) (n : ℕ) → ((i : ℕ) → i < n → f i ≡ g i) → joined f n ≡ joined g n
+unfolding joined
+joined-same f g zero h = refl
+joined-same f g (suc n) h = ap (λ (t : List ℕ). insertNew t (joined f n)) (h n (omega arith)) ∙ ap (insertNew (g n)) (joined-same f g n (λ i l. h i (omega arith)))
+
+joined-next : (f : ℕ → List ℕ) (n : ℕ) → joined f (n + 1) ≡ insertNew (f n) (joined f n)
+unfolding joined
+joined-next f n = ap (joined f) (add-one n)
+
+pub keeps-old : {s kept : List ℕ} {m k : ℕ} {r : Bool} → m ≤ length kept → IsKept s kept m k r → r ≡ true → KeepsOne s kept m k kept (nexts.Upto m)
+keeps-old h is e = record { is = (h, sym (is .is e)) }
+
+pub keeps-last : {s kept x y : List ℕ} {m i k : ℕ} {a b : Bool} → m ≤ length kept → (m ≡ 0 → ⊥) → i ≡ getD kept (m - 1) 0 → Cut s i y → Cut s k x → a ≡ before y x → a ≡ false → b ≡ before x y → b ≡ false → KeepsOne s kept m k kept (nexts.Upto m)
+keeps-last {s} {kept} {x} {y} {m} {i} {k} {a} {b} fits some at one other said away told off = record { is = (fits, sym (ap (λ (t : List ℕ). insertNew t (joined (picked s kept) m)) same ∙ joined-there (picked s kept) (m - 1) m (omega (arith, some)))) }
+  where
+    same : text s k ≡ text s (getD kept (m - 1) 0)
+    same = sym (other .is) ∙ before-neither x y (sym told ∙ off) (sym said ∙ away) ∙ one .is ∙ ap (text s) at
+
+pub keeps-not : {s kept : List ℕ} {m k : ℕ} → KeepsOne s kept m k kept nexts.Not
+keeps-not = record { is = refl }
+
+pub puts-not : {kept : List ℕ} {m k : ℕ} → PutsNext kept m k kept nexts.Not
+puts-not = record { is = refl }
+
+pub puts-more : {kept : List ℕ} {m k : ℕ} → m < length kept → PutsNext kept m k (set kept m k) (nexts.Upto (m + 1))
+puts-more h = record { is = (refl, (h, refl)) }
+
+-- one more behind those kept
+next-joined : (s kept : List ℕ) (m k : ℕ) → m < length kept → joined (picked s (set kept m k)) (m + 1) ≡ insertNew (text s k) (joined (picked s kept) m)
+next-joined s kept m k h =
+    joined-next (picked s (set kept m k)) m
+    ∙ ap (λ (i : ℕ). insertNew (text s i) (joined (picked s (set kept m k)) m)) (getD-set-same kept m k 0 h)
+    ∙ ap (insertNew (text s k)) (joined-same (picked s (set kept m k)) (picked s kept) m (λ i l. ap (text s) (getD-set-other kept m i k 0 (λ d. absurd (omega arith)))))
+
+kept-new : (s old kept : List ℕ) (m k : ℕ) (r : Next) → PutNext old m k kept r → KeptOne s old m k kept r
+kept-new s old kept m k (nexts.Upto n) p = rw (p .1 .1, p .0) (omega (arith, length-set old m k, p .1 .0), next-joined s old m k (p .1 .0))
+kept-new s old kept m k nexts.Not p = p
+
+pub keeps-new : {s old kept : List ℕ} {m k : ℕ} {r : Next} → PutsNext old m k kept r → KeepsOne s old m k kept r
+keeps-new {s} {old} {kept} {m} {k} {r} p = record { is = kept-new s old kept m k r (p .is) }
+
+-- the texts of the first k, on the way
+pub record Sifting (s first kept : List ℕ) (all m k : ℕ) : Type 0 where
+  pub sifts : Sifts s kept all m k
+  pub long : length kept ≡ length first
+
+pub sifting-none : {s kept : List ℕ} {all : ℕ} → Sifting s kept kept all 0 0
+unfolding joined
+sifting-none = record { sifts = record { is = refl; fits = omega arith; upto = omega arith }; long = refl }
+
+pub sifting-from : {s kept : List ℕ} {all m k : ℕ} → Sifts s kept all m k → Sifting s kept kept all m k
+sifting-from a = record { sifts = a; long = refl }
+
+module _ {s first old : List ℕ} {all m k : ℕ} (g : Sifting s first old all m k) where
+  pub sifting-fits : m ≤ length old
+  sifting-fits = g .sifts .fits
+
+  pub sifting-more : {kept : List ℕ} {n : ℕ} {r : Next} → k < all → KeepsOne s old m k kept r → r ≡ nexts.Upto n → length kept ≡ length old → Sifting s first kept all n (k + 1)
+  sifting-more {kept} {n} {r} h one e l = record {
+    sifts = record {
+      is = kept-is .1 ∙ ap (insertNew (text s k)) (g .sifts .is) ∙ sym (joined-next (text s) k);
+      fits = kept-is .0;
+      upto = omega arith;
+    };
+    long = l ∙ g .long;
+  }
+    where
+      kept-is : (n ≤ length kept) × (joined (picked s kept) n ≡ insertNew (text s k) (joined (picked s old) m))
+      kept-is = (rw e at one) .is
+
+  pub sifting-not : {kept : List ℕ} {r : Next} → KeepsOne s old m k kept r → r ≡ nexts.Not → Sifts s kept all m k
+  sifting-not {kept} {r} one e = subst (λ (t : List ℕ). Sifts s t all m k) (sym ((rw e at one) .is)) (g .sifts)
+
+pub few-all : {s kept order : List ℕ} {all m k : ℕ} → Sifts s kept all m k → all ≡ strings s → all ≤ k → m ≤ length order → m ≤ 16384 → Few s kept m order
+unfolding texts
+few-all {s} {kept} {order} {all} {m} {k} a e upto room few = record {
+  all = a .is ∙ ap (joined (text s)) (omega (arith, a .upto, upto, e));
+  fits = a .fits;
+  few = few;
+  room = room;
+}
+
+-- ---- the check
+
+-- what was gathered of the first i entries of a table: rising texts of those kept, and all that were seen
+pub record Gathering (s kept first : List ℕ) (many : ℕ) (order : List ℕ) (seen : List Bool) (n i : ℕ) : Type 0 where
   pub low : i ≤ many
   pub few : n ≤ i
   pub long : length order ≡ length first
   pub wide : length seen ≡ 16384
   pub sorted : InOrder s order n
-  pub own : insertAll (listed s order n) (joined (text s) (strings s)) ≡ joined (text s) (strings s)
-  pub has : (k : ℕ) → getD seen k false ≡ true → insertNew (text s k) (listed s order n) ≡ listed s order n
+  pub own : insertAll (listed s order n) (joined (picked s kept) many) ≡ joined (picked s kept) many
+  pub has : (j : ℕ) → getD seen j false ≡ true → insertNew (picked s kept j) (listed s order n) ≡ listed s order n
 
-pub gathering-none : {s order : List ℕ} {many : ℕ} → Gathering s order many order (replicate 16384 false) 0 0
+pub gathering-none : {s kept order : List ℕ} {many : ℕ} → Gathering s kept order many order (replicate 16384 false) 0 0
 unfolding listed insertAll
-gathering-none {s} {order} {many} = record {
+gathering-none {s} {kept} {order} {many} = record {
   low = omega arith;
   few = omega arith;
   long = refl;
@@ -216,49 +276,51 @@ gathering-none {s} {order} {many} = record {
   has = λ k e. never (sym (replicate-same 16384 k false) ∙ e);
 }
 
-module _ {s first order : List ℕ} {seen : List Bool} {many n i : ℕ} (g : Gathering s first many order seen n i) where
-  pub gathering-room : i < many → many ≤ length first → n < length order
-  gathering-room h l = omega (arith, g .few, g .long)
+module _ {s kept first order : List ℕ} {seen : List Bool} {many n i : ℕ} (g : Gathering s kept first many order seen n i) where
+  pub gathering-sorted : InOrder s order n
+  gathering-sorted = g .sorted
 
-  pub gathering-more : {new : List ℕ} {r : Next} {k m at : ℕ} → i < many → many ≡ strings s → k < many → Grows s order n k new r → r ≡ nexts.Upto m → at ≡ k → length new ≡ length order → many ≤ 16384 → Gathering s first many new (set seen at true) m (i + 1)
-  gathering-more {new} {r} {k} {m} {at} h all lt grows e z l few = record {
+  pub gathering-room : i < many → Few s kept many first → n < length order
+  gathering-room h f = omega (arith, g .few, g .long, f .room)
+
+  pub gathering-more : {new : List ℕ} {r : Next} {m at : ℕ} → i < many → at < many → Grows s order n (getD kept at 0) new r → r ≡ nexts.Upto m → length new ≡ length order → Gathering s kept first many new (set seen at true) m (i + 1)
+  gathering-more {new} {r} {m} {at} h lt grows e l = record {
     low = omega arith;
     few = omega (arith, grown .0, g .few);
     long = l ∙ g .long;
     wide = length-set seen at true ∙ g .wide;
     sorted = grown .1 .0;
     own =
-        ap (λ (t : List (List ℕ)). insertAll t (joined (text s) (strings s))) (grown .1 .1)
-        ∙ all-more (text s k) (listed s order n) (joined (text s) (strings s))
-        ∙ ap (insertNew (text s k)) (g .own)
-        ∙ joined-there (text s) k (strings s) (omega arith);
-    has = λ j q. go j q (eqb j k) refl;
+        ap (λ (t : List (List ℕ)). insertAll t (joined (picked s kept) many)) (grown .1 .1)
+        ∙ all-more (picked s kept at) (listed s order n) (joined (picked s kept) many)
+        ∙ ap (insertNew (picked s kept at)) (g .own)
+        ∙ joined-there (picked s kept) at many lt;
+    has = λ j q. go j q (eqb j at) refl;
   }
     where
-      grown : (m ≤ n + 1) × (InOrder s new m × (listed s new m ≡ insertNew (text s k) (listed s order n)))
+      grown : (m ≤ n + 1) × (InOrder s new m × (listed s new m ≡ insertNew (picked s kept at) (listed s order n)))
       grown = (rw e at grows) .is
 
-      go : (j : ℕ) → getD (set seen at true) j false ≡ true → (b : Bool) → eqb j k ≡ b → insertNew (text s j) (listed s new m) ≡ listed s new m
+      go : (j : ℕ) → getD (set seen at true) j false ≡ true → (b : Bool) → eqb j at ≡ b → insertNew (picked s kept j) (listed s new m) ≡ listed s new m
       go j q true t =
-          let w : j ≡ k = eqb-true j k t in
-          ap (insertNew (text s j)) (grown .1 .1)
-          ∙ ap (λ (i : ℕ). insertNew (text s i) (insertNew (text s k) (listed s order n))) w
-          ∙ again (text s k) (listed s order n)
+          let w : j ≡ at = eqb-true j at t in
+          ap (insertNew (picked s kept j)) (grown .1 .1)
+          ∙ ap (λ (i : ℕ). insertNew (picked s kept i) (insertNew (picked s kept at) (listed s order n))) w
+          ∙ again (picked s kept at) (listed s order n)
           ∙ sym (grown .1 .1)
       go j q false t =
-          let apart : j ≡ k → ⊥ = eqb-false j k t in
+          let apart : j ≡ at → ⊥ = eqb-false j at t in
           let old : getD seen j false ≡ true = sym (getD-set-other seen at j true false (λ d. absurd (omega (arith, apart)))) ∙ q in
-          ap (insertNew (text s j)) (grown .1 .1)
-          ∙ commute (text s j) (text s k) (listed s order n)
-          ∙ ap (insertNew (text s k)) (g .has j old)
+          ap (insertNew (picked s kept j)) (grown .1 .1)
+          ∙ commute (picked s kept j) (picked s kept at) (listed s order n)
+          ∙ ap (insertNew (picked s kept at)) (g .has j old)
           ∙ sym (grown .1 .1)
 
-  pub gathering-all : {r : Bool} {w : ℕ} → many ≡ strings s → Seen seen w r → w ≡ many → r ≡ true → Takes s order (takes.All n)
-  unfolding texts
-  gathering-all {r} {w} all seen-is z e = record {
+  pub gathering-all : {r : Bool} → Few s kept many first → Seen seen many r → r ≡ true → Takes s order (takes.All n)
+  gathering-all {r} f seen-is e = record {
     is = (
       g .sorted .fits,
-      sym (with-all (text s) (listed s order n) (strings s) (strings s) (g .sorted .rises) (λ k h. g .has k (seen-is .is e k (omega arith))) (omega arith)) ∙ g .own,
+      sym (with-all (picked s kept) (listed s order n) many many (g .sorted .rises) (λ j h. g .has j (seen-is .is e j (omega arith))) (omega arith)) ∙ g .own ∙ f .all,
     );
   }
 

@@ -1,11 +1,11 @@
--- A guessed order: what its making needs of places, and what is checked of it
+-- A guessed order: the strings it is of, and what is checked of it
 use mathlib.Core.Path.{_≡_}
 use mathlib.Core.Bool.{Bool, true, false}
 use mathlib.Core.List.{List}
 use Prim.Native.Nat.{ℕ, _+_, _<_, _≤_}
-use lib.ListN.{length, getD}
-use Rattle.meaning.specs.Case.{text, strings}
-use Rattle.encode.specs.Join.{insertNew}
+use lib.ListN.{length, getD, set}
+use Rattle.meaning.specs.Case.{text}
+use Rattle.encode.specs.Join.{insertNew, joined}
 use Rattle.encode.specs.Unsorted.{texts}
 use Rattle.joining.specs.Order.{Place, listed, InOrder}
 use Rattle.joining.specs.Run.{Begun}
@@ -14,37 +14,52 @@ use Rattle.joining.specs.declared.Next.the-variants as nexts
 use Rattle.joining.specs.declared.Taken.{Taken}
 use Rattle.joining.specs.declared.Taken.the-variants as takes
 
--- two runs next to each other
-pub record Bounds (low middle high : ℕ) : Type 0 where
-  pub low-middle : low ≤ middle
-  pub middle-high : middle ≤ high
+-- a part of a table that is not empty
+pub record Beyond (low high : ℕ) : Type 0 where
+  pub some : low < high
   pub inside : high ≤ 16384
 
--- what is left of two runs, up to middle and up to high: at least one entry
-pub record Runs (i middle j high : ℕ) : Type 0 where
-  pub left : i ≤ middle
-  pub right : j ≤ high
-  pub some : i + j < middle + high
-  pub fits : middle ≤ high
-  pub inside : high ≤ 16384
+-- ---- the texts of those kept
 
--- the run picked is not at its end
-pub record Picks (i middle j high : ℕ) (r : Bool) : Type 0 where
-  pub left : r ≡ true → i < middle
-  pub right : r ≡ false → j < high
+abbrev pub picked : List ℕ → List ℕ → ℕ → List ℕ
+picked s kept = λ (j : ℕ). text s (getD kept j 0)
 
--- up to n, and further on where that is not reached
-pub record Capped (from by n r : ℕ) : Type 0 where
-  pub low : from ≤ r
-  pub high : r ≤ n
-  pub on : 0 < by → from < n → from < r
+-- where they are told to be the same, they are
+pub record Same (x y : List ℕ) (r : Bool) : Type 0 where
+  pub is : r ≡ true → x ≡ y
+
+-- where string k is told to be kept, its text is among them
+pub record IsKept (s kept : List ℕ) (m k : ℕ) (r : Bool) : Type 0 where
+  pub is : r ≡ true → insertNew (text s k) (joined (picked s kept) m) ≡ joined (picked s kept) m
+
+-- k stands behind those kept; or there is no room
+abbrev pub PutNext : List ℕ → ℕ → ℕ → List ℕ → Next → Type 0
+PutNext old m k kept (nexts.Upto r) = (r ≡ m + 1) × ((m < length old) × (kept ≡ set old m k))
+PutNext old m k kept nexts.Not = kept ≡ old
+
+pub record PutsNext (old : List ℕ) (m k : ℕ) (kept : List ℕ) (r : Next) : Type 0 where
+  pub is : PutNext old m k kept r
+
+-- string k is among those kept now; or there is no room
+abbrev pub KeptOne : List ℕ → List ℕ → ℕ → ℕ → List ℕ → Next → Type 0
+KeptOne s old m k kept (nexts.Upto r) = (r ≤ length kept) × (joined (picked s kept) r ≡ insertNew (text s k) (joined (picked s old) m))
+KeptOne s old m k kept nexts.Not = kept ≡ old
+
+pub record KeepsOne (s old : List ℕ) (m k : ℕ) (kept : List ℕ) (r : Next) : Type 0 where
+  pub is : KeptOne s old m k kept r
+
+-- the first m kept have the texts of the first k strings
+pub record Sifts (s kept : List ℕ) (all m k : ℕ) : Type 0 where
+  pub is : joined (picked s kept) m ≡ joined (text s) k
+  pub fits : m ≤ length kept
+  pub upto : k ≤ all
 
 -- ---- the check
 
--- all strings, and few enough for the tables
-pub record Few (s : List ℕ) (many : ℕ) (order : List ℕ) : Type 0 where
-  pub all : many ≡ strings s
-  pub some : 0 < many
+-- those kept have all texts, and are few enough for the tables
+pub record Few (s kept : List ℕ) (many : ℕ) (order : List ℕ) : Type 0 where
+  pub all : joined (picked s kept) many ≡ texts s
+  pub fits : many ≤ length kept
   pub few : many ≤ 16384
   pub room : many ≤ length order
 

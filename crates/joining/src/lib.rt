@@ -1,10 +1,13 @@
 // Strings sorted by their bytes, equal ones joined, and the new number of each.
 mod guess;
+mod sift;
 
 use guess::guess;
-use guess::is_worth;
-use guess::number_in;
+use guess::place_in;
 use meaning::StrNo;
+use sift::is_often;
+use sift::likely;
+use sift::tell_all;
 use stringcheck::is_before;
 use stringcheck::string_count;
 use tables::offset_of;
@@ -14,7 +17,7 @@ use tables::wide;
 ghost use mathlib.Core.Path.{_≡_};
 ghost use mathlib.Core.Bool.{Bool, true};
 ghost use Prim.Native.Nat.{_+_, _-_, _<_, _≤_};
-ghost use lib.ListN.{length};
+ghost use lib.ListN.{length, getD};
 ghost use Rattle.meaning.specs.Tests.{choose};
 ghost use Rattle.meaning.specs.Case.{text, strings};
 ghost use Rattle.meaning.specs.Check.{bodies};
@@ -23,7 +26,7 @@ ghost use Rattle.encode.specs.Unsorted.{number, texts};
 ghost use Rattle.joining.specs.Order.{Least, Cut, Place, Stands, listed, InOrder, Joins, Sorted, Moved, Put};
 ghost use Rattle.joining.specs.Fresh.{Fresh, together, Floor, Roof, Beside, Keeps, Reaches, Ready, Merged, Upto};
 ghost use Rattle.joining.specs.Run.{onward, Run, Counted, Begun};
-ghost use Rattle.joining.specs.Guess.{Few, Follows, Repeats, Grows, Seen, Takes};
+ghost use Rattle.joining.specs.Guess.{Few, Follows, Repeats, Grows, Seen, Takes, Same, IsKept, PutsNext, KeepsOne, Sifts};
 
 fn least(a: usize, b: usize) -> usize
     ensures { λ r. ⌜ Least a b r ⌝ }
@@ -390,44 +393,259 @@ pub enum Taken {
     First(u32),
 }
 
-// the strings as the table has them, as long as they rise: nothing, where one is missing
-fn gather(s: &[u8], table: &[u64; 16384], many: u32, order: &mut [u32]) -> Taken
+// ---- texts that are the same, kept once where that is told
+
+fn is_same(x: &[u8], y: &[u8]) -> bool
+    ensures { λ r. ⌜ Same (now (x .entry)) (now (y .entry)) r ⌝ }
+{
+    if is_before(x, y) {
+        return false;
+    }
+    !is_before(y, x)
+}
+
+// has string k the text of the j-th of the first m kept?
+fn is_kept(s: &[u8], kept: &[u32], m: usize, j: usize, k: u32) -> bool
     requires { ⌜ bodies (now s) ≡ true ⌝ }
-    requires { ⌜ Few (now s) many (now order) ⌝ }
+    requires { ⌜ m ≤ length (now kept) ⌝ }
+    ensures { λ r. ⌜ IsKept (now (s .entry)) (now (kept .entry)) m k r ⌝ }
+{
+    if m <= j {
+        return false;
+    }
+    let i = kept[j];
+    is_same(text_in(s, StrNo(i)), text_in(s, StrNo(k)))
+}
+
+// k is kept, where there is room
+fn put_next(kept: &mut [u32], m: usize, k: u32) -> Next
+    requires { ⌜ m ≤ length (now kept) ⌝ }
+    ensures { λ r. ⌜ PutsNext (now (kept .entry)) m k (now (kept .exit)) r ⌝ }
+{
+    if kept.len() <= m {
+        return Next::Not;
+    }
+    kept[m] = k;
+    let more = m + 1;
+    Next::Upto(more)
+}
+
+// string k is kept, unless it has the text of the j-th
+fn keep_one(s: &[u8], kept: &mut [u32], m: usize, j: usize, k: u32) -> Next
+    requires { ⌜ bodies (now s) ≡ true ⌝ }
+    requires { ⌜ m ≤ length (now kept) ⌝ }
+    ensures { λ r. ⌜ KeepsOne (now (s .entry)) (now (kept .entry)) m k (now (kept .exit)) r ⌝ }
+{
+    if is_kept(s, kept, m, j, k) {
+        return Next::Upto(m);
+    }
+    put_next(kept, m, k)
+}
+
+fn last_of(kept: &[u32], m: usize) -> u32
+    requires { ⌜ 0 < m ⌝ }
+    requires { ⌜ m ≤ length (now kept) ⌝ }
+    ensures { λ r. ⌜ r ≡ getD (now (kept .entry)) (m - 1) 0 ⌝ }
+{
+    kept[m - 1]
+}
+
+// string k is kept where it is behind them, and need not be where it is the last
+fn keep_next(s: &[u8], kept: &mut [u32], m: usize, k: u32) -> Next
+    requires { ⌜ bodies (now s) ≡ true ⌝ }
+    requires { ⌜ m ≤ length (now kept) ⌝ }
+    ensures { λ r. ⌜ KeepsOne (now (s .entry)) (now (kept .entry)) m k (now (kept .exit)) r ⌝ }
+{
+    if m == 0 {
+        return put_next(kept, m, k);
+    }
+    let i = last_of(kept, m);
+    let last = text_in(s, StrNo(i));
+    let x = text_in(s, StrNo(k));
+    if is_before(last, x) {
+        return put_next(kept, m, k);
+    }
+    if is_before(x, last) {
+        return Next::Not;
+    }
+    Next::Upto(m)
+}
+
+// the first `upto` strings have the texts of `many` of them, which are kept, and rise
+pub struct Sifted {
+    upto: u32,
+    many: usize,
+    rises: bool,
+}
+
+// the strings at the front that rise, or are the same
+fn keep_rising(s: &[u8], all: u32, kept: &mut [u32]) -> Sifted
+    requires { ⌜ bodies (now s) ≡ true ⌝ }
+    ensures { λ r. ⌜ Sifts (now (s .entry)) (now (kept .exit)) all (r .many) (r .upto) ⌝ }
+{
+    let mut m = 0;
+    let mut k = 0;
+    while k < all {
+        let next = keep_next(s, kept, m, k);
+        let Next::Upto(more) = next else {
+            return Sifted {
+                upto: k,
+                many: m,
+                rises: true,
+            };
+        };
+        m = more;
+        k += 1;
+    }
+    Sifted {
+        upto: k,
+        many: m,
+        rises: true,
+    }
+}
+
+// and the others, where texts may be told by a table of those kept
+fn keep_others(
+    s: &[u8],
+    all: u32,
+    told: bool,
+    kept: &mut [u32],
+    table: &mut [u64; 16384],
+    upto: u32,
+    many: usize,
+) -> Sifted
+    requires { ⌜ bodies (now s) ≡ true ⌝ }
+    requires { ⌜ Sifts (now s) (now kept) all many upto ⌝ }
+    ensures { λ r. ⌜ Sifts (now (s .entry)) (now (kept .exit)) all (r .many) (r .upto) ⌝ }
+{
+    let mut m = many;
+    let mut k = upto;
+    while k < all {
+        let next = keep_one(s, kept, m, likely(s, table, told, k, m), k);
+        let Next::Upto(more) = next else {
+            return Sifted {
+                upto: k,
+                many: m,
+                rises: false,
+            };
+        };
+        m = more;
+        k += 1;
+    }
+    Sifted {
+        upto: k,
+        many: m,
+        rises: m == many,
+    }
+}
+
+// all of them, as far as there is room
+fn keep_all(s: &[u8], all: u32, kept: &mut [u32], table: &mut [u64; 16384]) -> Sifted
+    requires { ⌜ bodies (now s) ≡ true ⌝ }
+    ensures { λ r. ⌜ Sifts (now (s .entry)) (now (kept .exit)) all (r .many) (r .upto) ⌝ }
+{
+    let first = keep_rising(s, all, kept);
+    let upto = first.upto;
+    let many = first.many;
+    let told = is_often(s, all, upto);
+    tell_all(s, table, told, kept, many);
+    keep_others(s, all, told, kept, table, upto, many)
+}
+
+// ---- a guess, checked: all of those kept
+
+// as the table has them, as long as they rise: nothing, where one is missing
+fn gather(s: &[u8], kept: &[u32], table: &[u64; 16384], many: usize, order: &mut [u32]) -> Taken
+    requires { ⌜ bodies (now s) ≡ true ⌝ }
+    requires { ⌜ Few (now s) (now kept) many (now order) ⌝ }
     ensures { λ r. ⌜ Takes (now (s .entry)) (now (order .exit)) r ⌝ }
 {
     let mut seen = [false; 16384];
     let mut n = 0;
     let mut i = 0;
-    while i < wide(many) {
-        let k = number_in(table[i]);
-        if many <= k {
+    while i < many {
+        let at = place_in(table[i]);
+        if many <= at {
             return Taken::First(0);
         }
+        let k = kept[at];
         let next = take_one(s, order, n, k);
         let Next::Upto(more) = next else {
             return Taken::First(0);
         };
         n = more;
-        let at = wide(k);
         seen[at] = true;
         i += 1;
     }
-    if all_seen(&seen, wide(many)) {
+    if all_seen(&seen, many) {
         return Taken::All(n);
     }
     Taken::First(0)
 }
 
-// by a guess
-fn take_guessed(s: &[u8], many: u32, order: &mut [u32]) -> Taken
+// where these are all texts, and fit
+fn take_kept(
+    s: &[u8],
+    all: u32,
+    kept: &[u32],
+    table: &[u64; 16384],
+    upto: u32,
+    many: usize,
+    order: &mut [u32],
+) -> Taken
     requires { ⌜ bodies (now s) ≡ true ⌝ }
-    requires { ⌜ Few (now s) many (now order) ⌝ }
+    requires { ⌜ all ≡ strings (now s) ⌝ }
+    requires { ⌜ Sifts (now s) (now kept) all many upto ⌝ }
     ensures { λ r. ⌜ Takes (now (s .entry)) (now (order .exit)) r ⌝ }
 {
+    if upto < all {
+        return Taken::First(0);
+    }
+    if order.len() < many {
+        return Taken::First(0);
+    }
+    if 16384 < many {
+        return Taken::First(0);
+    }
+    gather(s, kept, table, many, order)
+}
+
+// by a guess
+fn take_guessed(s: &[u8], all: u32, order: &mut [u32]) -> Taken
+    requires { ⌜ bodies (now s) ≡ true ⌝ }
+    requires { ⌜ all ≡ strings (now s) ⌝ }
+    ensures { λ r. ⌜ Takes (now (s .entry)) (now (order .exit)) r ⌝ }
+{
+    let mut kept = [0u32; 16384];
     let mut table = [0u64; 16384];
-    guess(s, many, &mut table);
-    gather(s, &table, many, order)
+    let sifted = keep_all(s, all, &mut kept, &mut table);
+    let many = sifted.many;
+    let upto = sifted.upto;
+    guess(s, &kept, !sifted.rises, many, &mut table);
+    take_kept(s, all, &kept, &table, upto, many, order)
+}
+
+// do some of many strings rise and others fall? then no run is looked for
+fn turns(s: &[u8], all: u32) -> bool
+    requires { ⌜ bodies (now s) ≡ true ⌝ }
+{
+    if all < 512 {
+        return false;
+    }
+    let step = all / 16;
+    let down = goes_on(s, 0, true);
+    let mut k = 0;
+    while k < all {
+        if !goes_on(s, k, down) {
+            return true;
+        }
+        let rest = all - k;
+        if rest <= step {
+            return false;
+        }
+        k += step;
+    }
+    false
 }
 
 // those at the front that rise or fall; or all by a guess, where that is worth it
@@ -435,21 +653,18 @@ fn take_first(s: &[u8], order: &mut [u32]) -> Taken
     requires { ⌜ bodies (now s) ≡ true ⌝ }
     ensures { λ r. ⌜ Takes (now (s .entry)) (now (order .exit)) r ⌝ }
 {
-    let many = string_count(s);
+    let all = string_count(s);
+    if turns(s, all) {
+        return take_guessed(s, all, order);
+    }
     let k = first_run(s, order);
-    if many <= k {
+    if all <= k {
         return Taken::First(k);
     }
-    if 16384 < many {
+    if all < 512 {
         return Taken::First(k);
     }
-    if order.len() < wide(many) {
-        return Taken::First(k);
-    }
-    if !is_worth(s, many, k) {
-        return Taken::First(k);
-    }
-    take_guessed(s, many, order)
+    take_guessed(s, all, order)
 }
 
 // ---- all strings

@@ -1,34 +1,29 @@
-use native.Mathlib.Omega.{arith}
-use Rattle.joining.proofs.Guessing.{Gathering, gathering-none, gathering-room, gathering-more, gathering-all, takes-none}
+use Rattle.joining.proofs.Guessing.{Gathering, gathering-all, gathering-more, gathering-none, gathering-room, gathering-sorted, takes-none}
 use Prim.Native.Nat.{_-_}
 use borrow.Author.Needs.{needs}
 use Rattle.joining.proofs.gather.Statement.{statement}
 use Rattle.joining.proofs.gather.Tie as tie
 use Rattle.joining.proofs.all_seen.Reads as all-seen-reads
-use Rattle.joining.proofs.guess.number_in.Reads as number-in-reads
+use Rattle.joining.proofs.guess.place_in.Reads as place-in-reads
 use Rattle.joining.proofs.take_one.Reads as take-one-reads
-use Rattle.tables.proofs.wide.Reads as wide-reads
 
 abbrev Inv-loop : tie.InvT-loop
-Inv-loop s table many order₀ seen₀ n₀ i₀ order seen n i = Gathering s order₀ many order seen n i
+Inv-loop s kept table many order₀ seen₀ n₀ i₀ order seen n i = Gathering s kept order₀ many order seen n i
 
 abbrev μ-loop : tie.MeasureT-loop
-μ-loop s table many order₀ seen₀ n₀ i₀ order seen n i = many - i
+μ-loop s kept table many order₀ seen₀ n₀ i₀ order seen n i = many - i
 
 loop-holds : tie.Need-loop-holds Inv-loop μ-loop
 loop-holds c = search (gathering-none, needs)
 
-wide-requires : tie.Need-wide-requires Inv-loop μ-loop
-wide-requires c κs = search needs
+mul-place-in : tie.Need-mul-place-in Inv-loop μ-loop
+mul-place-in c = search needs
 
-mul-number-in : tie.Need-mul-number-in Inv-loop μ-loop
-mul-number-in c = search needs
+element-copy-out-place-in : tie.Need-element-copy-out-place-in Inv-loop μ-loop
+element-copy-out-place-in c = search needs
 
-element-copy-out-number-in : tie.Need-element-copy-out-number-in Inv-loop μ-loop
-element-copy-out-number-in c = search needs
-
-number-in-requires : tie.Need-number-in-requires Inv-loop μ-loop
-number-in-requires c κs = search needs
+place-in-requires : tie.Need-place-in-requires Inv-loop μ-loop
+place-in-requires c κs = search needs
 
 same-length : tie.Need-same-length Inv-loop μ-loop
 same-length c = search needs
@@ -36,8 +31,14 @@ same-length c = search needs
 returns : tie.Need-returns Inv-loop μ-loop
 returns c = search (takes-none, needs)
 
+mul-k : tie.Need-mul-k Inv-loop μ-loop
+mul-k c = search needs
+
+shared-slice-read-k : tie.Need-shared-slice-read-k Inv-loop μ-loop
+shared-slice-read-k c = search needs
+
 take-one-requires : tie.Need-take-one-requires Inv-loop μ-loop
-take-one-requires c κs = (search needs, (c .before .before .before .before .before .before .loop .inv .sorted, gathering-room (c .before .before .before .before .before .before .loop .inv) (omega (arith, c .before .before .before .before .if1 .taken, c .before .before .before .before .before .wide .ensures)) (search needs)))
+take-one-requires c κs = (search needs, (search (gathering-sorted, needs), search (gathering-room, needs)))
 
 enum-known-next : tie.Need-enum-known-next Inv-loop μ-loop
 enum-known-next c = search needs
@@ -51,9 +52,6 @@ same-length-2 c = search needs
 returns-2 : tie.Need-returns-2 Inv-loop μ-loop
 returns-2 c = search (takes-none, needs)
 
-wide-requires-2 : tie.Need-wide-requires-2 Inv-loop μ-loop
-wide-requires-2 c κs = search needs
-
 array-write-seen : tie.Need-array-write-seen Inv-loop μ-loop
 array-write-seen c = search needs
 
@@ -64,10 +62,7 @@ loop-less : tie.Need-loop-less Inv-loop μ-loop
 loop-less c = search needs
 
 loop-again : tie.Need-loop-again Inv-loop μ-loop
-loop-again c = gathering-more (c .before .before .before .before .before .before .before .before .before .before .before .before .before .loop .inv) (omega (arith, c .before .before .before .before .before .before .before .before .before .before .before .if1 .taken, c .before .before .before .before .before .before .before .before .before .before .before .before .wide .ensures)) (search needs) (c .before .before .before .before .before .before .before .before .if2 .left) (c .before .before .before .before .before .before .take-one .ensures) (c .before .before .next .given .1) (c .wide2 .ensures) (search needs) (search needs)
-
-wide-requires-3 : tie.Need-wide-requires-3 Inv-loop μ-loop
-wide-requires-3 c κs = search needs
+loop-again c = search (gathering-more, needs)
 
 all-seen-requires : tie.Need-all-seen-requires Inv-loop μ-loop
 all-seen-requires c κs = search needs
@@ -91,23 +86,22 @@ gather-spec =
     Inv-loop
     μ-loop
     loop-holds
-    wide-requires
-    mul-number-in
-    element-copy-out-number-in
-    number-in-requires
+    mul-place-in
+    element-copy-out-place-in
+    place-in-requires
     same-length
     returns
+    mul-k
+    shared-slice-read-k
     take-one-requires
     enum-known-next
     enum-told
     same-length-2
     returns-2
-    wide-requires-2
     array-write-seen
     add-i
     loop-less
     loop-again
-    wide-requires-3
     all-seen-requires
     same-length-3
     returns-3

@@ -1,44 +1,36 @@
-use Prim.Native.Nat.{_-_, _<_}
+use Prim.Native.Nat.{_≤_}
 use borrow.Author.Needs.{needs}
 use Rattle.joining.proofs.guess.guess.Statement.{statement}
 use Rattle.joining.proofs.guess.guess.Tie as tie
-use Rattle.joining.proofs.guess.merge_pass.Reads as merge-pass-reads
-use Rattle.joining.proofs.guess.put_entries.Reads as put-entries-reads
-use Rattle.joining.proofs.guess.start_of.Reads as start-of-reads
-use Rattle.tables.proofs.wide.Reads as wide-reads
+use Rattle.joining.proofs.guess.put_all.Reads as put-all-reads
+use Rattle.joining.proofs.guess.sort_groups.Reads as sort-groups-reads
 
 abbrev Inv-loop : tie.InvT-loop
-Inv-loop s n table₀ other₀ many width₀ table other width = 0 < width
+Inv-loop s kept sorts many table₀ other₀ left₀ table other left = left ≤ 24
 
 abbrev μ-loop : tie.MeasureT-loop
-μ-loop s n table₀ other₀ many width₀ table other width = many - width
+μ-loop s kept sorts many table₀ other₀ left₀ table other left = left
 
-sub-start-of : tie.Need-sub-start-of Inv-loop μ-loop
-sub-start-of c = search needs
+put-all-requires : tie.Need-put-all-requires Inv-loop μ-loop
+put-all-requires c κs = search needs
 
-start-of-requires : tie.Need-start-of-requires Inv-loop μ-loop
-start-of-requires c κs = search needs
+returns : tie.Need-returns Inv-loop μ-loop
+returns c = search needs
 
-put-entries-requires : tie.Need-put-entries-requires Inv-loop μ-loop
-put-entries-requires c κs = search needs
-
-wide-requires : tie.Need-wide-requires Inv-loop μ-loop
-wide-requires c κs = search needs
+returns-2 : tie.Need-returns-2 Inv-loop μ-loop
+returns-2 c = search needs
 
 loop-holds : tie.Need-loop-holds Inv-loop μ-loop
 loop-holds c = search needs
 
-merge-pass-requires : tie.Need-merge-pass-requires Inv-loop μ-loop
-merge-pass-requires c κs = search needs
+sort-groups-requires : tie.Need-sort-groups-requires Inv-loop μ-loop
+sort-groups-requires c κs = search needs
 
-mul-merge-pass : tie.Need-mul-merge-pass Inv-loop μ-loop
-mul-merge-pass c = search needs
+returns-3 : tie.Need-returns-3 Inv-loop μ-loop
+returns-3 c = search needs
 
-merge-pass-requires-2 : tie.Need-merge-pass-requires-2 Inv-loop μ-loop
-merge-pass-requires-2 c κs = search needs
-
-mul-width : tie.Need-mul-width Inv-loop μ-loop
-mul-width c = search needs
+sub-left : tie.Need-sub-left Inv-loop μ-loop
+sub-left c = search needs
 
 loop-less : tie.Need-loop-less Inv-loop μ-loop
 loop-less c = search needs
@@ -46,8 +38,8 @@ loop-less c = search needs
 loop-again : tie.Need-loop-again Inv-loop μ-loop
 loop-again c = search needs
 
-returns : tie.Need-returns Inv-loop μ-loop
-returns c = search needs
+returns-4 : tie.Need-returns-4 Inv-loop μ-loop
+returns-4 c = search needs
 
 pub guess-spec : {M : Type 1} → statement M
 guess-spec =
@@ -55,15 +47,13 @@ guess-spec =
     (tie.spec
     Inv-loop
     μ-loop
-    sub-start-of
-    start-of-requires
-    put-entries-requires
-    wide-requires
+    put-all-requires
+    returns
+    returns-2
     loop-holds
-    merge-pass-requires
-    mul-merge-pass
-    merge-pass-requires-2
-    mul-width
+    sort-groups-requires
+    returns-3
+    sub-left
     loop-less
     loop-again
-    returns)
+    returns-4)

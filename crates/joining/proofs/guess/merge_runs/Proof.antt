@@ -1,36 +1,35 @@
-use Rattle.joining.proofs.Guessing.{Picking, picking-none, picking-runs, left-inside, right-inside, picking-left, picking-right}
-use Prim.Native.Nat.{_-_}
+use Rattle.std.proofs.num.wrapping_add_usize.Reads as wrapping-add-usize-reads
+use Prim.Native.Nat.{_-_, _≤_}
 use borrow.Author.Needs.{needs}
 use Rattle.joining.proofs.guess.merge_runs.Statement.{statement}
 use Rattle.joining.proofs.guess.merge_runs.Tie as tie
+use Rattle.joining.proofs.guess.entry_in.Reads as entry-in-reads
 use Rattle.joining.proofs.guess.picks_left.Reads as picks-left-reads
+use Rattle.joining.proofs.guess.put_entry.Reads as put-entry-reads
 
 abbrev Inv-loop : tie.InvT-loop
-Inv-loop s from to₀ low middle high i₀ j₀ k₀ to i j k = Picking middle high i j k
+Inv-loop from to₀ low middle high i₀ j₀ k₀ to i j k = low ≤ k
 
 abbrev μ-loop : tie.MeasureT-loop
-μ-loop s from to₀ low middle high i₀ j₀ k₀ to i j k = high - k
+μ-loop from to₀ low middle high i₀ j₀ k₀ to i j k = high - k
 
 loop-holds : tie.Need-loop-holds Inv-loop μ-loop
-loop-holds c = search (picking-none, needs)
+loop-holds c = search needs
+
+entry-in-requires : tie.Need-entry-in-requires Inv-loop μ-loop
+entry-in-requires c κs = search needs
+
+entry-in-requires-2 : tie.Need-entry-in-requires-2 Inv-loop μ-loop
+entry-in-requires-2 c κs = search needs
 
 picks-left-requires : tie.Need-picks-left-requires Inv-loop μ-loop
-picks-left-requires c κs = search (picking-runs, needs)
+picks-left-requires c κs = search needs
 
-mul-to : tie.Need-mul-to Inv-loop μ-loop
-mul-to c = search (left-inside, needs)
+put-entry-requires : tie.Need-put-entry-requires Inv-loop μ-loop
+put-entry-requires c κs = search needs
 
-element-copy-out-to : tie.Need-element-copy-out-to Inv-loop μ-loop
-element-copy-out-to c = search (left-inside, needs)
-
-mul-to-2 : tie.Need-mul-to-2 Inv-loop μ-loop
-mul-to-2 c = search needs
-
-element-write-to : tie.Need-element-write-to Inv-loop μ-loop
-element-write-to c = search needs
-
-add-i : tie.Need-add-i Inv-loop μ-loop
-add-i c = search needs
+wrapping-add-usize-requires : tie.Need-wrapping-add-usize-requires Inv-loop μ-loop
+wrapping-add-usize-requires c κs = search needs
 
 add-k : tie.Need-add-k Inv-loop μ-loop
 add-k c = search needs
@@ -39,22 +38,13 @@ loop-less : tie.Need-loop-less Inv-loop μ-loop
 loop-less c = search needs
 
 loop-again : tie.Need-loop-again Inv-loop μ-loop
-loop-again c = picking-left (c .before .before .before .before .loop .inv) (c .before .before .before .before .before .before .pre .1) (c .before .before .picks-left .ensures) (c .before .if1 .taken)
+loop-again c = search needs
 
-mul-to-3 : tie.Need-mul-to-3 Inv-loop μ-loop
-mul-to-3 c = search (right-inside, needs)
+put-entry-requires-2 : tie.Need-put-entry-requires-2 Inv-loop μ-loop
+put-entry-requires-2 c κs = search needs
 
-element-copy-out-to-2 : tie.Need-element-copy-out-to-2 Inv-loop μ-loop
-element-copy-out-to-2 c = search (right-inside, needs)
-
-mul-to-4 : tie.Need-mul-to-4 Inv-loop μ-loop
-mul-to-4 c = search needs
-
-element-write-to-2 : tie.Need-element-write-to-2 Inv-loop μ-loop
-element-write-to-2 c = search needs
-
-add-j : tie.Need-add-j Inv-loop μ-loop
-add-j c = search needs
+wrapping-add-usize-requires-2 : tie.Need-wrapping-add-usize-requires-2 Inv-loop μ-loop
+wrapping-add-usize-requires-2 c κs = search needs
 
 add-k-2 : tie.Need-add-k-2 Inv-loop μ-loop
 add-k-2 c = search needs
@@ -63,7 +53,7 @@ loop-less-2 : tie.Need-loop-less-2 Inv-loop μ-loop
 loop-less-2 c = search needs
 
 loop-again-2 : tie.Need-loop-again-2 Inv-loop μ-loop
-loop-again-2 c = picking-right (c .before .before .before .before .loop .inv) (c .before .before .before .before .before .before .pre .1) (c .before .before .picks-left .ensures) (c .before .if1 .left)
+loop-again-2 c = search needs
 
 returns : tie.Need-returns Inv-loop μ-loop
 returns c = search needs
@@ -75,20 +65,16 @@ merge-runs-spec =
     Inv-loop
     μ-loop
     loop-holds
+    entry-in-requires
+    entry-in-requires-2
     picks-left-requires
-    mul-to
-    element-copy-out-to
-    mul-to-2
-    element-write-to
-    add-i
+    put-entry-requires
+    wrapping-add-usize-requires
     add-k
     loop-less
     loop-again
-    mul-to-3
-    element-copy-out-to-2
-    mul-to-4
-    element-write-to-2
-    add-j
+    put-entry-requires-2
+    wrapping-add-usize-requires-2
     add-k-2
     loop-less-2
     loop-again-2

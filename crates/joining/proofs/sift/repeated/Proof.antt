@@ -1,8 +1,8 @@
 use Prim.Native.Nat.{_-_, _≤_}
 use borrow.Author.Needs.{needs}
-use Rattle.joining.proofs.guess.repeated.Statement.{statement}
-use Rattle.joining.proofs.guess.repeated.Tie as tie
-use Rattle.joining.proofs.guess.is_repeated.Reads as is-repeated-reads
+use Rattle.joining.proofs.sift.repeated.Statement.{statement}
+use Rattle.joining.proofs.sift.repeated.Tie as tie
+use Rattle.joining.proofs.sift.is_repeated.Reads as is-repeated-reads
 
 abbrev Inv-loop : tie.InvT-loop
 Inv-loop s n step many₀ k₀ many k = many ≤ k

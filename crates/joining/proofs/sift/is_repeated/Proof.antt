@@ -1,8 +1,8 @@
 use Prim.Native.Nat.{_-_, _≤_}
 use borrow.Author.Needs.{needs}
-use Rattle.joining.proofs.guess.is_repeated.Statement.{statement}
-use Rattle.joining.proofs.guess.is_repeated.Tie as tie
-use Rattle.joining.proofs.guess.is_same.Reads as is-same-reads
+use Rattle.joining.proofs.sift.is_repeated.Statement.{statement}
+use Rattle.joining.proofs.sift.is_repeated.Tie as tie
+use Rattle.joining.proofs.is_same.Reads as is-same-reads
 use Rattle.joining.proofs.text_in.Reads as text-in-reads
 
 abbrev Inv-loop : tie.InvT-loop

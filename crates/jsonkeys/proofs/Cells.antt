@@ -1,31 +1,35 @@
 -- Cells that stay: the tables of names in them stay
-use mathlib.Core.Path.{_≡_, refl, sym, ap, _∙_}
+use mathlib.Core.Path.{_≡_, refl, sym, _∙_}
 use mathlib.Core.List.{List}
 use Prim.Native.Nat.{ℕ, _≤_}
 use native.Mathlib.Omega.{arith}
-use lib.ListN.{length, getD}
+use lib.ListN.{length}
 use Rattle.jsontext.specs.declared.Step.{Step}
 use Rattle.jsontext.specs.declared.Step.the-variants.{At}
 use Rattle.jsontext.specs.Reading.{Read}
 use Rattle.jsontext.specs.Values.{Name}
 use Rattle.jsonnames.specs.Sorted.{Table}
 use Rattle.jsonnames.proofs.Stays.{sorted-kept}
-use Rattle.jsonkeys.specs.Keys.{Below, Passed}
+use Rattle.jsonmarks.specs.Marks.{Below}
+use Rattle.jsonkeys.specs.Keys.{Passed}
 
-pub below-self : {used : ℕ} {names : List ℕ} → Below used names names
-below-self = record { long = refl; same = λ k h. refl }
+pub below-self : {line : List ℕ} {used : ℕ} {names : List ℕ} → Below line used names names
+below-self = record { long = refl; same = λ k h. refl; owner = λ f h o. o; marks = λ f h o k l. refl }
 
-pub below-both : {used : ℕ} {a b c : List ℕ} → Below used a b → Below used b c → Below used a c
-below-both p q = record { long = q .long ∙ p .long; same = λ k h. q .same k h ∙ p .same k h }
+pub below-both : {line : List ℕ} {used : ℕ} {a b c : List ℕ} → Below line used a b → Below line used b c → Below line used a c
+below-both p q =
+    record {
+      long = q .long ∙ p .long;
+      same = λ k h. q .same k h ∙ p .same k h;
+      owner = λ f h o. p .owner f h (q .owner f h o);
+      marks = λ f h o k l. q .marks f h o k (omega (arith, p .long)) ∙ p .marks f h (q .owner f h o) k l;
+    }
 
-pub below-less : {used more : ℕ} {a b : List ℕ} → used ≤ more → Below more a b → Below used a b
-below-less l p = record { long = p .long; same = λ k h. p .same k (omega arith) }
-
-pub same-below : {first : ℕ} {names after : List ℕ} → after ≡ names → Below first names after
-same-below e = record { long = ap length e; same = λ k h. ap (λ (l : List ℕ). getD l k 0) e }
+pub below-less : {line : List ℕ} {used more : ℕ} {a b : List ℕ} → used ≤ more → Below line more a b → Below line used a b
+below-less l p = record { long = p .long; same = λ k h. p .same k (omega arith); owner = λ f h. p .owner f (omega arith); marks = λ f h. p .marks f (omega arith) }
 
 -- a table is its cells
-pub table-kept : {line names after : List ℕ} {first end : ℕ} {seen : List Name} → Below end names after → Table line names first end seen → Table line after first end seen
+pub table-kept : {line names after : List ℕ} {first end : ℕ} {seen : List Name} → Below line end names after → Table line names first end seen → Table line after first end seen
 table-kept b t =
     record {
       sorted = sorted-kept (b .long) (b .same) (t .sorted);

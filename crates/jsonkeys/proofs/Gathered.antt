@@ -19,7 +19,9 @@ use Rattle.jsonnames.specs.Sorted.{Table}
 use Rattle.jsonnames.proofs.Stays.{sorted-none}
 use Rattle.jsonkeys.specs.declared.Turn.{Turn}
 use Rattle.jsonkeys.specs.declared.Turn.the-variants.{On, Over, Wrong}
-use Rattle.jsonkeys.specs.Keys.{opened, after, TurnTold, Room, Below, Passed, named, KnownTold, KeyIs, KeyTold, MemberIs, MemberWrong}
+use Rattle.jsonmarks.specs.Marks.{Filed, Below}
+use Rattle.jsonmarks.proofs.Uppers.{marked-kept}
+use Rattle.jsonkeys.specs.Keys.{opened, after, TurnTold, Room, Passed, named, KnownTold, KeyIs, KeyTold, MemberIs, MemberWrong}
 use Rattle.jsonkeys.proofs.Cells.{below-self, below-both, below-less, table-kept}
 use Rattle.jsonkeys.proofs.Keys.{members-key}
 use Rattle.jsonkeys.proofs.Listed.{by-opened, by-after}
@@ -59,7 +61,7 @@ module _ {A : Type 0} (known : List ℕ → Bool) (item : List ℕ → List ℕ 
         ∙ then-is (λ n t. valued turns seen n t) (its .is known (sym (kn (its .name) (its .rest) (its .spells)) ∙ k .allows v q) seen tab)
 
     module _ {y : Step} {last : List ℕ} (f : used ≤ end) (u : Passed line next last (end + 1) v y (item (its .name) (drop v line))) where
-      kept : Below used names last
+      kept : Below line used names last
       kept = below-both (k .below) (below-less (omega arith) (u .below))
 
       pub value-bad : {w : Fault} {p q : ℕ} → y ≡ Bad w p q → MemberWrong known item line names last used end i w p q
@@ -85,6 +87,7 @@ module _ {A : Type 0} (known : List ℕ → Bool) (item : List ℕ → List ℕ 
             takes = omega (arith, its .takes, s .from);
             within = s .within;
             below = kept;
+            marked = marked-kept (u .below) (its .marked);
             table = λ seen tab. table-kept (u .below) (its .table seen tab);
             is = λ seen tab turns. named-is seen tab turns ∙ then-is (λ a rest. afterPart 125 (its .name, a) (λ u. members known item turns (named (its .name) (drop i line) ∷ seen) u) (blanks rest)) (s .is);
           }
@@ -106,7 +109,8 @@ module _ {A B : Type 0} (known : List ℕ → Bool) (item : List ℕ → List �
     pub enough : length line - i < turns
     pub seen : List Name
     pub table : Table line names used end seen
-    pub below : Below used cells names
+    pub filed : Filed line names used end
+    pub below : Below line used cells names
     pub room : Room line names end i 0
     pub is : then (object known item (drop at line)) f ≡ then (members known item turns seen (drop i line)) (λ ms rest. f (done ++ ms) rest)
 
@@ -138,6 +142,7 @@ module _ {A B : Type 0} (known : List ℕ → Bool) (item : List ℕ → List �
           enough = omega (arith, length-drop i line);
           seen = [];
           table = no-names line names used (omega arith);
+          filed = record { sorted = sorted-none line names used (omega arith); marked = record { all = λ l. absurd (omega arith) } };
           below = below-self;
           room = omega (arith, c .from);
           is = ap (λ (m : Read (List (List ℕ × A))). then m f) (object-is (drop at line) ∙ then-is (λ over rest. opening over rest) (c .is));
@@ -166,7 +171,7 @@ module _ {A B : Type 0} (known : List ℕ → Bool) (item : List ℕ → List �
       abbrev following : Bool → List ℕ → Read (List (List ℕ × A))
       following over rest = choose over (got (part ∷ []) rest) (mapped (λ others. part ∷ others) (more rest))
 
-      stays : Below used cells last
+      stays : Below line used cells last
       stays = below-both (g .below) (m .below)
 
       part-is : then (object known item (drop at line)) f ≡ then (then (after 125 (blanks (drop e line))) (λ over rest. following over rest)) (λ ms rest. onto done ms rest)
@@ -200,6 +205,7 @@ module _ {A B : Type 0} (known : List ℕ → Bool) (item : List ℕ → List �
             enough = omega (arith, g .enough, m .takes, c .from, c .within);
             seen = named (m .name) (drop i line) ∷ g .seen;
             table = m .table (g .seen) (g .table);
+            filed = record { sorted = m .table (g .seen) (g .table) .sorted; marked = m .marked };
             below = stays;
             room = omega (arith, g .room, m .below .long, m .takes, c .from, c .within);
             is =

@@ -20,9 +20,10 @@ use Rattle.jsonread.specs.Told.{Faulty, Told, Blanks}
 use Rattle.jsonread.proofs.Places.{fault-then, then-is}
 use Rattle.jsonread.proofs.Then.{then-then, then-same, then-fault}
 use Rattle.jsonread.proofs.Takes.{want-takes, string-takes}
-use Rattle.jsonnames.specs.Sorted.{Table, Kept, Entered, unread, again}
-use Rattle.jsonkeys.specs.Keys.{Room, Below, named, key, KnownTold, KeyIs, KeyTold}
-use Rattle.jsonkeys.proofs.Cells.{below-self, same-below}
+use Rattle.jsonnames.specs.Sorted.{Table, Kept, unread, again}
+use Rattle.jsonmarks.specs.Marks.{Below, Tended}
+use Rattle.jsonkeys.specs.Keys.{Room, named, key, KnownTold, KeyIs, KeyTold}
+use Rattle.jsonkeys.proofs.Cells.{below-self}
 
 -- ---- what the definition makes of a name
 
@@ -68,7 +69,7 @@ module _ (known : List ℕ → Bool) (seen : List Name) (s : List ℕ) where
 -- ---- what a known step tells
 
 module _ {line names after : List ℕ} {first end at : ℕ} {allowed : Bool} where
-  key-wrong : {w : Fault} {p q : ℕ} → Below first names after → ((known : List ℕ → Bool) → KnownTold line at known allowed → (seen : List Name) → Table line names first end seen → Faulty line w p q (key known seen (drop at line))) → KeyTold line names after first end at allowed (Bad w p q)
+  key-wrong : {w : Fault} {p q : ℕ} → Below line first names after → ((known : List ℕ → Bool) → KnownTold line at known allowed → (seen : List Name) → Table line names first end seen → Faulty line w p q (key known seen (drop at line))) → KeyTold line names after first end at allowed (Bad w p q)
   key-wrong {w} {p} {q} b g =
       record {
         below = b;
@@ -82,7 +83,7 @@ module _ {line names after : List ℕ} {first end at : ℕ} {allowed : Bool} whe
             rw f at (rw d at (rw a at (g known l seen t)));
       }
 
-  key-is : {v : ℕ} → Below first names after → allowed ≡ true → KeyIs line names after first end at v → KeyTold line names after first end at allowed (At v)
+  key-is : {v : ℕ} → Below line first names after → allowed ≡ true → KeyIs line names after first end at v → KeyTold line names after first end at allowed (At v)
   key-is {v} b l m =
       record {
         below = b;
@@ -100,30 +101,27 @@ key-cut line names first end at allowed h l =
     let e : string (drop at line) ≡ fault NotJson 0 0 = rw (drop-of-length-le line l) in
     record { place = h; first = h; is = key-unread known seen (drop at line) e ∙ rw (let z : length line - at ≡ 0 = omega arith in z) })
 
-pub entered-within : {line names after : List ℕ} {first end at e : ℕ} {x : Step} → Entered line names after first end at x → x ≡ At e → e ≤ length line
-entered-within t f = t .kept _ f .within
+pub entered-within : {line names after : List ℕ} {first end at e : ℕ} {x : Step} → Tended line names after first end at x → x ≡ At e → e ≤ length line
+entered-within t f = t .entered .kept _ f .within
 
-module _ {line names after : List ℕ} {first end at : ℕ} (allowed : Bool) {x : Step} (h : at ≤ length line) (t : Entered line names after first end at x) where
+module _ {line names after : List ℕ} {first end at : ℕ} (allowed : Bool) {x : Step} (h : at ≤ length line) (t : Tended line names after first end at x) where
   refuses : {w : Fault} {p q : ℕ} → x ≡ Bad w p q → (known : List ℕ → Bool) → KnownTold line at known allowed → (seen : List Name) → Table line names first end seen → Faulty line w p q (key known seen (drop at line))
   refuses {w} {p} {q} e known l seen tab =
-      elim (t .refused w p q e) [
+      elim (t .entered .refused w p q e) [
         | unread f ↦ record { place = f .place; first = f .first; is = key-unread known seen (drop at line) (f .is) }
         | again a b r ↦ record { place = omega (arith, b); first = r .place; is = key-again known seen (drop at line) (r .is) (r .seen seen tab) ∙ rw (a, b, length-drop at line) }
       ]
 
   pub key-refused : {w : Fault} {p q : ℕ} → x ≡ Bad w p q → KeyTold line names after first end at allowed (Bad w p q)
-  key-refused e = key-wrong (same-below (t .same _ _ _ e)) (refuses e)
+  key-refused e = key-wrong (t .below) (refuses e)
 
   module _ {e : ℕ} (f : x ≡ At e) where
     abbrev kept : Kept line names after first end at e
-    kept = t .kept e f
-
-    kept-below : Below first names after
-    kept-below = record { long = kept .long; same = kept .others }
+    kept = t .entered .kept e f
 
     pub key-unknown : not allowed ≡ true → KeyTold line names after first end at allowed (Bad BadField at at)
     key-unknown n =
-        key-wrong kept-below
+        key-wrong (t .below)
         (λ known l seen tab. record { place = h; first = h; is = key-strange known seen (drop at line) (kept .is) (kept .new seen tab) (sym (l _ _ (kept .is)) ∙ not-true allowed n) ∙ rw (length-drop at line) })
 
     module _ (n : not allowed ≡ false) {k : ℕ} {y : Step} (b : Blanks line e k) (c : Told line k y (want 58 (drop k line))) where
@@ -132,7 +130,7 @@ module _ {line names after : List ℕ} {first end at : ℕ} (allowed : Bool) {x 
 
       pub key-colon : {w : Fault} {p q : ℕ} → y ≡ Bad w p q → KeyTold line names after first end at allowed (Bad w p q)
       key-colon g =
-          key-wrong kept-below
+          key-wrong (t .below)
           (λ known l seen tab.
           let v = fault-then (λ colon rest. got (kept .name) (blanks rest)) (c .faulty _ _ _ g) in
           record { place = v .place; first = v .first; is = new-is known (sym (l _ _ (kept .is)) ∙ not-false allowed n) seen tab ∙ v .is })
@@ -140,13 +138,14 @@ module _ {line names after : List ℕ} {first end at : ℕ} (allowed : Bool) {x 
       -- a name takes two bytes, its colon one
       pub key-there : {o v : ℕ} → y ≡ At o → Blanks line o v → KeyTold line names after first end at allowed (At v)
       key-there {o} {v} g d =
-          key-is kept-below (not-false allowed n)
+          key-is (t .below) (not-false allowed n)
           (record {
             name = kept .name;
             rest = drop e line;
             spells = kept .is;
             takes = omega (arith, string-takes line at e (kept .is), b .from, want-takes 58 c g, d .from);
             within = d .within;
+            marked = t .marked e f;
             table = λ seen tab. rw (length-drop at line) (kept .table seen tab);
             is = λ known q seen tab. new-is known q seen tab ∙ then-is (λ colon rest. got (kept .name) (blanks rest)) (c .stands o g .is) ∙ ap (got (kept .name)) (sym (d .is));
           })

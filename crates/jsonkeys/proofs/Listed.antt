@@ -18,7 +18,8 @@ use Rattle.jsonread.proofs.Places.{told-at, told-bad, told-of, fault-then, then
 use Rattle.jsonread.proofs.Chars.{told-more}
 use Rattle.jsonkeys.specs.declared.Turn.{Turn}
 use Rattle.jsonkeys.specs.declared.Turn.the-variants.{On, Over, Wrong}
-use Rattle.jsonkeys.specs.Keys.{opened, after, TurnTold, Room, Below, Passed}
+use Rattle.jsonmarks.specs.Marks.{Below}
+use Rattle.jsonkeys.specs.Keys.{opened, after, TurnTold, Room, Passed}
 use Rattle.jsonkeys.proofs.Cells.{below-self, below-both}
 
 -- ---- the definition by turns
@@ -53,7 +54,7 @@ module _ {A : Type 0} (item : List ℕ → Read A) where
     pub within : i ≤ length line
     pub turns : ℕ
     pub enough : length line - i < turns
-    pub below : Below used cells names
+    pub below : Below line used cells names
     pub room : Room line names used i 1
     pub goes : (r : Step) → Told line i r (items item turns (drop i line)) → Told line at r (array item (drop at line))
 
@@ -109,7 +110,7 @@ module _ {A : Type 0} (item : List ℕ → Read A) where
       turned : items item (g .turns) (drop i line) ≡ then (item (drop i line)) (λ a rest. afterPart 93 a (λ t. items item (g .turns - 1) t) (blanks rest))
       turned = let k : g .turns ≡ suc (g .turns - 1) = omega (arith, g .enough) in ap (λ (n : ℕ). items item n (drop i line)) k ∙ items-turn (g .turns - 1) (drop i line)
 
-      stays : Below used cells last
+      stays : Below line used cells last
       stays = below-both (g .below) (u .below)
 
       pub list-bad : {w : Fault} {p q : ℕ} → x ≡ Bad w p q → Passed line cells last used at (Bad w p q) (array item (drop at line))

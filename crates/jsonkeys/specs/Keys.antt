@@ -2,9 +2,9 @@
 use mathlib.Core.Path.{_≡_}
 use mathlib.Core.Bool.{Bool, true, false}
 use mathlib.Core.List.{List, [], _∷_}
-use Prim.Native.Nat.{ℕ, suc, _+_, _*_, _-_, _<_, _≤_}
+use Prim.Native.Nat.{ℕ, suc, _+_, _*_, _-_, _≤_}
 use lib.Dec.{eqb}
-use lib.ListN.{length, drop, getD}
+use lib.ListN.{length, drop}
 use Rattle.meaning.specs.Tests.{choose}
 use Rattle.jsontext.specs.declared.Fault.{Fault}
 use Rattle.jsontext.specs.declared.Fault.the-variants.{NotJson}
@@ -15,6 +15,7 @@ use Rattle.jsontext.specs.Strings.{string}
 use Rattle.jsontext.specs.Values.{Name, afterName, afterPart, members}
 use Rattle.jsonread.specs.Told.{Faulty, Told}
 use Rattle.jsonnames.specs.Sorted.{Table}
+use Rattle.jsonmarks.specs.Marks.{Marked, Below}
 use Rattle.jsonkeys.specs.declared.Turn.{Turn}
 use Rattle.jsonkeys.specs.declared.Turn.the-variants.{On, Over, Wrong}
 
@@ -45,14 +46,9 @@ pub record TurnTold (line : List ℕ) (low : ℕ) (m : Read Bool) (r : Turn) : T
 abbrev pub Room : List ℕ → List ℕ → ℕ → ℕ → ℕ → Type 0
 Room line names used at more = 4 * used + (length line - at) ≤ 4 * length names + more
 
--- the names of the objects around are as they were
-pub record Below (used : ℕ) (names after : List ℕ) : Type 0 where
-  pub long : length after ≡ length names
-  pub same : (k : ℕ) → k < used → getD after k 0 ≡ getD names k 0
-
 pub record Passed {A : Type 0} (line names after : List ℕ) (used at : ℕ) (r : Step) (m : Read A) : Type 0 where
   pub told : Told line at r m
-  pub below : Below used names after
+  pub below : Below line used names after
 
 -- ---- a member's name
 
@@ -74,11 +70,12 @@ pub record KeyIs (line names after : List ℕ) (first end at v : ℕ) : Type 0 w
   pub spells : string (drop at line) ≡ got name rest
   pub takes : at + 3 ≤ v
   pub within : v ≤ length line
+  pub marked : Marked line after first (end + 1)
   pub table : (seen : List Name) → Table line names first end seen → Table line after first (end + 1) (named name (drop at line) ∷ seen)
   pub is : (known : List ℕ → Bool) → known name ≡ true → (seen : List Name) → Table line names first end seen → key known seen (drop at line) ≡ got name (drop v line)
 
 pub record KeyTold (line names after : List ℕ) (first end at : ℕ) (allowed : Bool) (r : Step) : Type 0 where
-  pub below : Below first names after
+  pub below : Below line first names after
   pub allows : (v : ℕ) → r ≡ At v → allowed ≡ true
   pub read : (v : ℕ) → r ≡ At v → KeyIs line names after first end at v
   pub wrong : (w : Fault) (p q : ℕ) → r ≡ Bad w p q → (known : List ℕ → Bool) → KnownTold line at known allowed → (seen : List Name) → Table line names first end seen → Faulty line w p q (key known seen (drop at line))
@@ -96,10 +93,11 @@ module _ {A : Type 0} (known : List ℕ → Bool) (item : List ℕ → List ℕ 
     pub reads : item name (drop value line) ≡ got what (drop e line)
     pub takes : at + 3 ≤ e
     pub within : e ≤ length line
-    pub below : Below first names last
+    pub below : Below line first names last
+    pub marked : Marked line last first (end + 1)
     pub table : (seen : List Name) → Table line names first end seen → Table line last first (end + 1) (named name (drop at line) ∷ seen)
     pub is : (seen : List Name) → Table line names first end seen → (turns : ℕ) → members known item (suc turns) seen (drop at line) ≡ afterPart 125 (name, what) (λ t. members known item turns (named name (drop at line) ∷ seen) t) (blanks (drop e line))
 
   pub record MemberWrong (line names last : List ℕ) (first end at : ℕ) (w : Fault) (p q : ℕ) : Type 0 where
-    pub below : Below first names last
+    pub below : Below line first names last
     pub is : (seen : List Name) → Table line names first end seen → (turns : ℕ) → Faulty line w p q (members known item (suc turns) seen (drop at line))

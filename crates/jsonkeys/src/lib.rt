@@ -1,5 +1,5 @@
 // What arrays and objects share: how one begins, a member's name, and what may follow a part.
-use jsonnames::enter;
+use jsonmarks::enter;
 use jsonread::bytes::skip_blanks;
 use jsonread::bytes::want_at;
 use jsontext::Fault;
@@ -7,7 +7,7 @@ use jsontext::Step;
 ghost use Prim.Native.Nat.{_+_, _≤_};
 ghost use lib.ListN.{length, drop};
 ghost use Rattle.jsontext.specs.Reading.{blanks};
-ghost use Rattle.jsonnames.specs.Sorted.{Sorted};
+ghost use Rattle.jsonmarks.specs.Marks.{Filed};
 ghost use Rattle.jsonkeys.specs.Keys.{opened, after, Room, TurnTold, KeyTold};
 
 // a part begins; there is none, or none more, and this is after the closing bracket; or what is wrong stands here
@@ -60,7 +60,7 @@ pub fn key_at(
     end: usize,
 ) -> Step
     requires { ⌜ at ≤ length (now line) ⌝ }
-    requires { ⌜ Sorted (now line) (now names) first end ⌝ }
+    requires { ⌜ Filed (now line) (now names) first end ⌝ }
     requires { ⌜ Room (now line) (now names) end at 0 ⌝ }
     ensures { λ r. ⌜ KeyTold (now (line .entry)) (now (names .entry)) (now (names .exit)) first end at known r ⌝ }
 {

@@ -16,7 +16,7 @@ ghost use lib.Dec.{eqb};
 ghost use lib.ListN.{length, drop};
 ghost use Rattle.jsontext.specs.Values.{due};
 ghost use Rattle.jsontext.specs.Events.{event, line as lineOf};
-ghost use Rattle.jsonnames.specs.Sorted.{Sorted};
+ghost use Rattle.jsonmarks.specs.Marks.{Filed};
 ghost use Rattle.jsonkeys.specs.Keys.{Room, Passed};
 ghost use Rattle.jsonlines.specs.Events.{NameTold, EntryTold, wholeBits, closedBy, eventOf, lineLength, LogTold};
 
@@ -29,7 +29,7 @@ pub enum Entry {
 // a name of a field, kept with the others, and its colon: where its value begins
 fn name_at(line: &[u8], at: usize, names: &mut [u64], end: usize) -> Entry
     requires { ⌜ at ≤ length (now line) ⌝ }
-    requires { ⌜ Sorted (now line) (now names) 0 end ⌝ }
+    requires { ⌜ Filed (now line) (now names) 0 end ⌝ }
     requires { ⌜ Room (now line) (now names) end at 0 ⌝ }
     ensures { λ r. ⌜ NameTold (now (line .entry)) (now (names .entry)) (now (names .exit)) end at r ⌝ }
 {
@@ -43,7 +43,7 @@ fn name_at(line: &[u8], at: usize, names: &mut [u64], end: usize) -> Entry
 // a name of a field, and its value
 fn entry_at(line: &[u8], at: usize, names: &mut [u64], end: usize) -> Entry
     requires { ⌜ at ≤ length (now line) ⌝ }
-    requires { ⌜ Sorted (now line) (now names) 0 end ⌝ }
+    requires { ⌜ Filed (now line) (now names) 0 end ⌝ }
     requires { ⌜ Room (now line) (now names) end at 0 ⌝ }
     ensures { λ r. ⌜ EntryTold (now (line .entry)) (now (names .entry)) (now (names .exit)) end at r ⌝ }
 {

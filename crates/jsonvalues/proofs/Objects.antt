@@ -14,7 +14,7 @@ use Rattle.jsontext.specs.Values.{J, object, value}
 use Rattle.jsonread.specs.Told.{Told}
 use Rattle.jsonread.proofs.Places.{told-at, told-of}
 use Rattle.jsonread.proofs.Then.{then-got}
-use Rattle.jsonnames.specs.Sorted.{Sorted}
+use Rattle.jsonmarks.specs.Marks.{Filed}
 use Rattle.jsonkeys.specs.declared.Turn.{Turn}
 use Rattle.jsonkeys.specs.declared.Turn.the-variants.{On, Over, Wrong}
 use Rattle.jsonkeys.specs.Keys.{opened, after, TurnTold, Room, Passed, KeyTold}
@@ -69,12 +69,12 @@ module _ (levels : ℕ) where
               rw d at (rw b at (rw a at (gathered.key-bad any inner (λ n rest q. refl) k e)));
         }
 
-    pub member-value : {v : ℕ} {y : Step} {last : List ℕ} → Sorted line names first end → x ≡ At v → Passed line next last (end + 1) v y (value levels (drop v line)) → MemberTold line names last first end levels at y
+    pub member-value : {v : ℕ} {y : Step} {last : List ℕ} → Filed line names first end → x ≡ At v → Passed line next last (end + 1) v y (value levels (drop v line)) → MemberTold line names last first end levels at y
     member-value s q u =
         record {
-          below = below-both (k .below) (below-less (omega (arith, s .from)) (u .below));
-          read = λ e z. gathered.value-read any inner (λ n rest q. refl) k q (s .from) u z;
-          wrong = λ w i j z. gathered.value-bad any inner (λ n rest q. refl) k q (s .from) u z;
+          below = below-both (k .below) (below-less (omega (arith, s .sorted .from)) (u .below));
+          read = λ e z. gathered.value-read any inner (λ n rest q. refl) k q (s .sorted .from) u z;
+          wrong = λ w i j z. gathered.value-bad any inner (λ n rest q. refl) k q (s .sorted .from) u z;
         }
 
   -- ---- all members

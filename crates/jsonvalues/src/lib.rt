@@ -13,7 +13,7 @@ use jsontext::Step;
 ghost use Prim.Native.Nat.{_≤_};
 ghost use lib.ListN.{length, drop};
 ghost use Rattle.jsontext.specs.Values.{value, array, fields};
-ghost use Rattle.jsonnames.specs.Sorted.{Sorted};
+ghost use Rattle.jsonmarks.specs.Marks.{Filed};
 ghost use Rattle.jsonkeys.specs.Keys.{Room, Passed};
 ghost use Rattle.jsonvalues.specs.Values.{membersOf, MemberTold};
 
@@ -27,7 +27,7 @@ fn member_at(
     end: usize,
 ) -> Step
     requires { ⌜ at ≤ length (now line) ⌝ }
-    requires { ⌜ Sorted (now line) (now names) first end ⌝ }
+    requires { ⌜ Filed (now line) (now names) first end ⌝ }
     requires { ⌜ Room (now line) (now names) end at 0 ⌝ }
     ensures { λ r. ⌜ MemberTold (now (line .entry)) (now (names .entry)) (now (names .exit)) first end levels at r ⌝ }
 {

@@ -15,9 +15,9 @@
  *   - an array that a call may write to overlaps no other array of that call;
  *   - the galivodern_checked_ calls get a file for which galivodern_check has
  *     returned 0, unchanged since. The other calls take any bytes;
- *   - 640 KiB of stack are left (GALIVODERN_STACK_BYTES). How deep calls go is bounded by the
+ *   - 768 KiB of stack are left (GALIVODERN_STACK_BYTES). How deep calls go is bounded by the
  *     limits on a value's depth and a node's height; the deepest cases known stay below
- *     608 KiB for an export, 464 to write, 384 for a question, 72 for a check and 48 for an
+ *     680 KiB for an export, 568 to write, 384 for a question, 152 for a check and 48 for an
  *     import, on x86-64 (tests/c/stack.c runs them on threads of these sizes).
  *
  * Link libgalivodern.a: tools/install puts it in place, with a file for
@@ -70,7 +70,7 @@ enum galivodern_refusal {
 #define GALIVODERN_MOST_BYTES 4194304u
 
 /* Bytes of stack that a call is to find left. */
-#define GALIVODERN_STACK_BYTES 655360u
+#define GALIVODERN_STACK_BYTES 786432u
 
 /* Cells of `contents`, of `told`, of `written` and of `imported` that a call needs. */
 #define GALIVODERN_CONTENTS_CELLS 5

@@ -2,16 +2,11 @@
 pub mod merges;
 pub mod runs;
 
-use self::runs::Known;
-use self::runs::store;
 use jsonread::names::Order;
 use jsonread::names::compare;
-use jsonread::strings::string_at;
-use jsontext::Fault;
-use jsontext::Step;
 ghost use Prim.Native.Nat.{_<_, _≤_};
 ghost use lib.ListN.{length};
-ghost use Rattle.jsonnames.specs.Sorted.{Rises, Sorted, FindTold, Inserted, Entered};
+ghost use Rattle.jsonnames.specs.Sorted.{Rises, FindTold, Inserted};
 
 // where a name stands, or the cell before which it belongs
 pub enum Place {
@@ -56,20 +51,4 @@ pub fn insert(names: &mut [u64], cell: usize, end: usize, at: usize)
         i = k;
     }
     names[cell] = at as u64;
-}
-
-// a member's name that was not read before is kept with the others: where it ends; else what is wrong
-pub fn enter(line: &[u8], names: &mut [u64], first: usize, end: usize, at: usize) -> Step
-    requires { ⌜ Sorted (now line) (now names) first end ⌝ }
-    requires { ⌜ end < length (now names) ⌝ }
-    requires { ⌜ at ≤ length (now line) ⌝ }
-    ensures { λ r. ⌜ Entered (now (line .entry)) (now (names .entry)) (now (names .exit)) first end at r ⌝ }
-{
-    match string_at(line, at) {
-        Step::Bad(w, p, q) => Step::Bad(w, p, q),
-        Step::At(after) => match store(line, names, first, end, at) {
-            Known::There(other) => Step::Bad(Fault::RepeatedName, at, other),
-            Known::New => Step::At(after),
-        },
-    }
 }

@@ -4,7 +4,7 @@ ghost use Rattle.bench.specs.Input.{Within};
 
 use crate::table::print_table;
 
-#[derive(Drop)]
+#[derive(Clone, Copy)]
 enum Input {
     Bytes(usize),
     Failed,

@@ -1,4 +1,7 @@
 // Asks a case's last node at every point, and prints each verdict or number with its steps and the greatest number of rows held.
+
+#![tactic(auto)]
+
 mod input;
 mod plan;
 mod print;

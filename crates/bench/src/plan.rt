@@ -11,14 +11,14 @@ use meaning::{NodeNo, Refusal};
 use tables::both;
 
 // the last node, at so many points of a case with so many variables
-#[derive(Drop)]
+#[derive(Clone, Copy)]
 pub struct Asking {
     pub node: NodeNo,
     pub points: usize,
     pub vars: usize,
 }
 
-#[derive(Drop)]
+#[derive(Clone, Copy)]
 pub enum Plan {
     Ask(Asking),
     Refuse(Refusal),

@@ -1,4 +1,7 @@
 // What the outside calls: the check of a case, the answer of a condition or an aggregate, the rows of a condition.
+
+#![tactic(auto)]
+
 pub mod checked;
 
 ghost use Rattle.calls.specs.Promises.{call_of, Checks, Answers, Rowed, Carrying};
@@ -7,7 +10,7 @@ use casecheck::Checking;
 use meaning::{Limits, NodeNo, Refusal};
 
 // of a condition yes or no, of an aggregate its number's 64 bits, or a refusal; each with the steps spent and the greatest number of rows held
-#[derive(Drop)]
+#[derive(Clone, Copy)]
 pub enum SaidAnswer {
     Verdict(bool, u64, usize),
     Number(u64, u64, usize),
@@ -15,14 +18,14 @@ pub enum SaidAnswer {
 }
 
 // how many rows the output has
-#[derive(Drop)]
+#[derive(Clone, Copy)]
 pub enum SaidRows {
     Gives(usize, u64, usize),
     Refuses(Refusal, u64, usize),
 }
 
 // a verdict, and how many cells of the list are filled
-#[derive(Drop)]
+#[derive(Clone, Copy)]
 pub enum SaidCarried {
     Gives(bool, usize, u64, usize),
     Refuses(Refusal, u64, usize),

@@ -1,4 +1,7 @@
 // The calls for C, as include/galivodern.h declares them: numbers and slices only, the answer told in cells that the caller lends.
+
+#![tactic(auto)]
+
 ghost use Rattle.std.specs.Prelude.{◌≡◌, []};
 ghost use Rattle.std.proofs.Common.{to_z};
 ghost use Rattle.std.specs.Int.{w64};

@@ -1,4 +1,7 @@
 // Which points carried the verdict of a Formerly, a Previous or a Since: each question of its scan is a walk of its own.
+
+#![tactic(auto)]
+
 mod answers;
 mod list;
 mod looks;
@@ -10,7 +13,7 @@ pub use looks::looks_back;
 use meaning::{Interval, Meter, NodeNo, Refusal};
 
 // a node that looks back over the log, or another
-#[derive(Drop)]
+#[derive(Clone, Copy)]
 pub enum Look {
     Formerly(Interval, NodeNo),
     Previous(Interval, NodeNo),
@@ -19,7 +22,7 @@ pub enum Look {
 }
 
 // what a point in the window is to a scan
-#[derive(Drop)]
+#[derive(Clone, Copy)]
 pub enum Turn {
     Passes,
     Carries,
@@ -28,7 +31,7 @@ pub enum Turn {
 }
 
 // how a scan ends
-#[derive(Drop)]
+#[derive(Clone, Copy)]
 pub enum End {
     At(usize),
     Nowhere,
@@ -36,14 +39,14 @@ pub enum End {
 }
 
 // and how many cells its failed anchors take, two each
-#[derive(Drop)]
+#[derive(Clone, Copy)]
 pub struct Scan {
     pub end: End,
     pub failed: usize,
 }
 
 // the verdict, and how many cells of the list are filled
-#[derive(Drop)]
+#[derive(Clone, Copy)]
 pub enum Carried {
     Gives(bool, usize),
     Refuses(Refusal, u64, usize),

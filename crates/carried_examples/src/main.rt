@@ -1,4 +1,7 @@
 // Which event carried the yes, asked of the nodes of data/carried.bin, which is packed from examples/carried.case.
+
+#![tactic(auto)]
+
 ghost use Rattle.io.specs.Counts.{IsPrefixLen};
 
 use calls::SaidCarried;

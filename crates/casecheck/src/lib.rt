@@ -1,4 +1,7 @@
 // The check of a case file: the lowest refusal of 1 to 6, or what later calls need of its contents.
+
+#![tactic(auto)]
+
 ghost use Rattle.std.specs.Prelude.{◌≡◌, true};
 ghost use Rattle.meaning.specs.Check.{bodies};
 ghost use Rattle.casecheck.specs.Answer.{as_checking, contents_of};
@@ -14,7 +17,7 @@ use stringcheck::{
 use valuecheck::check_values;
 
 // V, and how many records there are of each kind that a call may name
-#[derive(Drop)]
+#[derive(Clone, Copy)]
 pub struct Contents {
     pub vars: u32,
     pub strings: u32,
@@ -23,7 +26,7 @@ pub struct Contents {
     pub nodes: u32,
 }
 
-#[derive(Drop)]
+#[derive(Clone, Copy)]
 pub enum Checking {
     Passes(Contents),
     Refused(Refusal),

@@ -1,4 +1,7 @@
 // The writer: an unsorted case becomes a finished one, checked in the room before the output is touched.
+
+#![tactic(auto)]
+
 ghost use Rattle.std.specs.Prelude.{◌≡◌, true};
 ghost use Rattle.meaning.specs.Check.{bodies, mosts};
 ghost use Rattle.encode.specs.Unsorted.{finished};
@@ -11,14 +14,14 @@ use meaning::Refusal;
 use refusals::number;
 use writer::write_case;
 
-#[derive(Drop)]
+#[derive(Clone, Copy)]
 pub enum Written {
     Wrote(usize),
     Refused(Refusal),
 }
 
 // what is against a finished case, from refusal 3 to 6
-#[derive(Drop)]
+#[derive(Clone, Copy)]
 enum Against {
     Nothing,
     Refused(Refusal),

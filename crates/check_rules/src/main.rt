@@ -1,4 +1,7 @@
 // Checks the packed rule files, each of which breaks a rule of the check or just keeps it, and says how many gave which refusal.
+
+#![tactic(auto)]
+
 ghost use Rattle.std.specs.Prelude.{◌≡◌, ◌<◌, length};
 
 use casecheck::{Checking, check};

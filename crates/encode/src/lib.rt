@@ -1,4 +1,7 @@
 // A case file's bytes written: a word, and a piece of text.
+
+#![tactic(auto)]
+
 ghost use Rattle.std.specs.Prelude.{◌≡◌, ◌+◌, ◌≤◌, [], ◌∷◌, length};
 ghost use Rattle.laws.specs.Writing.{Writing};
 ghost use Rattle.encode.specs.Words.{packed};

@@ -1,4 +1,7 @@
 // Equality of values and of cells, and the number by which cells are found, each equal to its definition.
+
+#![tactic(auto)]
+
 use meaning::ValNo;
 
 mod hashes;
@@ -8,7 +11,7 @@ pub use hashes::{binding_hash, mix};
 pub use values::{binding_eq, binding_of, dom_eq, long};
 
 // what two values show at once: the answer, or two runs of n members from p and from q on
-#[derive(Drop)]
+#[derive(Clone, Copy)]
 struct Heads {
     known: bool,
     same: bool,
@@ -18,7 +21,7 @@ struct Heads {
 }
 
 // what two values show at a glance
-#[derive(Drop)]
+#[derive(Clone, Copy)]
 enum Seen {
     Same,
     Differ,
@@ -26,7 +29,7 @@ enum Seen {
 }
 
 // two members: whether they have the same name, and their values
-#[derive(Drop)]
+#[derive(Clone, Copy)]
 struct Pair {
     named: bool,
     a: ValNo,
@@ -34,7 +37,7 @@ struct Pair {
 }
 
 // the lowest values that two values lead to
-#[derive(Drop)]
+#[derive(Clone, Copy)]
 struct Ends {
     v: usize,
     w: usize,

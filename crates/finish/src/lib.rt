@@ -1,4 +1,7 @@
 // The finished case of an unsorted one, put into a room of bytes.
+
+#![tactic(auto)]
+
 ghost use Rattle.std.specs.Prelude.{◌≡◌, Bool, true, [], ◌∷◌, ◌+◌, ◌*◌, ◌<◌, ◌≤◌, length, get_or};
 ghost use Rattle.laws.specs.Writing.{Writing};
 ghost use Rattle.meaning.specs.Case.{vars, size};

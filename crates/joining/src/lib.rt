@@ -1,4 +1,7 @@
 // Strings sorted by their bytes, equal ones joined, and the new number of each.
+
+#![tactic(auto)]
+
 mod guess;
 mod sift;
 
@@ -42,7 +45,7 @@ pub fn text_in(s: &[u8], n: StrNo) -> &[u8]
 
 // ---- two texts, compared once
 
-#[derive(Drop)]
+#[derive(Clone, Copy)]
 pub enum Told {
     Before,
     Same,
@@ -174,7 +177,7 @@ fn move_up(a: &mut [u32], from: usize, n: usize, by: usize)
     }
 }
 
-#[derive(Drop)]
+#[derive(Clone, Copy)]
 pub enum Joined {
     Made(usize),
     TooMany,
@@ -268,7 +271,7 @@ fn join_one(
     Joined::Made(m + 1)
 }
 
-#[derive(Drop)]
+#[derive(Clone, Copy)]
 pub enum Filled {
     Till(u32, usize),
     NoRoom,
@@ -400,7 +403,7 @@ fn first_run(s: &[u8], order: &mut [u32]) -> u32
 
 // ---- a guess, checked
 
-#[derive(Drop)]
+#[derive(Clone, Copy)]
 pub enum Next {
     Upto(usize),
     Not,
@@ -450,7 +453,7 @@ fn all_seen(seen: &[bool; 16384], n: usize) -> bool
 }
 
 // all strings are in order, each text once; or the first so many are joined
-#[derive(Drop)]
+#[derive(Clone, Copy)]
 pub enum Taken {
     All(usize),
     First(u32),
@@ -497,7 +500,7 @@ fn keep_one(s: &[u8], kept: &mut [u32], m: usize, j: usize, k: u32) -> Next
 }
 
 // the first `upto` strings have the texts of `many` of them
-#[derive(Drop)]
+#[derive(Clone, Copy)]
 pub struct Sifted {
     upto: u32,
     many: usize,

@@ -1,4 +1,7 @@
 // Reads the packed JSON texts, each with its refusal and places, and says which gave another than is listed.
+
+#![tactic(auto)]
+
 ghost use Rattle.std.specs.Prelude.{◌≡◌, length};
 
 use jsoncheck::{cells_for, check_log};
@@ -17,7 +20,7 @@ fn number_of(w: Fault) -> usize {
 }
 
 // a refusal, its place, and the place of the first of two equal names; zeros for a good text
-#[derive(Drop)]
+#[derive(Clone, Copy)]
 struct Answer {
     number: usize,
     place: usize,

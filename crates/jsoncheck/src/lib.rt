@@ -1,4 +1,7 @@
 // The check of a log: its first fault, with a workspace that is 0 afterwards.
+
+#![tactic(auto)]
+
 ghost use Rattle.std.specs.Prelude.{◌≡◌, ◌+◌, ◌/◌, ◌≤◌, length};
 ghost use Rattle.jsoncheck.specs.Checked.{CheckTold};
 

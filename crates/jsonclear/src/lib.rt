@@ -1,4 +1,7 @@
 // Refusal 25: whether a point reaches an object that would be read as one of Cedar's forms. Runs overlap, so members and entities are asked by blocks of 512.
+
+#![tactic(auto)]
+
 ghost use Rattle.std.specs.Prelude.{◌≡◌, Bool, false, ◌+◌, ◌*◌, ◌<◌, ◌≤◌};
 ghost use Rattle.meaning.specs.Tests.{all_below};
 ghost use Rattle.meaning.specs.Case.{values, points, lists, point_at};

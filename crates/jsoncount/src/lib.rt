@@ -1,4 +1,7 @@
 // How many records a good text adds to each table, and how many bytes its strings have.
+
+#![tactic(auto)]
+
 pub mod entities;
 pub mod forms;
 pub mod scalars;

@@ -8,7 +8,7 @@ ghost use Rattle.jsoncount.specs.Tally.{Raised, Adds, CountedTo};
 use jsonspelt::spelt_at;
 
 // strings and their bytes, values, members, points, list words
-#[derive(Drop)]
+#[derive(Clone, Copy)]
 pub struct Tally {
     pub strings: usize,
     pub bytes: usize,
@@ -19,7 +19,7 @@ pub struct Tally {
 }
 
 // so far, and where the line goes on
-#[derive(Drop)]
+#[derive(Clone, Copy)]
 pub struct Counted {
     pub tally: Tally,
     pub end: usize,

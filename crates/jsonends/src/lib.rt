@@ -1,4 +1,7 @@
 // Where a good value ends, told by its brackets and quotation marks alone.
+
+#![tactic(auto)]
+
 ghost use Rattle.std.specs.Prelude.{◌≡◌, ◌≤◌, drop};
 ghost use Rattle.jsontext.specs.Values.{value};
 ghost use Rattle.jsonparts.specs.Flat.{scalar};

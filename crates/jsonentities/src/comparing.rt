@@ -9,7 +9,7 @@ use jsonread::names::{Order, compare};
 use jsonruns::{after_sign, string_end};
 
 // an entity's type and id, at their quotation marks
-#[derive(Drop)]
+#[derive(Clone, Copy)]
 pub struct Pair {
     pub kind: usize,
     pub id: usize,

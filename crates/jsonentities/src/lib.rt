@@ -1,4 +1,7 @@
 // The entities of an event, sorted and written.
+
+#![tactic(auto)]
+
 pub mod comparing;
 pub mod entity;
 pub mod keys;

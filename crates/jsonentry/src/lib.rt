@@ -1,8 +1,11 @@
 // What an event's line adds to the tables: contracts of the functions that write it.
+
+#![tactic(auto)]
+
 use jsonroom::Next;
 
 // where the value of each field of a line begins; 0 where there is no principal or resource
-#[derive(Drop)]
+#[derive(Clone, Copy)]
 pub struct Fields {
     pub time: usize,
     pub namespace: usize,
@@ -16,7 +19,7 @@ pub struct Fields {
 }
 
 // how many were written, and the numbers that are next
-#[derive(Drop)]
+#[derive(Clone, Copy)]
 pub struct Several {
     pub count: usize,
     pub next: Next,

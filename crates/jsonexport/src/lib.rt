@@ -1,4 +1,7 @@
 // The export call: a case's points as a JSON log over a lent output. The text's length is added up first, stopping where it passes the output's, and only what fits is written.
+
+#![tactic(auto)]
+
 ghost use Rattle.std.specs.Prelude.{◌+◌, ◌*◌, ◌<◌, ◌≤◌, min, ◌≡◌, length, get_or, ◌++◌};
 ghost use Rattle.meaning.specs.Case.{points};
 ghost use Rattle.meaning.specs.Check.{Checked};

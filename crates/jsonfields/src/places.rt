@@ -13,7 +13,7 @@ use jsonread::bytes::skip_blanks;
 use jsonruns::{Part, after_sign, part_after, string_end};
 
 // a member of an event: which field it is, where its value begins, and where it ends
-#[derive(Drop)]
+#[derive(Clone, Copy)]
 pub struct Entry {
     pub field: usize,
     pub value: usize,

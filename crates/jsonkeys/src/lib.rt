@@ -1,4 +1,7 @@
 // What arrays and objects share: how one begins, a member's name, and what may follow a part.
+
+#![tactic(auto)]
+
 ghost use Rattle.std.specs.Prelude.{◌+◌, ◌≤◌, length, drop};
 ghost use Rattle.jsontext.specs.Reading.{blanks};
 ghost use Rattle.jsonmarks.specs.Marks.{Filed};
@@ -9,7 +12,7 @@ use jsonread::bytes::{skip_blanks, want_at};
 use jsontext::{Fault, Step};
 
 // a part begins; there is none, or none more, and this is after the closing bracket; or what is wrong stands here
-#[derive(Drop)]
+#[derive(Clone, Copy)]
 pub enum Turn {
     On(usize),
     Over(usize),

@@ -13,7 +13,7 @@ use jsonread::bytes::skip_blanks;
 use jsontext::{Fault, Step};
 
 // a member of an event, or its name: its field, and where it ends
-#[derive(Drop)]
+#[derive(Clone, Copy)]
 pub enum Entry {
     Wrong(Fault, usize, usize),
     Read(usize, usize),

@@ -1,4 +1,7 @@
 // The names of an open object: in a large one most new names are told by a table of marks.
+
+#![tactic(auto)]
+
 pub mod table;
 
 ghost use Rattle.std.specs.Prelude.{◌-◌, ◌≤◌, ◌<◌, length};

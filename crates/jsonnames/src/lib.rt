@@ -1,4 +1,7 @@
 // The names of an open object, as places in the line, sorted in runs.
+
+#![tactic(auto)]
+
 pub mod merges;
 pub mod runs;
 
@@ -8,7 +11,7 @@ ghost use Rattle.jsonnames.specs.Sorted.{Rises, FindTold, Inserted};
 use jsonread::names::{Order, compare};
 
 // where a name stands, or the cell before which it belongs
-#[derive(Drop)]
+#[derive(Clone, Copy)]
 pub enum Place {
     There(usize),
     Before(usize),

@@ -8,7 +8,7 @@ use super::merges::{comes_last, merge};
 use super::{Place, find, insert};
 
 // where a name stands, if it is there
-#[derive(Drop)]
+#[derive(Clone, Copy)]
 pub enum Known {
     There(usize),
     New,

@@ -1,4 +1,7 @@
 // Cedar's forms: an object of one member, whose value has two.
+
+#![tactic(auto)]
+
 ghost use Rattle.std.specs.Prelude.{◌<◌, ◌≤◌, eqb, length, drop};
 ghost use Rattle.jsontext.specs.Values.{due};
 ghost use Rattle.jsonread.specs.Told.{Told};
@@ -11,7 +14,7 @@ use jsonread::strings::string_at;
 use jsontext::{Fault, Step};
 
 // which of a form's two names
-#[derive(Drop)]
+#[derive(Clone, Copy)]
 pub enum Which {
     First,
     Second,
@@ -19,14 +22,14 @@ pub enum Which {
 }
 
 // the places of the two names so far (0: not yet), and where the next member begins
-#[derive(Drop)]
+#[derive(Clone, Copy)]
 pub struct Two {
     pub first: usize,
     pub second: usize,
     pub at: usize,
 }
 
-#[derive(Drop)]
+#[derive(Clone, Copy)]
 pub enum Turn {
     On(Two),
     Done(Step),

@@ -1,4 +1,7 @@
 // Values, arrays and objects. The names of open objects end at `used`.
+
+#![tactic(auto)]
+
 ghost use Rattle.std.specs.Prelude.{drop};
 ghost use Rattle.jsontext.specs.Values.{value, array};
 ghost use Rattle.jsoncount.specs.Sizes.{object_read, braced_read};

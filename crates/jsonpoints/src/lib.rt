@@ -1,4 +1,7 @@
 // A case's points as lines of JSON, written into a slice.
+
+#![tactic(auto)]
+
 ghost use Rattle.std.specs.Prelude.{◌++◌, ◌+◌, ◌*◌, ◌<◌, ◌≤◌, ◌≡◌, length};
 ghost use Rattle.meaning.specs.Case.{points, text, point_word};
 ghost use Rattle.meaning.specs.Check.{Checked};

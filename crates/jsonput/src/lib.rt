@@ -1,4 +1,7 @@
 // A case's points as a JSON log, written into a slice.
+
+#![tactic(auto)]
+
 ghost use Rattle.std.specs.Prelude.{[], ◌∷◌, ◌++◌, ◌+◌, ◌/◌, ◌<◌, ◌≤◌, min, ◌≡◌, length, get_or, eqb};
 ghost use Rattle.std.proofs.Common.{to_z};
 ghost use Rattle.std.specs.Int.{w64};
@@ -290,7 +293,7 @@ fn held_by(s: &[u8], first: u32, i: u32) -> ValNo
 }
 
 // a value's words
-#[derive(Drop)]
+#[derive(Clone, Copy)]
 pub struct Words {
     pub kind: u32,
     pub first: u32,

@@ -10,7 +10,7 @@ use super::strings::string_at;
 use jsontext::{Form, Side, Step};
 
 // what a byte outside all strings is
-#[derive(Drop)]
+#[derive(Clone, Copy)]
 pub enum Sign {
     Quotes,
     Opens,

@@ -7,14 +7,14 @@ ghost use Rattle.jsonread.specs.Told.{Told, cap, DigitsTold, WholeTold, PartTold
 use jsontext::{Fault, Step};
 
 // what digits say, and where they end; a number that 64 bits cannot hold with any sign is 2^63 + 1
-#[derive(Drop)]
+#[derive(Clone, Copy)]
 pub struct Digits {
     pub value: u64,
     pub at: usize,
 }
 
 // an integer's digits, or where one is missing
-#[derive(Drop)]
+#[derive(Clone, Copy)]
 pub enum Whole {
     Counted(Digits),
     NoDigit(usize),

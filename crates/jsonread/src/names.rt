@@ -5,14 +5,14 @@ ghost use Rattle.jsonread.specs.Spelling.{Begins, NextTold, OrderTold, WordTold,
 use super::strings::{Escape, escape_at};
 
 // where the next byte comes from: the last bytes of a character, so many, then the line
-#[derive(Drop)]
+#[derive(Clone, Copy)]
 pub struct Cursor {
     pub at: usize,
     pub character: u32,
     pub left: usize,
 }
 
-#[derive(Drop)]
+#[derive(Clone, Copy)]
 pub enum Out {
     Byte(u8, Cursor),
     Ended,
@@ -106,7 +106,7 @@ pub fn next_byte(line: &[u8], c: Cursor) -> Out
     Out::Byte(b, n)
 }
 
-#[derive(Drop)]
+#[derive(Clone, Copy)]
 pub enum Order {
     Less,
     Same,

@@ -10,21 +10,21 @@ use meaning::Due;
 use stringcheck::{is_ended, next_due};
 
 // four hex digits, or where one is missing
-#[derive(Drop)]
+#[derive(Clone, Copy)]
 pub enum Unit {
     Is(u32),
     Missing(usize),
 }
 
 // the character that an escape stands for and where it ends, or where it is wrong
-#[derive(Drop)]
+#[derive(Clone, Copy)]
 pub enum Escape {
     For(u32, usize),
     Wrong(usize),
 }
 
 // what a byte of a string is
-#[derive(Drop)]
+#[derive(Clone, Copy)]
 pub enum Mark {
     Quote,
     Backslash,

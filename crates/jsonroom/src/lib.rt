@@ -1,4 +1,7 @@
 // The trace being written: where each body begins, how far it is filled, and a record of each table put.
+
+#![tactic(auto)]
+
 ghost use Rattle.std.specs.Prelude.{[], ◌∷◌, ◌+◌, ◌*◌, ◌≤◌, length};
 ghost use Rattle.laws.specs.Writing.{Writing};
 ghost use Rattle.encode.specs.Words.{packed};
@@ -9,7 +12,7 @@ use joining::narrow;
 use jsonspelt::put_spelt;
 
 // where each body begins in the file, and where the last one ends
-#[derive(Drop)]
+#[derive(Clone, Copy)]
 pub struct Bodies {
     pub strings: usize,
     pub values: usize,
@@ -21,7 +24,7 @@ pub struct Bodies {
 }
 
 // how many records stand in each table: the numbers that the next ones get; and how many bytes of text
-#[derive(Drop)]
+#[derive(Clone, Copy)]
 pub struct Next {
     pub string: usize,
     pub byte: usize,
@@ -32,7 +35,7 @@ pub struct Next {
 }
 
 // what is next after something was written, and where it ended in the line
-#[derive(Drop)]
+#[derive(Clone, Copy)]
 pub struct Written {
     pub next: Next,
     pub end: usize,

@@ -1,4 +1,7 @@
 // Parts of a good line, one after another: what stands after a name or a part, and the strings of a form.
+
+#![tactic(auto)]
+
 ghost use Rattle.std.specs.Prelude.{◌≡◌, Bool, ◌≤◌, length, drop};
 ghost use Rattle.jsontext.specs.Strings.{string};
 ghost use Rattle.jsonruns.specs.Good.{Good, Ends, Signed, Past, Behind, BeginTold, PartTold};
@@ -36,7 +39,7 @@ pub fn sign_end(line: &[u8], at: usize) -> usize
 }
 
 // where a part stands, or where the bracket that ends them was
-#[derive(Drop)]
+#[derive(Clone, Copy)]
 pub enum Part {
     Next(usize),
     Closed(usize),
@@ -69,7 +72,7 @@ pub fn part_after(line: &[u8], at: usize, close: u8) -> Part
 // ---- Cedar's forms
 
 // the strings of a form, each at its quotation mark: type and id, or fn and arg; and where it ends
-#[derive(Drop)]
+#[derive(Clone, Copy)]
 pub struct Two {
     pub first: usize,
     pub second: usize,

@@ -1,4 +1,7 @@
 // How many bytes each string and each value of a case takes as JSON, counted up to a limit, since shared values unfold. Runs of members may overlap, so they are added up by blocks of 512.
+
+#![tactic(auto)]
+
 ghost use Rattle.std.specs.Prelude.{◌+◌, ◌*◌, ◌<◌, ◌≤◌, min, ◌≡◌, length, get_or, eqb};
 ghost use Rattle.std.proofs.Common.{to_z};
 ghost use Rattle.std.specs.Int.{w64};

@@ -1,4 +1,7 @@
 // An object's names, each at its place in the line, kept in runs.
+
+#![tactic(auto)]
+
 ghost use Rattle.jsonnames.specs.Runs.{Grown};
 ghost use Rattle.jsonsort.specs.Sort.{KeepDue};
 

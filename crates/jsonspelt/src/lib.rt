@@ -1,4 +1,7 @@
 // The bytes that a good string stands for: how many, where the string ends, and the bytes written.
+
+#![tactic(auto)]
+
 ghost use Rattle.std.specs.Prelude.{◌≡◌, ◌+◌, ◌<◌, ◌≤◌, length};
 ghost use Rattle.laws.specs.Writing.{Writing};
 ghost use Rattle.jsontext.specs.Strings.{utf8_of};
@@ -6,7 +9,7 @@ ghost use Rattle.jsonspelt.specs.Spelt.{SpeltTold, Put, Fits, PutTold};
 
 use jsonread::strings::{Escape, escape_at};
 
-#[derive(Drop)]
+#[derive(Clone, Copy)]
 pub struct Spelt {
     pub bytes: usize,
     pub end: usize,

@@ -1,7 +1,9 @@
 // What the definition of a JSON log and its reader both speak of.
 
+#![tactic(auto)]
+
 // what is wrong with a text: refusals 20 to 24
-#[derive(Drop)]
+#[derive(Clone, Copy)]
 pub enum Fault {
     NotJson,
     RepeatedName,
@@ -11,7 +13,7 @@ pub enum Fault {
 }
 
 // what an object is read as: its members, or one of Cedar's forms
-#[derive(Drop)]
+#[derive(Clone, Copy)]
 pub enum Form {
     Plain,
     Entity,
@@ -19,7 +21,7 @@ pub enum Form {
 }
 
 // where a look ahead stands: outside all strings, in one, or after a backslash in one
-#[derive(Drop)]
+#[derive(Clone, Copy)]
 pub enum Side {
     Outside,
     Inside,
@@ -27,7 +29,7 @@ pub enum Side {
 }
 
 // where a reader of a line stands after what it read; or what is wrong, its place, and for a repeated name the place of the first
-#[derive(Drop)]
+#[derive(Clone, Copy)]
 pub enum Step {
     At(usize),
     Bad(Fault, usize, usize),

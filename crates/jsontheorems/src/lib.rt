@@ -1,1 +1,4 @@
 // What is shown of the promises of import; no code.
+
+#![tactic(auto)]
+

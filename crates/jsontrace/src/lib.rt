@@ -1,9 +1,12 @@
 // What importing and exporting a JSON log say. The definitions, their examples and laws are in specs/; there is no code yet.
+
+#![tactic(auto)]
+
 use jsontext::Fault;
 use meaning::Refusal;
 
 // bytes of the trace and of its marks; or what is wrong with the text, its place, and for a repeated name the place of the first; or a refusal that is not about the text
-#[derive(Drop)]
+#[derive(Clone, Copy)]
 pub enum Imported {
     Written(usize, usize),
     Faulty(Fault, usize, usize),
@@ -11,7 +14,7 @@ pub enum Imported {
 }
 
 // bytes of the text; or an object that would be read as one of Cedar's forms
-#[derive(Drop)]
+#[derive(Clone, Copy)]
 pub enum Exported {
     Written(usize),
     Ambiguous,

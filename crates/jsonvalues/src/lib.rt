@@ -1,4 +1,7 @@
 // Values, objects and arrays: where one ends, or the first fault. The names of open objects end at `used`.
+
+#![tactic(auto)]
+
 ghost use Rattle.std.specs.Prelude.{◌≤◌, length, drop};
 ghost use Rattle.jsontext.specs.Values.{value, array, fields};
 ghost use Rattle.jsonmarks.specs.Marks.{Filed};

@@ -1,2 +1,5 @@
 // The import call over a JSON log: a good text's trace and its marks.
+
+#![tactic(auto)]
+
 pub mod import;

@@ -1,1 +1,4 @@
 // Laws of the definition, for the proofs of the crates above: claims in specs/, proved. There is no code.
+
+#![tactic(auto)]
+

@@ -1,4 +1,7 @@
 // The leaves at work: the Rust's list of decimals and equalities replayed, then windows, units, arithmetic and orderings.
+
+#![tactic(auto)]
+
 mod case;
 mod print;
 mod replay;

@@ -58,7 +58,7 @@ fn readings<'a>(s: &'a [u8], list: &'a [u8], first: usize, n: u32) -> usize
 }
 
 // the byte of the list that comes next, how many pairs are equal, and how many are as the list has them: as values, as bindings
-#[derive(Drop)]
+#[derive(Clone, Copy)]
 struct Tally {
     at: usize,
     equal: usize,

@@ -1,4 +1,7 @@
 // Runs of the lists, for the rules of points and nodes: they may overlap, so they are read by blocks of 1024 words.
+
+#![tactic(auto)]
+
 ghost use Rattle.std.specs.Prelude.{◌≡◌, Bool, true, ◌+◌, ◌<◌, ltb};
 ghost use Rattle.meaning.specs.Tests.{◌and◌, all_below, choose, greatest};
 ghost use Rattle.meaning.specs.Case.{lists, list};

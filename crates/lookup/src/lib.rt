@@ -1,4 +1,7 @@
 // What paths reach in logged fields, context and scope, and which event a point has: what the evaluator asks of a checked case, each equal to its definition.
+
+#![tactic(auto)]
+
 use meaning::ValNo;
 
 mod paths;
@@ -6,14 +9,14 @@ mod paths;
 pub use paths::{context_at, field_at, path_descend, same_event, scope_at};
 
 // a value that a path reaches
-#[derive(Drop)]
+#[derive(Clone, Copy)]
 pub enum Found {
     At(ValNo),
     Nothing,
 }
 
 // what is behind a name in a text: the end, a dot and the byte after it, or something else
-#[derive(Drop)]
+#[derive(Clone, Copy)]
 enum After {
     End,
     Dot(usize),
@@ -21,7 +24,7 @@ enum After {
 }
 
 // a run of members: the first one's number, and the one after the last's
-#[derive(Drop)]
+#[derive(Clone, Copy)]
 struct Span {
     first: usize,
     end: usize,

@@ -1,4 +1,7 @@
 // The finished case of any unsorted one, put into a lent room of bytes; or refusal 1, 2 or 10.
+
+#![tactic(auto)]
+
 ghost use Rattle.std.specs.Prelude.{◌≡◌, Bool, true, ◌≤◌, eqb, length};
 ghost use Rattle.meaning.specs.Tests.{◌and◌};
 ghost use Rattle.meaning.specs.Case.{lists};
@@ -15,7 +18,7 @@ use stringcheck::{check_bodies, list_count, node_count, point_count, value_count
 use tables::{both, wide};
 
 // how many bytes the finished case has
-#[derive(Drop)]
+#[derive(Clone, Copy)]
 pub enum Made {
     Put(usize),
     Refused(Refusal),

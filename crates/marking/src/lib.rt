@@ -1,4 +1,7 @@
 // List places against their marks, in a finished case; and strings that leave text.
+
+#![tactic(auto)]
+
 ghost use Rattle.std.specs.Prelude.{◌≡◌, Bool, true, false, ◌+◌, ◌<◌, ◌≤◌, min, length};
 ghost use Rattle.meaning.specs.Tests.{choose, all_below};
 ghost use Rattle.meaning.specs.Case.{points, nodes, strings};

@@ -1,4 +1,7 @@
 // What the evaluators do besides control: leaf terms, the arguments of a Predicate matched at a point, Tp, the point before, two sides compared or combined, shared arithmetic. Each equals its definition.
+
+#![tactic(auto)]
+
 use meaning::{Binding, Env};
 
 mod once;
@@ -12,14 +15,14 @@ pub use predicates::{match_args, tp_row};
 pub use sides::{arithmetic, compare, fixed_of, is_int, leaf_of, resolve_leaf, unbound_variable};
 
 // a row of newly bound variables, if yes
-#[derive(Drop)]
+#[derive(Clone, Copy)]
 pub struct Matched {
     pub yes: bool,
     pub row: Env,
 }
 
 // what a field asks of the row: it is as it was, or a variable is newly bound; or the field does not fit
-#[derive(Drop)]
+#[derive(Clone, Copy)]
 pub enum Fits {
     No,
     Yes,
@@ -27,21 +30,21 @@ pub enum Fits {
 }
 
 // an unbound variable, or what is none
-#[derive(Drop)]
+#[derive(Clone, Copy)]
 pub enum Variable {
     Is(u32),
     Not,
 }
 
 // a point that was sought, if there is one
-#[derive(Drop)]
+#[derive(Clone, Copy)]
 pub enum Earlier {
     At(usize),
     Nowhere,
 }
 
 // what a term resolves to with no walk, or open
-#[derive(Drop)]
+#[derive(Clone, Copy)]
 pub enum Settled {
     Is(Binding),
     Open,

@@ -1,30 +1,32 @@
 // The plain types that the definition in specs/ and all code above share.
 
+#![tactic(auto)]
+
 ghost use Rattle.std.specs.Prelude.{◌≡◌};
 ghost use Rattle.std.proofs.Common.{to_z};
 ghost use Rattle.std.specs.Int.{w64};
 ghost use Rattle.meaning.specs.Number.{seconds_of};
 
 // a string's number, in the strings' order
-#[derive(Drop)]
+#[derive(Clone, Copy)]
 pub struct StrNo(pub u32);
 
 // a value's number
-#[derive(Drop)]
+#[derive(Clone, Copy)]
 pub struct ValNo(pub u32);
 
 // a node's number
-#[derive(Drop)]
+#[derive(Clone, Copy)]
 pub struct NodeNo(pub u32);
 
 // a run of a table: its first record, and how many items
-#[derive(Drop)]
+#[derive(Clone, Copy)]
 pub struct Run {
     pub first: u32,
     pub count: u32,
 }
 
-#[derive(Drop)]
+#[derive(Clone, Copy)]
 pub enum TimeUnit {
     Seconds,
     Minutes,
@@ -55,21 +57,21 @@ impl TimeUnit {
 }
 
 // a window's length: the 64 bits of a signed amount, and its unit
-#[derive(Drop)]
+#[derive(Clone, Copy)]
 pub struct Interval {
     pub amount: u64,
     pub unit: TimeUnit,
 }
 
 // where a time lies, seen from another: in the window, before it, or later than the time seen from
-#[derive(Drop)]
+#[derive(Clone, Copy)]
 pub enum Window {
     Inside,
     TooOld,
     Later,
 }
 
-#[derive(Drop)]
+#[derive(Clone, Copy)]
 pub enum CmpOp {
     Le,
     Lt,
@@ -79,21 +81,21 @@ pub enum CmpOp {
     NotEq,
 }
 
-#[derive(Drop)]
+#[derive(Clone, Copy)]
 pub enum ArithOp {
     Add,
     Sub,
     Mul,
 }
 
-#[derive(Drop)]
+#[derive(Clone, Copy)]
 pub enum Root {
     Principal,
     Resource,
 }
 
 // conditions, terms, aggregates; Broken is what no checked case has
-#[derive(Drop)]
+#[derive(Clone, Copy)]
 pub enum Node {
     And(NodeNo, NodeNo),
     Or(NodeNo, NodeNo),
@@ -130,28 +132,28 @@ pub enum Node {
 }
 
 // a variable's two cells: 0,0 unbound; 1 and an integer's bits; 2 and a value's number; 3 and a string's number
-#[derive(Drop)]
+#[derive(Clone, Copy)]
 pub struct Binding {
     pub tag: u64,
     pub bits: u64,
 }
 
 // the bindings in force: a slot for each variable, of which the case has `count`
-#[derive(Drop)]
+#[derive(Clone, Copy)]
 pub struct Env {
     pub slots: [Binding; 16],
     pub count: usize,
 }
 
 // the most steps that a call may spend, and the most rows that it may hold
-#[derive(Drop)]
+#[derive(Clone, Copy)]
 pub struct Limits {
     pub steps: u64,
     pub room: usize,
 }
 
 // steps spent, rows held now, the greatest number of rows held
-#[derive(Drop)]
+#[derive(Clone, Copy)]
 pub struct Meter {
     pub steps: u64,
     pub held: usize,
@@ -159,7 +161,7 @@ pub struct Meter {
 }
 
 // what UTF-8 wants after the bytes so far
-#[derive(Drop)]
+#[derive(Clone, Copy)]
 pub enum Due {
     Nothing,
     One,
@@ -173,7 +175,7 @@ pub enum Due {
 }
 
 // what a call says no with, in the order of their numbers
-#[derive(Drop)]
+#[derive(Clone, Copy)]
 pub enum Refusal {
     BadContents,
     TooLarge,

@@ -1,4 +1,7 @@
 // Refusal 6: nodes, and their height.
+
+#![tactic(auto)]
+
 ghost use Rattle.std.specs.Prelude.{◌≡◌, Bool, true, ◌+◌, ◌*◌, ◌<◌, ◌≤◌, max, leb, get_or};
 ghost use Rattle.meaning.specs.Tests.{◌and◌, all_below, greatest};
 ghost use Rattle.meaning.specs.Case.{list, nodes, values, node_word, node_at, arity, child};

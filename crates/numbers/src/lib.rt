@@ -1,4 +1,7 @@
 // Signed 64-bit numbers, units and windows, and decimals: each function equal to its definition.
+
+#![tactic(auto)]
+
 mod decimals;
 mod integers;
 
@@ -6,7 +9,7 @@ pub use decimals::{cedar_decimal_value, decimal_eq};
 pub use integers::{calculate, ordered, seconds, window};
 
 // what a text reads as: the 64 bits of the number scaled by 10,000
-#[derive(Drop)]
+#[derive(Clone, Copy)]
 pub enum Decimal {
     Scaled(u64),
     NotDecimal,

@@ -1,4 +1,7 @@
 // 7 to 10: what is against a call of a checked case, or what its walk starts with.
+
+#![tactic(auto)]
+
 mod start;
 
 ghost use Rattle.std.specs.Prelude.{◌≡◌, Bool, not, ◌≤◌};
@@ -12,21 +15,21 @@ use start::start_env;
 use stringcheck::point_count;
 
 // the nodes that a call is about
-#[derive(Drop)]
+#[derive(Clone, Copy)]
 pub enum Wanted {
     Answerable,
     Condition,
     LooksBack,
 }
 
-#[derive(Drop)]
+#[derive(Clone, Copy)]
 pub enum Against {
     Nothing,
     Refused(Refusal),
 }
 
 // what is against a call; where nothing is, the environment, what stays the same during the walk, and its cells of the workspace
-#[derive(Drop)]
+#[derive(Clone, Copy)]
 pub struct Opening {
     pub against: Against,
     pub env: Env,

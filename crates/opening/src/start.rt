@@ -11,7 +11,7 @@ use stringcheck::{string_count, value_count, var_count};
 use tables::Value;
 
 // an environment, if the cells are well formed and just so many
-#[derive(Drop)]
+#[derive(Clone, Copy)]
 pub struct Start {
     pub ok: bool,
     pub env: Env,

@@ -1,4 +1,7 @@
 // Refusal 5: points and entities.
+
+#![tactic(auto)]
+
 ghost use Rattle.std.specs.Prelude.{◌≡◌, Bool, true, ◌+◌, ◌*◌, ◌<◌};
 ghost use Rattle.meaning.specs.Tests.{◌and◌, all_below};
 ghost use Rattle.meaning.specs.Case.{text};

@@ -1,4 +1,7 @@
 // The numbers of the refusals, for those who print or return one.
+
+#![tactic(auto)]
+
 ghost use Rattle.std.specs.Prelude.{◌≡◌, ◌<◌};
 ghost use Rattle.meaning.specs.Calls.{number_of};
 

@@ -11,7 +11,7 @@ pub fn take(list: i32, buf: &mut [u8], n: usize) -> bool
     got == n
 }
 
-#[derive(Drop)]
+#[derive(Clone, Copy)]
 pub enum Taken {
     Word(u32),
     Nothing,
@@ -26,7 +26,7 @@ pub fn take_word(list: i32) -> Taken {
 }
 
 // whether the list has three words, and how many cases and calls the first two count
-#[derive(Drop)]
+#[derive(Clone, Copy)]
 pub struct Header {
     pub whole: bool,
     pub cases: u32,

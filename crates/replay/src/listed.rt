@@ -6,7 +6,7 @@ use tables::packed::{cell, word};
 use tables::wide;
 
 // what is asked, how long its lists and buffers are, the refusal expected (0 for none), and how many cells of workspace and output the call clears and fills
-#[derive(Drop)]
+#[derive(Clone, Copy)]
 pub struct Listed {
     pub kind: usize,
     pub point: usize,

@@ -1,4 +1,7 @@
 // Puts every call of the judge's list (docs/JUDGE-LIST.md) to the three public calls, and says how many answer otherwise than listed.
+
+#![tactic(auto)]
+
 mod ask;
 mod buffers;
 mod input;

@@ -5,7 +5,7 @@ use casecheck::Checking;
 use meaning::{Limits, NodeNo, Refusal};
 
 // a refusal's number or 0, the answer's 64 bits, steps spent, greatest number of rows held, and 1 where the answer is a number
-#[derive(Drop)]
+#[derive(Clone, Copy)]
 pub struct Said {
     pub refusal: usize,
     pub answer: u64,

@@ -2,7 +2,7 @@
 ghost use Rattle.std.specs.Prelude.{◌<◌};
 
 // whether all of the list so far could be read, how many cases and calls there were; by kind of call and by refusal, how many calls were compared and how many differ
-#[derive(Drop)]
+#[derive(Clone, Copy)]
 pub struct Tally {
     pub whole: bool,
     pub cases: u64,

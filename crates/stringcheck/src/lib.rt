@@ -1,4 +1,7 @@
 // Refusals 1 to 3: contents and bodies, mosts, strings; and what later rules ask of strings.
+
+#![tactic(auto)]
+
 ghost use Rattle.std.specs.Prelude.{◌≡◌, Bool, true, false, ◌+◌, ◌<◌, ◌≤◌, max, length, get_or};
 ghost use Rattle.meaning.specs.Tests.{all_below, choose, greatest};
 ghost use Rattle.meaning.specs.Text.{before, free, utf8, first, follow, next, ended};

@@ -1,4 +1,7 @@
 // Sums of signed numbers, exact in two halves, clamped once.
+
+#![tactic(auto)]
+
 ghost use Rattle.std.specs.Prelude.{◌≡◌, ◌<◌, ◌≤◌};
 ghost use Rattle.std.proofs.Common.{to_z};
 ghost use Rattle.std.specs.Int.{w64};
@@ -6,7 +9,7 @@ ghost use Rattle.meaning.specs.Number.{clamp};
 ghost use Rattle.sums.specs.Halves.{value_of, Adds};
 
 // two halves: the upper one is 2^20 above what it stands for, so that it stays above 0
-#[derive(Drop)]
+#[derive(Clone, Copy)]
 pub struct Wide {
     pub lo: u64,
     pub hi: u64,

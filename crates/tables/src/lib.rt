@@ -1,4 +1,7 @@
 // Reading a case file: words, the contents, records, text, nodes and values. Reads are total: beyond a table's end they give what the definition gives.
+
+#![tactic(auto)]
+
 pub mod packed;
 
 ghost use Rattle.std.specs.Prelude.{◌≡◌, Bool, true, ◌+◌, ◌*◌, ◌<◌, ◌≤◌, length, get_or};
@@ -335,7 +338,7 @@ pub fn time_at(s: &[u8], p: usize) -> u64
 // ---- values
 
 // what a value's record says: an Int by its 64 bits, an Array's or Object's parts as a run of the members
-#[derive(Drop)]
+#[derive(Clone, Copy)]
 pub enum Value {
     Null,
     Bool(u32),

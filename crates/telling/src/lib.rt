@@ -1,4 +1,7 @@
 // Writes what a call said into the cells that a caller lends, and gives the number to return.
+
+#![tactic(auto)]
+
 ghost use Rattle.std.specs.Prelude.{◌≡◌, [], ◌∷◌, ◌++◌, ◌≤◌, length, drop};
 ghost use Rattle.meaning.specs.Calls.{number_of};
 ghost use Rattle.calls.specs.Promises.{as_answer, as_carried, as_rows};
@@ -15,7 +18,7 @@ use jsontrace::{Exported, Imported};
 use meaning::Refusal;
 
 // the number to return, and the four cells
-#[derive(Drop)]
+#[derive(Clone, Copy)]
 pub struct Telling {
     pub number: u64,
     pub answer: u64,

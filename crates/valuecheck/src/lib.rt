@@ -1,4 +1,7 @@
 // Refusal 4: members and values; and what later rules ask of values. Runs of members may overlap, so they are read by blocks of 512.
+
+#![tactic(auto)]
+
 ghost use Rattle.std.specs.Prelude.{◌≡◌, Bool, true, false, ◌+◌, ◌*◌, ◌/◌, ◌<◌, ◌≤◌, max, get_or};
 ghost use Rattle.meaning.specs.Tests.{◌and◌, all_below, greatest};
 ghost use Rattle.meaning.specs.Case.{values, members, member_word};

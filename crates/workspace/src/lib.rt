@@ -1,4 +1,7 @@
 // The cells that a caller lends: cleared when a call is done with them.
+
+#![tactic(auto)]
+
 ghost use Rattle.std.specs.Prelude.{◌≡◌, ◌≤◌, length};
 ghost use Rattle.meaning.specs.Calls.{cleared};
 

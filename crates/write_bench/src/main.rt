@@ -1,4 +1,7 @@
 // Writes the bench case of data/unsorted.bin and its marks twice. Into an output that has room: says whether what is written passes the check and is data/bench.bin byte for byte. Into one that is a byte short: says the refusal, and whether the output is as it was.
+
+#![tactic(auto)]
+
 ghost use Rattle.std.specs.Prelude.{◌≡◌, length};
 ghost use Rattle.io.specs.Counts.{IsPrefixLen};
 

@@ -1,4 +1,7 @@
 // A case written over a lent output: bodies in their order from past the contents on, contents last. `Writer` holds the output and the next place; each function over it takes it apart and leaves the work to one on a plain slice.
+
+#![tactic(auto)]
+
 ghost use Rattle.std.specs.Prelude.{◌≡◌, ◌+◌, take};
 ghost use Rattle.meaning.specs.Case.{size, body};
 ghost use Rattle.encode.specs.Write.{over};
@@ -7,7 +10,7 @@ ghost use Rattle.writer.specs.Put.{put, Fits, appended, Starts, Whole};
 use encode::copy_at;
 use tables::{offset_of, size_of, wide};
 
-#[derive(Drop)]
+#[derive(Clone, Copy)]
 pub struct Writer<'a> {
     pub out: &'a mut [u8],
     pub at: usize,

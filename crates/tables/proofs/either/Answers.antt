@@ -2,8 +2,7 @@
 use mathlib.Core.Path.{◌≡◌}
 use mathlib.Core.Bool.{Bool, true, false}
 use Rattle.meaning.specs.Tests.{◌or◌}
-use Rattle.tables.proofs.either.Statement.{statement}
-use Rattle.tables.proofs.either.Tie as tie
+use Rattle.tables.proofs.either.Goals as goal
 
 first : (a b : Bool) → a ≡ true → true ≡ (a or b)
 unfolding ◌or◌
@@ -13,11 +12,8 @@ second : (a b : Bool) → a ≡ false → b ≡ (a or b)
 unfolding ◌or◌
 second a b e = rw e
 
-returns : tie.Need-returns
-returns c = first _ _ c.if1.true
+pub returns-then-a : goal.returns-then-a
+returns-then-a c = first _ _ c.if-a.true
 
-returns-2 : tie.Need-returns-2
-returns-2 c = second _ _ c.if1.false
-
-pub either-spec : {M : Type 1} → statement M
-either-spec = tie.close (tie.spec returns returns-2)
+pub returns-else-a : goal.returns-else-a
+returns-else-a c = second _ _ c.if-a.false

@@ -1,0 +1,10 @@
+use Rattle.std.proofs.Common.{rules}
+use native.Mathlib.Omega.{arith}
+use Rattle.numbers.proofs.Reading.{digit-fits}
+use Rattle.numbers.proofs.decimals.digit.Goals as goal
+
+pub overflow_sub-result : goal.overflow_sub-result
+overflow_sub-result c = omega (arith, digit-fits c.args.b c.requires)
+
+pub returns : goal.returns
+returns c = (search rules, omega (arith, digit-fits c.args.b c.requires))

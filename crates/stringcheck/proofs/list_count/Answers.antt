@@ -1,0 +1,7 @@
+-- How many words the lists have
+use Rattle.std.proofs.Common.{rules}
+use Rattle.laws.specs.Bodies.{long}
+use Rattle.stringcheck.proofs.list_count.Goals as goal
+
+pub size_of-requires : goal.size_of-requires
+size_of-requires c = search (long, rules)

@@ -1,7 +1,7 @@
 -- RFC 8259, section 7: strings; readings J7 and J10
 use Rattle.std.specs.Prelude.{Bool, true, false, List, [], ◌∷◌, ◌++◌, ℕ, zero, suc, ◌+◌, ◌*◌, ◌-◌, ◌/◌, ◌%◌, eqb, ltb, length}
 use Rattle.std.proofs.Math.Option.{Option, none, some}
-use Rattle.meaning.specs.Tests.{◌and◌, ◌or◌, choose, only_if, or_else, within}
+use Rattle.meaning.specs.Tests.{◌and◌, choose, only_if, or_else, within}
 use Rattle.meaning.specs.Text.{next, ended}
 use Rattle.meaning.specs.declared.Due.{Due}
 use Rattle.meaning.specs.declared.Due.TheVariants.{Nothing, One, Two, Three, AfterE0, AfterEd, AfterF0, AfterF4, Wrong}

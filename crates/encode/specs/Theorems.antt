@@ -10,7 +10,7 @@ use Rattle.std.proofs.Math.Dec.{leb}
 use borrow.Author.Tests.{eq-eqb, le-leb}
 use Rattle.meaning.specs.declared.Refusal.TheVariants.{BadStrings, BadValues, BadPoints, BadNodes, OutputTooShort}
 use Rattle.meaning.specs.Tests.{◌and◌, choose, only_if, or_else, first_broken, all_below}
-use Rattle.meaning.specs.Case.{size, body_word, text, vars, strings, points, nodes, lists}
+use Rattle.meaning.specs.Case.{size, body_word, strings, points, nodes, lists}
 use Rattle.meaning.specs.Check.{check, Checked, bodies, mosts, string_rules, value_rules, point_rules, node_rules}
 use Rattle.laws.specs.Tests.{both, pass, after, yes, unbroken}
 use Rattle.laws.specs.Checked.{rules, checked-bodies}

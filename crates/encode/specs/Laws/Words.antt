@@ -1,5 +1,5 @@
 -- Words packed and read again
-use Rattle.std.specs.Prelude.{◌≡◌, refl, List, [], ◌∷◌, ◌++◌, ℕ, ◌+◌, ◌*◌, ◌/◌, ◌%◌, length}
+use Rattle.std.specs.Prelude.{◌≡◌, refl, List, [], ◌∷◌, ◌++◌, ℕ, ◌*◌, ◌/◌, ◌%◌, length}
 use Rattle.std.proofs.Common.{arith}
 use Rattle.meaning.specs.Case.{word, words}
 use Rattle.encode.specs.Words.{packed}

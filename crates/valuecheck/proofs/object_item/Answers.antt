@@ -1,6 +1,6 @@
 -- An item of an object: a name after the one before it, and a lower value
+use Rattle.std.proofs.Common.{rules}
 use Prim.Native.Nat.{◌+◌, ◌-◌, ◌<◌, ◌≤◌, suc, zero, ℕ}
-use borrow.Author.Rules.{rules}
 use borrow.Author.Tests.{le-ltb, lt-ltb}
 use lib.Dec.{ltb}
 use mathlib.Core.Bool.{false, true}
@@ -11,8 +11,7 @@ use Rattle.meaning.specs.Case.{member_word, strings}
 use Rattle.meaning.specs.Check.{object_item}
 use Rattle.laws.specs.Tests.{after, pass, skip, stop}
 use Rattle.meaning.specs.Tests.{◌and◌, rises}
-use Rattle.valuecheck.proofs.object_item.Statement.{statement}
-use Rattle.valuecheck.proofs.object_item.Tie as tie
+use Rattle.valuecheck.proofs.object_item.Goals as goal
 
 module _ (s : List ℕ) (v : ℕ) {first i f j n : ℕ} (ef : f ≡ first) (ej : j ≡ i) (en : n ≡ member_word s (f + j) 0) {k : ℕ} (ek : k ≡ strings s) where
   no-string : k ≤ n → false ≡ object_item s v first i
@@ -38,55 +37,14 @@ rising s v {first = first} {i = suc i} {f = f} {j = j} e ef ej en ek eh lk lh z 
     let q : f + j - 1 ≡ first + i = omega arith in
     rw (e, en, q, ef, ej) (sym (after (own s v ef ej en ek eh lk lh)))
 
-wide-requires : tie.Need-wide-requires
-wide-requires c κs = search rules
+pub returns-then-string_count-name : goal.returns-then-string_count-name
+returns-then-string_count-name c = search (no-string, rules)
 
-wide-requires-2 : tie.Need-wide-requires-2
-wide-requires-2 c κs = search rules
+pub returns-then-v-member_word : goal.returns-then-v-member_word
+returns-then-v-member_word c = search (not_lower, rules)
 
-add_at : tie.Need-overflow-add-at
-add_at c = search rules
+pub returns-then-i-eq0 : goal.returns-then-i-eq0
+returns-then-i-eq0 c = search (at_first, rules)
 
-member-word-requires : tie.Need-member-word-requires
-member-word-requires c κs = search rules
-
-string-count-requires : tie.Need-string-count-requires
-string-count-requires c κs = search rules
-
-returns : tie.Need-returns
-returns c = search (no-string, rules)
-
-member-word-requires-2 : tie.Need-member-word-requires-2
-member-word-requires-2 c κs = search rules
-
-returns-2 : tie.Need-returns-2
-returns-2 c = search (not_lower, rules)
-
-returns-3 : tie.Need-returns-3
-returns-3 c = search (at_first, rules)
-
-sub-member-word : tie.Need-overflow-sub-member-word
-sub-member-word c = search rules
-
-member-word-requires-3 : tie.Need-member-word-requires-3
-member-word-requires-3 c κs = search rules
-
-returns-4 : tie.Need-returns-4
-returns-4 c = search (rising, rules)
-
-pub object-item-spec : {M : Type 1} → statement M
-object-item-spec =
-    tie.close
-    (tie.spec
-    wide-requires
-    wide-requires-2
-    add_at
-    member-word-requires
-    string-count-requires
-    returns
-    member-word-requires-2
-    returns-2
-    returns-3
-    sub-member-word
-    member-word-requires-3
-    returns-4)
+pub returns : goal.returns
+returns c = search (rising, rules)

@@ -1,0 +1,13 @@
+-- An object's run lies in its table, and its items pass
+use Rattle.std.proofs.Common.{rules}
+use Rattle.valuecheck.proofs.Parts.{run_past, run_inside, run_fits}
+use Rattle.valuecheck.proofs.object_run.Goals as goal
+
+pub returns-then-wide : goal.returns-then-wide
+returns-then-wide c = search (run_past, rules)
+
+pub object_items-requires : goal.object_items-requires
+object_items-requires c = search (run_fits, rules)
+
+pub returns : goal.returns
+returns c = search (run_inside, rules)

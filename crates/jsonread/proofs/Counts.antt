@@ -7,7 +7,7 @@ use native.Mathlib.Omega.{arith}
 use lib.Dec.{eqb, leb, ltb}
 use lib.ListN.{length, drop, get_or, length-drop, drop_of_length-le}
 use borrow.Author.Tests.{eq-eqb, ne_eqb, lt-ltb, le-ltb, le-leb, lt-leb, leb-true, leb-false, ltb-true, ltb-false, not-true, not-false}
-use Rattle.meaning.specs.Tests.{◌and◌, ◌or◌, choose}
+use Rattle.meaning.specs.Tests.{◌or◌, choose}
 use Rattle.laws.specs.Tests.{both, yes, no as otherwise}
 use Rattle.meaning.specs.Equal.{is_digit}
 use Rattle.jsontext.specs.declared.Fault.{Fault}

@@ -8,7 +8,7 @@ use native.Mathlib.Omega.{arith}
 use lib.Dec.{eqb, leb, ltb}
 use lib.ListN.{length, drop, get_or, length-drop, drop_of_length-le}
 use borrow.Author.Tests.{eq-eqb, ne_eqb, lt-ltb, le-ltb, le-leb, lt-leb, leb-true, not-true, not-false}
-use Rattle.meaning.specs.Tests.{◌and◌, ◌or◌, choose, only_if, or_else}
+use Rattle.meaning.specs.Tests.{◌and◌, choose, only_if, or_else}
 use Rattle.laws.specs.Tests.{both, yes, no as otherwise}
 use Rattle.jsontext.specs.declared.Fault.TheVariants.{NotJson}
 use Rattle.jsontext.specs.Reading.{Read, got, fault, then, no, want, or_wrong}

@@ -2,7 +2,7 @@
 
 #![tactic(auto)]
 
-ghost use Rattle.std.specs.Prelude.{◌≤◌, length, IfOk};
+ghost use Rattle.std.specs.Prelude.{◌≤◌, length, IfOk, IfSome};
 
 use std::fs::File;
 use std::io;
@@ -24,18 +24,23 @@ pub fn read_full<R: Read>(input: &mut R, buf: &mut [u8]) -> io::Result<usize>
     Ok(done)
 }
 
-// as much of a file as there is room for: how many bytes; 0 where there is no such file, which standard error tells
-pub fn load<R: Files + Eprint>(rt: &R, path: &str, buf: &mut [u8]) -> io::Result<usize>
+// as much of a file as there is room for: how many bytes
+pub fn read_file<R: Files>(rt: &R, path: &str, buf: &mut [u8]) -> io::Result<usize>
     ensures { IfOk result (λ n. n ≤ length buf.new) }
 {
-    match File::open(rt, path) {
-        Ok(file) => {
-            let mut file = file;
-            read_full(&mut file, buf)
-        }
+    let mut file = File::open(rt, path)?;
+    read_full(&mut file, buf)
+}
+
+// the same; where the file cannot be read, nothing, and a line on standard error says why
+pub fn load<R: Files + Eprint>(rt: &R, path: &str, buf: &mut [u8]) -> io::Result<Option<usize>>
+    ensures { IfOk result (λ o. IfSome o (λ n. n ≤ length buf.new)) }
+{
+    match read_file(rt, path, buf) {
+        Ok(n) => Ok(Some(n)),
         Err(error) => {
             eprintln!(rt; "{path}: {error}")?;
-            Ok(0)
+            Ok(None)
         }
     }
 }

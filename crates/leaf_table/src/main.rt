@@ -7,24 +7,18 @@ mod print;
 mod replay;
 mod turns;
 
-fn main() {
-    let path = b"equalities.bin";
-    let file = os::open_read(path);
-    if file < 0 {
-        os::fail(path);
-        return;
-    }
+use std::io;
+
+fn main(rt: HostRuntime) -> io::Result<()> {
     let mut list = [0u8; 8192];
-    let got = libc::read(file, &mut list);
-    libc::close(file);
-    if got < 0 {
-        os::fail(path);
-        return;
+    match intake::load(&rt, "equalities.bin", &mut list)? {
+        None => Ok(()),
+        Some(n) => {
+            case::replay_case(&rt, &list[..n])?;
+            turns::windows(&rt)?;
+            turns::units(&rt)?;
+            turns::sums(&rt)?;
+            turns::orders(&rt)
+        }
     }
-    let n = io::count(got, &list);
-    case::replay_case(&list[..n]);
-    turns::windows();
-    turns::units();
-    turns::sums();
-    turns::orders();
 }

@@ -1,29 +1,22 @@
 // Lines of text and numbers.
+use std::io;
 
-pub fn text(t: &[u8]) {
-    io::write_all(1, t);
+pub fn text(rt: &impl Print, t: &str) -> io::Result<()> {
+    rt.print(t)
 }
 
-pub fn count(t: &[u8], n: usize) {
-    text(t);
-    io::print_decimal(1, n as u64);
-    text(b"\n");
+pub fn count(rt: &impl Print, t: &str, n: usize) -> io::Result<()> {
+    println!(rt; "{t}{n}")
 }
 
-pub fn answer(yes: bool) {
+pub fn answer(rt: &impl Print, yes: bool) -> io::Result<()> {
     if yes {
-        text(b"yes\n");
-        return;
+        return text(rt, "yes\n");
     }
-    text(b"no\n");
+    text(rt, "no\n")
 }
 
 // the 64 bits of a signed number
-pub fn signed(bits: u64) {
-    if bits < 9223372036854775808 {
-        io::print_decimal(1, bits);
-        return;
-    }
-    text(b"-");
-    io::print_decimal(1, 18446744073709551615 - bits + 1);
+pub fn signed(rt: &impl Print, bits: u64) -> io::Result<()> {
+    rt.print(bits.cast_signed())
 }

@@ -4,6 +4,7 @@ ghost use Rattle.meaning.specs.Check.{Checked};
 use crate::print::count;
 use meaning::{StrNo, ValNo};
 use numbers::Decimal;
+use std::io;
 use tables::packed::{byte, word};
 use tables::{halves, wide};
 
@@ -112,23 +113,24 @@ fn pairs<'a>(s: &'a [u8], list: &'a [u8], first: usize, n: u32) -> Tally
     p
 }
 
-pub fn replay<'a>(s: &'a [u8], list: &'a [u8])
+pub fn replay<'a>(rt: &impl Print, s: &'a [u8], list: &'a [u8]) -> io::Result<()>
     requires { Checked s.now }
 {
     let length = wide(word(list, 0));
-    count(b"bytes of the list's case: ", length);
-    count(b"of them as here: ", same_bytes(s, list));
+    count(rt, "bytes of the list's case: ", length)?;
+    count(rt, "of them as here: ", same_bytes(s, list))?;
     let start = 1 + (length + 3) / 4;
     let strings = word(list, start);
-    count(b"texts read as decimals: ", wide(strings));
+    count(rt, "texts read as decimals: ", wide(strings))?;
     count(
-        b"of them as the Rust reads them: ",
+        rt,
+        "of them as the Rust reads them: ",
         readings(s, list, start + 1, strings),
-    );
+    )?;
     let values = start + 1 + 3 * wide(strings);
-    count(b"pairs of values: ", wide(word(list, values)));
+    count(rt, "pairs of values: ", wide(word(list, values)))?;
     let p = pairs(s, list, 4 * (values + 1), tables::size_of(s, 1) / 16);
-    count(b"of them as the Rust compares them: ", p.same);
-    count(b"as bindings: ", p.bound);
-    count(b"equal: ", p.equal);
+    count(rt, "of them as the Rust compares them: ", p.same)?;
+    count(rt, "as bindings: ", p.bound)?;
+    count(rt, "equal: ", p.equal)
 }

@@ -1,5 +1,5 @@
 -- A run of variables
-use borrow.Author.Rules.{rules}
+use Rattle.std.proofs.Common.{rules}
 use mathlib.Core.Path.{◌∙◌, refl, ◌≡◌}
 use Rattle.meaning.specs.Check.{variable_run, in_table}
 use Prim.Native.Nat.{ℕ, ◌+◌}
@@ -8,21 +8,11 @@ use mathlib.Core.List.{List}
 use lib.Dec.{ltb}
 use Rattle.meaning.specs.Tests.{◌and◌, all_below}
 use Rattle.meaning.specs.Case.{vars, lists, list}
-use Rattle.listruns.proofs.variable_run.Statement.{statement}
-use Rattle.listruns.proofs.variable_run.Tie as tie
+use Rattle.listruns.proofs.variable_run.Goals as goal
 
 bound-read : (s : List ℕ) (first items : ℕ) {k : ℕ} {r : Bool} → k ≡ vars s → r ≡ (in_table (lists s) 1 first items and all_below items (λ x. ltb (list s (first + x)) k)) → r ≡ variable_run s first items
 unfolding variable_run
 bound-read s first items f e = e ∙ rw f refl
 
-var-count-requires : tie.Need-var-count-requires
-var-count-requires c κs = search rules
-
-below-run-requires : tie.Need-below-run-requires
-below-run-requires c κs = search rules
-
-returns : tie.Need-returns
+pub returns : goal.returns
 returns c = search (bound-read, rules)
-
-pub variable-run-spec : {M : Type 1} → statement M
-variable-run-spec = tie.close (tie.spec var-count-requires below-run-requires returns)

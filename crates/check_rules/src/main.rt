@@ -5,7 +5,7 @@
 ghost use Rattle.std.specs.Prelude.{◌≡◌, ◌<◌, length};
 
 use casecheck::{Checking, check};
-use libc::STDOUT_FILENO;
+use std::io;
 use tables::{wide, word_at};
 
 // what the check says of a file: 0 where it passes
@@ -23,36 +23,33 @@ fn differs(answer: usize, expected: usize) -> u64 {
     if answer == expected { 0 } else { 1 }
 }
 
-fn print_count(refusal: u64, files: u64) {
-    io::print_decimal(STDOUT_FILENO, refusal);
-    io::write_all(STDOUT_FILENO, b" ");
-    io::print_decimal(STDOUT_FILENO, files);
-    io::write_all(STDOUT_FILENO, b"\n");
+fn print_count(rt: &impl Print, refusal: u64, files: u64) -> io::Result<()> {
+    println!(rt; "{refusal} {files}")
 }
 
-fn report(counts: [u64; 16], files: u64, listed: u64, wrong: u64) {
-    io::write_all(STDOUT_FILENO, b"refusal files\n");
-    print_count(0, counts[0]);
-    print_count(1, counts[1]);
-    print_count(2, counts[2]);
-    print_count(3, counts[3]);
-    print_count(4, counts[4]);
-    print_count(5, counts[5]);
-    print_count(6, counts[6]);
-    io::write_all(STDOUT_FILENO, b"files ");
-    io::print_decimal(STDOUT_FILENO, files);
-    io::write_all(STDOUT_FILENO, b" of ");
-    io::print_decimal(STDOUT_FILENO, listed);
-    io::write_all(STDOUT_FILENO, b", other than listed ");
-    io::print_decimal(STDOUT_FILENO, wrong);
-    io::write_all(STDOUT_FILENO, b"\n");
+fn report(
+    rt: &impl Print,
+    counts: [u64; 16],
+    files: u64,
+    listed: u64,
+    wrong: u64,
+) -> io::Result<()> {
+    println!(rt; "refusal files")?;
+    print_count(rt, 0, counts[0])?;
+    print_count(rt, 1, counts[1])?;
+    print_count(rt, 2, counts[2])?;
+    print_count(rt, 3, counts[3])?;
+    print_count(rt, 4, counts[4])?;
+    print_count(rt, 5, counts[5])?;
+    print_count(rt, 6, counts[6])?;
+    println!(rt; "files {files} of {listed}, other than listed {wrong}")
 }
 
 // a list: how many files; then of each what the check must say, its length, its bytes, and zeros up to a whole word
-fn check_all(list: &[u8]) {
+fn check_all(rt: &impl Print, list: &[u8]) -> io::Result<()> {
     let words = list.len() / 4;
     if words == 0 {
-        return;
+        return Ok(());
     }
     let mut counts = [0u64; 16];
     let mut files: u64 = 0;
@@ -63,7 +60,7 @@ fn check_all(list: &[u8]) {
         let size = wide(word_at(list, at + 1));
         let start = 4 * (at + 2);
         if list.len() - start < size {
-            return;
+            return Ok(());
         }
         let end = start + size;
         let answer = answer_number(&list[start..end]);
@@ -72,7 +69,7 @@ fn check_all(list: &[u8]) {
         wrong = std::num::wrapping_add_u64(wrong, differs(answer, expected));
         at += 2 + (size + 3) / 4;
     }
-    report(counts, files, word_at(list, 0) as u64, wrong);
+    report(rt, counts, files, word_at(list, 0) as u64, wrong)
 }
 
 // room for the list; the promise of its length is for lending it
@@ -82,15 +79,10 @@ fn room() -> [u8; 589824]
     [0; 589824]
 }
 
-fn main() {
-    let path = b"rule-files.bin";
-    let file = os::open_read(path);
-    if file < 0 {
-        os::fail(path);
-        return;
-    }
+fn main(rt: HostRuntime) -> io::Result<()> {
     let mut list = room();
-    let n = io::read_full(file, &mut list);
-    libc::close(file);
-    check_all(&list[..n]);
+    match intake::load(&rt, "rule-files.bin", &mut list)? {
+        Some(n) => check_all(&rt, &list[..n]),
+        None => Ok(()),
+    }
 }

@@ -4,17 +4,14 @@ use mathlib.Core.Bool.{Bool, true, false}
 use mathlib.Core.List.{List}
 use Prim.Native.Nat.{ℕ, ◌+◌, ◌-◌, ◌/◌, ◌<◌, ◌≤◌}
 use native.Mathlib.Omega.{arith}
-use lib.Dec.{ltb, eqb}
-use lib.ListN.{length, drop, get_or}
+use lib.Dec.{ltb}
+use lib.ListN.{length, get_or}
 use borrow.Author.Tests.{ltb-true, ltb-false}
-use Rattle.jsontext.specs.Reading.{got}
-use Rattle.jsontext.specs.Strings.{string}
 use Rattle.jsonread.specs.declared.names.Order.{Order}
 use Rattle.jsonread.specs.declared.names.Order.TheVariants.{Less, Same, More}
 use Rattle.jsonread.specs.Spelling.{order_of, OrderTold}
-use Rattle.jsonnames.specs.declared.Place.{Place}
 use Rattle.jsonnames.specs.declared.Place.TheVariants.{There, Before}
-use Rattle.jsonnames.specs.Sorted.{Spells, Named, Rises, Holds, FindTold}
+use Rattle.jsonnames.specs.Sorted.{Spells, Named, Rises, FindTold}
 use Rattle.jsonnames.proofs.Order.{order-equal, order_flip, order-on}
 
 pub spells_one : {line : List ℕ} {p : ℕ} {m n : List ℕ} → Spells line p m → Spells line p n → m ≡ n

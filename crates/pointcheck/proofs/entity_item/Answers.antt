@@ -1,6 +1,6 @@
 -- An item of a run of entities: its own rule, and that it comes after the one before
+use Rattle.std.proofs.Common.{rules}
 use Prim.Native.Nat.{◌*◌, ◌+◌, ◌-◌, suc, zero, ℕ}
-use borrow.Author.Rules.{rules}
 use mathlib.Core.Bool.{Bool, false, not, true}
 use mathlib.Core.List.{List}
 use mathlib.Core.Path.{◌∙◌, ◌≡◌, refl, sym}
@@ -8,8 +8,7 @@ use native.Mathlib.Omega.{arith}
 use Rattle.meaning.specs.Check.{entity_before, entity_item, entity_rule}
 use Rattle.laws.specs.Tests.{after, pass, said, fails-here}
 use Rattle.meaning.specs.Tests.{rises}
-use Rattle.pointcheck.proofs.entity_item.Statement.{statement}
-use Rattle.pointcheck.proofs.entity_item.Tie as tie
+use Rattle.pointcheck.proofs.entity_item.Goals as goal
 
 module _ (s : List ℕ) {first i f j : ℕ} {r : Bool} (er : r ≡ entity_rule s (f + 3 * j)) (ef : f ≡ first) (ej : j ≡ i) where
   own : r ≡ entity_rule s (first + 3 * i)
@@ -31,47 +30,11 @@ later s {first = first} {i = suc i} {f = f} {j = j} b er ef ej n z =
     let q : f + 3 * j ≡ first + 3 * suc i = omega arith in
     b ∙ rw (p, q) (sym (after (said n (own s er ef ej))))
 
-wide-requires : tie.Need-wide-requires
-wide-requires c κs = search rules
+pub returns-then-not-entity_rule : goal.returns-then-not-entity_rule
+returns-then-not-entity_rule c = search (broken, rules)
 
-wide-requires-2 : tie.Need-wide-requires-2
-wide-requires-2 c κs = search rules
+pub returns-then-i-eq0 : goal.returns-then-i-eq0
+returns-then-i-eq0 c = search (at_first, rules)
 
-mul_at : tie.Need-overflow-mul-at
-mul_at c = search rules
-
-add_at : tie.Need-overflow-add-at
-add_at c = search rules
-
-entity-rule-requires : tie.Need-entity-rule-requires
-entity-rule-requires c κs = (search rules, (search rules, (search rules, search rules)))
-
-returns : tie.Need-returns
-returns c = search (broken, rules)
-
-returns-2 : tie.Need-returns-2
-returns-2 c = search (at_first, rules)
-
-sub-entity-before : tie.Need-overflow-sub-entity-before
-sub-entity-before c = search rules
-
-entity-before-requires : tie.Need-entity-before-requires
-entity-before-requires c κs = search rules
-
-returns-3 : tie.Need-returns-3
-returns-3 c = search (later, rules)
-
-pub entity-item-spec : {M : Type 1} → statement M
-entity-item-spec =
-    tie.close
-    (tie.spec
-    wide-requires
-    wide-requires-2
-    mul_at
-    add_at
-    entity-rule-requires
-    returns
-    returns-2
-    sub-entity-before
-    entity-before-requires
-    returns-3)
+pub returns : goal.returns
+returns c = search (later, rules)

@@ -6,7 +6,6 @@ use Prim.Native.Nat.{ℕ, ◌+◌, ◌<◌, ◌≤◌}
 use native.Mathlib.Omega.{arith}
 use lib.Dec.{eqb}
 use lib.ListN.{length, drop, length-drop}
-use Rattle.meaning.specs.Tests.{◌or◌}
 use Rattle.jsontext.specs.declared.Fault.TheVariants.{BadField}
 use Rattle.jsontext.specs.Reading.{Read, got, then, blanks, want}
 use Rattle.jsontext.specs.Strings.{string}

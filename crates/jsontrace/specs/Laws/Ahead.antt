@@ -87,20 +87,20 @@ escaped-passed (c ∷ t) depth s =
     ∙ escaped-byte depth c (escaped t ++ s)
     ∙ escaped-passed t depth s
 
-pub quoted-passed : (t : List ℕ) → Passed (quoted t)
-quoted-passed t = record { over = go }
+quoted-over : (t : List ℕ) (depth : ℕ) (s : List ℕ) → closes_first Outside depth (quoted t ++ s) ≡ closes_first Outside depth s
+unfolding quoted
+quoted-over t depth s =
+    opens depth ((escaped t ++ (34 ∷ [])) ++ s)
+    ∙ ap (closes_first Inside depth) (append_assoc (escaped t) (34 ∷ []) s)
+    ∙ escaped-passed t depth (34 ∷ s)
+    ∙ quote-ends depth s
   where
     opens : (depth : ℕ) (s : List ℕ) → closes_first Outside depth (34 ∷ s) ≡ closes_first Inside depth s
     opens zero s = unfold closes_first choose in refl
     opens (suc depth) s = unfold closes_first choose in refl
 
-    go : (depth : ℕ) (s : List ℕ) → closes_first Outside depth (quoted t ++ s) ≡ closes_first Outside depth s
-    go depth s =
-        unfold quoted in
-        opens depth ((escaped t ++ (34 ∷ [])) ++ s)
-        ∙ ap (closes_first Inside depth) (append_assoc (escaped t) (34 ∷ []) s)
-        ∙ escaped-passed t depth (34 ∷ s)
-        ∙ quote-ends depth s
+pub quoted-passed : (t : List ℕ) → Passed (quoted t)
+quoted-passed t = record { over = quoted-over t }
 
 -- ---- bytes outside strings
 

@@ -7,29 +7,30 @@ mod plan;
 mod print;
 mod table;
 
-use libc::{STDERR_FILENO, STDIN_FILENO};
+use std::fs::File;
+use std::rt::Files;
+use std::{env, io};
 
-fn main() {
-    let words = os::arg_count();
-    if 2 < words {
-        io::write_all(STDERR_FILENO, b"usage: bench [CASE]\n");
-        return;
+fn print_table_in<R: Files + Print + Eprint>(rt: &R, path: &str) -> io::Result<()> {
+    match File::open(rt, path) {
+        Ok(file) => {
+            let mut file = file;
+            input::print_table_of(rt, &mut file, path)
+        }
+        Err(error) => eprintln!(rt; "{path}: {error}"),
     }
-    if words < 2 {
-        input::print_table_of(STDIN_FILENO, b"standard input");
-        return;
+}
+
+fn main(rt: HostRuntime) -> io::Result<()> {
+    let mut words = env::args(&rt)?;
+    let _program = words.next();
+    match words.next() {
+        None => input::print_table_of(&rt, &mut rt.stdin(), "standard input"),
+        Some(path) => {
+            if words.next().is_some() {
+                return eprintln!(rt; "usage: bench [CASE]");
+            }
+            print_table_in(&rt, path.as_str())
+        }
     }
-    let mut path = io::buffer();
-    let n = os::arg(1, &mut path);
-    if os::errno() != 0 {
-        os::fail(b"the case's name");
-        return;
-    }
-    let file = os::open_read(&path[..n]);
-    if file < 0 {
-        os::fail(&path[..n]);
-        return;
-    }
-    input::print_table_of(file, &path[..n]);
-    libc::close(file);
 }

@@ -4,38 +4,37 @@ ghost use Rattle.std.proofs.Common.{to_z};
 ghost use Rattle.std.specs.Int.{w64};
 ghost use Rattle.bench.specs.Size.{size_of};
 
-use libc::STDOUT_FILENO;
 use meaning::Refusal;
+use std::io;
 
-fn text(t: &[u8]) {
-    io::write_all(STDOUT_FILENO, t);
+fn text(rt: &impl Print, t: &str) -> io::Result<()> {
+    rt.print(t)
 }
 
-fn number(n: u64) {
-    io::print_decimal(STDOUT_FILENO, n);
+fn number(rt: &impl Print, n: u64) -> io::Result<()> {
+    rt.print(n)
 }
 
-fn refusal(r: Refusal) {
-    text(b"refused ");
-    number(refusals::number(r));
+fn refusal(rt: &impl Print, r: Refusal) -> io::Result<()> {
+    text(rt, "refused ")?;
+    number(rt, refusals::number(r))
 }
 
 // no table, but why there is none
-pub fn refused(r: Refusal) {
-    refusal(r);
-    text(b"\n");
+pub fn refused(rt: &impl Print, r: Refusal) -> io::Result<()> {
+    refusal(rt, r)?;
+    text(rt, "\n")
 }
 
-pub fn heading() {
-    text(b"point verdict steps held\n");
+pub fn heading(rt: &impl Print) -> io::Result<()> {
+    text(rt, "point verdict steps held\n")
 }
 
-fn verdict(yes: bool) {
+fn verdict(rt: &impl Print, yes: bool) -> io::Result<()> {
     if yes {
-        text(b"yes");
-        return;
+        return text(rt, "yes");
     }
-    text(b"no");
+    text(rt, "no")
 }
 
 // how far a number is from 0, by its 64 bits; -2^63 is 2^63 away
@@ -48,37 +47,32 @@ fn size(bits: u64) -> u64
     18446744073709551615 - bits + 1
 }
 
-fn signed(bits: u64) {
+fn signed(rt: &impl Print, bits: u64) -> io::Result<()> {
     if 9223372036854775808 <= bits {
-        text(b"-");
+        text(rt, "-")?;
     }
-    number(size(bits));
+    number(rt, size(bits))
 }
 
-fn numbers(steps: u64, held: usize) {
-    text(b" ");
-    number(steps);
-    text(b" ");
-    number(held as u64);
-    text(b"\n");
+fn numbers(rt: &impl Print, steps: u64, held: usize) -> io::Result<()> {
+    println!(rt; " {steps} {held}")
 }
 
 // a point's line
-pub fn line(point: usize, said: calls::SaidAnswer) {
-    number(point as u64);
-    text(b" ");
+pub fn line(rt: &impl Print, point: usize, said: calls::SaidAnswer) -> io::Result<()> {
+    print!(rt; "{point} ")?;
     match said {
         calls::SaidAnswer::Verdict(yes, steps, held) => {
-            verdict(yes);
-            numbers(steps, held);
+            verdict(rt, yes)?;
+            numbers(rt, steps, held)
         }
         calls::SaidAnswer::Number(bits, steps, held) => {
-            signed(bits);
-            numbers(steps, held);
+            signed(rt, bits)?;
+            numbers(rt, steps, held)
         }
         calls::SaidAnswer::Refuses(r, steps, held) => {
-            refusal(r);
-            numbers(steps, held);
+            refusal(rt, r)?;
+            numbers(rt, steps, held)
         }
     }
 }

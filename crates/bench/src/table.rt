@@ -7,6 +7,7 @@ ghost use Rattle.bench.specs.Table.{asking_of, question_at};
 use crate::plan::{Asking, Plan, plan_of};
 use crate::print;
 use meaning::Limits;
+use std::io;
 
 // the last node at a point, all variables unbound
 fn at_point(case: &[u8], asking: Asking, point: usize, work: &mut [u64]) -> calls::SaidAnswer
@@ -24,7 +25,7 @@ fn at_point(case: &[u8], asking: Asking, point: usize, work: &mut [u64]) -> call
 }
 
 // the workspace has 2 cells for each of 16 variables in 256 rows
-fn at_points(case: &[u8], asking: Asking)
+fn at_points(rt: &impl Print, case: &[u8], asking: Asking) -> io::Result<()>
     requires checked { Checked case.now }
     requires asking_value { asking ≡ asking_of case.now }
 {
@@ -32,19 +33,20 @@ fn at_points(case: &[u8], asking: Asking)
     let mut point = 0;
     while point < asking.points {
         let said = at_point(case, asking, point, &mut work);
-        print::line(point, said);
+        print::line(rt, point, said)?;
         point += 1;
     }
+    Ok(())
 }
 
 // the table, or why there is none
-pub fn print_table(case: &[u8]) {
+pub fn print_table(rt: &impl Print, case: &[u8]) -> io::Result<()> {
     let planned = plan_of(case);
     match planned {
-        Plan::Refuse(refusal) => print::refused(refusal),
+        Plan::Refuse(refusal) => print::refused(rt, refusal),
         Plan::Ask(asking) => {
-            print::heading();
-            at_points(case, asking);
+            print::heading(rt)?;
+            at_points(rt, case, asking)
         }
     }
 }

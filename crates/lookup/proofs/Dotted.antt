@@ -9,7 +9,7 @@ use lib.ListN.{length, length-append, get_or, drop, length-drop}
 use lib.Seq.{drop-drop}
 use borrow.Author.Tests.{eqb-true, eq-eqb, ne_eqb, not-true, not-false}
 use Rattle.meaning.specs.declared.Run.{Run}
-use Rattle.meaning.specs.Tests.{◌and◌, ◌or◌}
+use Rattle.meaning.specs.Tests.{◌and◌}
 use Rattle.meaning.specs.Case.{list, text, places, case_of}
 use Rattle.meaning.specs.Meaning.{names}
 use Rattle.laws.specs.Tests.{both, stop, skip, after, yes, no}

@@ -1,0 +1,9 @@
+use Rattle.std.proofs.Common.{rules}
+use Rattle.lookup.proofs.Attributes.{supplied-none, supplied-found}
+use Rattle.lookup.proofs.paths.supplied.Goals as goal
+
+pub returns-in-At : goal.returns-in-At
+returns-in-At c = search (supplied-found, rules)
+
+pub returns-in-Nothing : goal.returns-in-Nothing
+returns-in-Nothing c = search (supplied-none, rules)

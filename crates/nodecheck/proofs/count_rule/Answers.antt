@@ -1,0 +1,9 @@
+-- The rule of a Count
+use Rattle.std.proofs.Common.{rules}
+use Rattle.meaning.specs.Check.{rule_of}
+use Rattle.laws.specs.Tests.{and3}
+use Rattle.nodecheck.proofs.count_rule.Goals as goal
+
+pub returns : goal.returns
+unfolding rule_of
+returns c = search (and3, rules)

@@ -1,0 +1,7 @@
+-- The rule of an Exists
+use Rattle.std.proofs.Common.{rules}
+use Rattle.laws.specs.Tests.{and3}
+use Rattle.nodecheck.proofs.exists_rule.Goals as goal
+
+pub returns : goal.returns
+returns c = search (and3, rules)

@@ -478,8 +478,10 @@ computed : map past examples ≡ map (λ e. e.want) examples
 unfolding walks-nothing past like as_call examples asked walked
 computed = refl
 
+-- (computed once more, and not by `computed`, so that a definition that is wrong shows at each of the two)
 claim : map got examples ≡ map (λ e. e.want) examples
-claim = same-all got past got-past examples ∙ computed
+unfolding walks-nothing past like as_call examples asked walked
+claim = same-all got past got-past examples ∙ refl
 
 -- ---- the calls: answers, refusals 7 to 13 and the buffers
 

@@ -160,11 +160,13 @@ insert_old n o (part l k ps) {m} {p} a =
 
 pub fresh-among : (n : List ℕ) (ps : Parts) {m : List ℕ} {p : J} → Fresh n ps → Among m p ps → m ≡ n → ⊥
 unfolding Fresh
+fresh-among n end {m = m} {p = p} f a e = elim a [ ]
 fresh-among n (part m o ps) f here e = f.0 e
 fresh-among n (part l o ps) f (later a) e = fresh-among n ps f.1 a e
 
 pub least-among : (n : List ℕ) (ps : Parts) {m : List ℕ} {p : J} → Least n ps → Among m p ps → before n m ≡ true
 unfolding Least
+least-among n end {m = m} {p = p} f a = elim a [ ]
 least-among n (part m o ps) f here = f.0
 least-among n (part l o ps) f (later a) = least-among n ps f.1 a
 

@@ -1,4 +1,3 @@
 // What is shown of the promises of import; no code.
 
 #![tactic(auto)]
-

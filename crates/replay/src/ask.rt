@@ -7,6 +7,8 @@ use crate::listed::{Listed, answer_at, binders_at, filled_at, is_known, listed_c
 use crate::said::{Said, said_by};
 use crate::tally::{Tally, another_case, broken, compared, nothing};
 use crate::{buffers, report};
+use std::io;
+use std::io::Read;
 use tables::packed::cell;
 use tables::wide;
 
@@ -78,46 +80,52 @@ fn is_as_listed<'a>(parts: &'a [u8], file: &'a [u8], c: Listed) -> bool
 }
 
 // the list's next call, on a file
-fn call(list: i32, file: &[u8], t: Tally) -> Tally {
+fn call<R: Read>(rt: &impl Print, list: &mut R, file: &[u8], t: Tally) -> io::Result<Tally> {
     let mut words = [0u8; 52];
-    if !take(list, &mut words, 52) {
-        return broken(t);
+    if !take(list, &mut words, 52)? {
+        return Ok(broken(t));
     }
     let c = listed_call(&words);
     if !is_known(c) {
-        return broken(t);
+        return Ok(broken(t));
     }
     let n = 4 * size(c);
-    let mut parts = io::buffer();
-    if !take(list, &mut parts, n) {
-        return broken(t);
+    let mut parts = [0u8; 4096];
+    if !take(list, &mut parts, n)? {
+        return Ok(broken(t));
     }
     let same = is_as_listed(&parts[..n], file, c);
     if !same {
-        report::differs(t);
+        report::differs(rt, t)?;
     }
-    compared(t, c.kind, c.refusal, same)
+    Ok(compared(t, c.kind, c.refusal, same))
 }
 
 // the list's next n calls, on a file
-fn calls(list: i32, file: &[u8], n: u32, before: Tally) -> Tally {
+fn calls<R: Read>(
+    rt: &impl Print,
+    list: &mut R,
+    file: &[u8],
+    n: u32,
+    before: Tally,
+) -> io::Result<Tally> {
     let mut t = before;
     let mut k = 0;
     while k < n {
-        t = call(list, file, t);
+        t = call(rt, list, file, t)?;
         if !t.whole {
-            return t;
+            return Ok(t);
         }
         k += 1;
     }
-    t
+    Ok(t)
 }
 
-fn calls_on(list: i32, file: &[u8], t: Tally) -> Tally {
-    let taken = take_word(list);
+fn calls_on<R: Read>(rt: &impl Print, list: &mut R, file: &[u8], t: Tally) -> io::Result<Tally> {
+    let taken = take_word(list)?;
     match taken {
-        Taken::Word(n) => calls(list, file, n, another_case(t)),
-        Taken::Nothing => broken(t),
+        Taken::Word(n) => calls(rt, list, file, n, another_case(t)),
+        Taken::Nothing => Ok(broken(t)),
     }
 }
 
@@ -129,37 +137,37 @@ fn room() -> [u8; 16384]
 }
 
 // a case of so many bytes, filled up to a whole number of words, and its calls
-fn case_of(list: i32, bytes: u32, t: Tally) -> Tally {
+fn case_of<R: Read>(rt: &impl Print, list: &mut R, bytes: u32, t: Tally) -> io::Result<Tally> {
     let n = wide(bytes);
     if 16384 < n {
-        return broken(t);
+        return Ok(broken(t));
     }
     let filled_up = 4 * ((n + 3) / 4);
     let mut file = room();
-    if !take(list, &mut file, filled_up) {
-        return broken(t);
+    if !take(list, &mut file, filled_up)? {
+        return Ok(broken(t));
     }
-    calls_on(list, &file[..n], t)
+    calls_on(rt, list, &file[..n], t)
 }
 
-fn case(list: i32, t: Tally) -> Tally {
-    let taken = take_word(list);
+fn case<R: Read>(rt: &impl Print, list: &mut R, t: Tally) -> io::Result<Tally> {
+    let taken = take_word(list)?;
     match taken {
-        Taken::Word(bytes) => case_of(list, bytes, t),
-        Taken::Nothing => broken(t),
+        Taken::Word(bytes) => case_of(rt, list, bytes, t),
+        Taken::Nothing => Ok(broken(t)),
     }
 }
 
 // the list's next n cases
-pub fn cases(list: i32, n: u32) -> Tally {
+pub fn cases<R: Read>(rt: &impl Print, list: &mut R, n: u32) -> io::Result<Tally> {
     let mut t = nothing();
     let mut k = 0;
     while k < n {
-        t = case(list, t);
+        t = case(rt, list, t)?;
         if !t.whole {
-            return t;
+            return Ok(t);
         }
         k += 1;
     }
-    t
+    Ok(t)
 }

@@ -1,14 +1,16 @@
 // The list, read from start to end.
 ghost use Rattle.std.specs.Prelude.{◌≤◌, length};
 
+use std::io;
+use std::io::Read;
 use tables::packed::word;
 
 // the next n bytes, put into the buffer; false if the list ends before
-pub fn take(list: i32, buf: &mut [u8], n: usize) -> bool
+pub fn take<R: Read>(list: &mut R, buf: &mut [u8], n: usize) -> io::Result<bool>
     requires { n ≤ length buf.old }
 {
-    let got = io::read_full(list, &mut buf[..n]);
-    got == n
+    let got = intake::read_full(list, &mut buf[..n])?;
+    Ok(got == n)
 }
 
 #[derive(Clone, Copy)]
@@ -17,12 +19,12 @@ pub enum Taken {
     Nothing,
 }
 
-pub fn take_word(list: i32) -> Taken {
+pub fn take_word<R: Read>(list: &mut R) -> io::Result<Taken> {
     let mut bytes = [0u8; 4];
-    if take(list, &mut bytes, 4) {
-        return Taken::Word(word(&bytes, 0));
+    if take(list, &mut bytes, 4)? {
+        return Ok(Taken::Word(word(&bytes, 0)));
     }
-    Taken::Nothing
+    Ok(Taken::Nothing)
 }
 
 // whether the list has three words, and how many cases and calls the first two count
@@ -33,17 +35,18 @@ pub struct Header {
     pub calls: u32,
 }
 
-pub fn take_header(list: i32) -> Header {
+pub fn take_header<R: Read>(list: &mut R) -> io::Result<Header> {
     let mut bytes = [0u8; 12];
-    let whole = take(list, &mut bytes, 12);
-    Header {
+    let whole = take(list, &mut bytes, 12)?;
+    Ok(Header {
         whole,
         cases: word(&bytes, 0),
         calls: word(&bytes, 1),
-    }
+    })
 }
 
-pub fn is_at_end(list: i32) -> bool {
+pub fn is_at_end<R: Read>(list: &mut R) -> io::Result<bool> {
     let mut bytes = [0u8; 1];
-    !take(list, &mut bytes, 1)
+    let taken = take(list, &mut bytes, 1)?;
+    Ok(!taken)
 }

@@ -10,15 +10,22 @@ mod report;
 mod said;
 mod tally;
 
-fn main() {
-    let path = b"judge-answers.bin";
-    let list = os::open_read(path);
-    if list < 0 {
-        os::fail(path);
-        return;
+use std::fs::File;
+use std::io;
+use std::rt::Files;
+
+fn replay<R: Files + Print>(rt: &R, list: R::File) -> io::Result<()> {
+    let mut list = list;
+    let header = input::take_header(&mut list)?;
+    let t = ask::cases(rt, &mut list, header.cases)?;
+    let ended = input::is_at_end(&mut list)?;
+    report::report(rt, header, t, ended)
+}
+
+fn main(rt: HostRuntime) -> io::Result<()> {
+    let path = "judge-answers.bin";
+    match File::open(&rt, path) {
+        Ok(list) => replay(&rt, list),
+        Err(error) => eprintln!(rt; "{path}: {error}"),
     }
-    let header = input::take_header(list);
-    let t = ask::cases(list, header.cases);
-    report::report(header, t, input::is_at_end(list));
-    libc::close(list);
 }

@@ -1,60 +1,52 @@
 // What the program writes: how many calls were compared and how many differ, by kind and by refusal, beside what the list's header counts.
 use crate::input::Header;
 use crate::tally::Tally;
-use libc::STDOUT_FILENO;
+use std::io;
 
-fn text(t: &[u8]) {
-    io::write_all(STDOUT_FILENO, t);
+fn text(rt: &impl Print, t: &str) -> io::Result<()> {
+    rt.print(t)
 }
 
-fn number(n: u64) {
-    io::print_decimal(STDOUT_FILENO, n);
+fn number(rt: &impl Print, n: u64) -> io::Result<()> {
+    rt.print(n)
 }
 
-fn line(compared: u64, differ: u64) {
-    text(b" ");
-    number(compared);
-    text(b" ");
-    number(differ);
-    text(b"\n");
+fn line(rt: &impl Print, compared: u64, differ: u64) -> io::Result<()> {
+    println!(rt; " {compared} {differ}")
 }
 
 // the call after those compared answers otherwise
-pub fn differs(t: Tally) {
-    text(b"differs: case ");
-    number(t.cases);
-    text(b", after ");
-    number(t.calls);
-    text(b" calls\n");
+pub fn differs(rt: &impl Print, t: Tally) -> io::Result<()> {
+    text(rt, "differs: case ")?;
+    number(rt, t.cases)?;
+    text(rt, ", after ")?;
+    number(rt, t.calls)?;
+    text(rt, " calls\n")
 }
 
-fn kinds(t: Tally) {
-    text(b"call compared differ\n");
-    text(b"check");
-    line(t.kinds[0], t.kinds_differ[0]);
-    text(b"ask");
-    line(t.kinds[1], t.kinds_differ[1]);
-    text(b"rows");
-    line(t.kinds[2], t.kinds_differ[2]);
+fn kinds(rt: &impl Print, t: Tally) -> io::Result<()> {
+    text(rt, "call compared differ\n")?;
+    text(rt, "check")?;
+    line(rt, t.kinds[0], t.kinds_differ[0])?;
+    text(rt, "ask")?;
+    line(rt, t.kinds[1], t.kinds_differ[1])?;
+    text(rt, "rows")?;
+    line(rt, t.kinds[2], t.kinds_differ[2])
 }
 
-fn refusals(t: Tally) {
-    text(b"refusal compared differ\n");
+fn refusals(rt: &impl Print, t: Tally) -> io::Result<()> {
+    text(rt, "refusal compared differ\n")?;
     let mut r = 0;
     while r < 14 {
-        number(r as u64);
-        line(t.refusals[r], t.refusals_differ[r]);
+        number(rt, r as u64)?;
+        line(rt, t.refusals[r], t.refusals_differ[r])?;
         r += 1;
     }
+    Ok(())
 }
 
-fn counted(what: &[u8], n: u64, listed: u32) {
-    text(what);
-    text(b" ");
-    number(n);
-    text(b" of ");
-    number(listed as u64);
-    text(b"\n");
+fn counted(rt: &impl Print, what: &str, n: u64, listed: u32) -> io::Result<()> {
+    println!(rt; "{what} {n} of {listed}")
 }
 
 // whether the list could be read to its end, and had what its header counts
@@ -71,16 +63,15 @@ fn is_complete(listed: Header, t: Tally, ended: bool) -> bool {
     ended
 }
 
-pub fn report(listed: Header, t: Tally, ended: bool) {
-    kinds(t);
-    refusals(t);
-    counted(b"cases", t.cases, listed.cases);
-    counted(b"calls", t.calls, listed.calls);
+pub fn report(rt: &impl Print, listed: Header, t: Tally, ended: bool) -> io::Result<()> {
+    kinds(rt, t)?;
+    refusals(rt, t)?;
+    counted(rt, "cases", t.cases, listed.cases)?;
+    counted(rt, "calls", t.calls, listed.calls)?;
     if is_complete(listed, t, ended) {
-        text(b"the list was read to its end\n");
-        return;
+        return text(rt, "the list was read to its end\n");
     }
-    text(b"the list is malformed after ");
-    number(t.calls);
-    text(b" calls\n");
+    text(rt, "the list is malformed after ")?;
+    number(rt, t.calls)?;
+    text(rt, " calls\n")
 }

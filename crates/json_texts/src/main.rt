@@ -6,7 +6,7 @@ ghost use Rattle.std.specs.Prelude.{◌≡◌, length};
 
 use jsoncheck::{cells_for, check_log};
 use jsontext::{Fault, Step};
-use libc::STDOUT_FILENO;
+use std::io;
 use tables::{wide, word_at};
 
 fn number_of(w: Fault) -> usize {
@@ -50,45 +50,36 @@ fn answer_of(text: &[u8], names: &mut [u64]) -> Answer {
     }
 }
 
-fn print(n: usize) {
-    io::print_decimal(STDOUT_FILENO, n as u64);
-}
-
-fn tell(k: u64, a: Answer) {
-    io::write_all(STDOUT_FILENO, b"text ");
-    io::print_decimal(STDOUT_FILENO, k);
-    io::write_all(STDOUT_FILENO, b" gave ");
-    print(a.number);
-    io::write_all(STDOUT_FILENO, b" ");
-    print(a.place);
-    io::write_all(STDOUT_FILENO, b" ");
-    print(a.first);
-    io::write_all(STDOUT_FILENO, b"\n");
+fn tell(rt: &impl Print, k: u64, a: Answer) -> io::Result<()> {
+    println!(rt; "text {k} gave {} {} {}", a.number, a.place, a.first)
 }
 
 // whether a text gave what is listed; else it is told
-fn is_listed(k: u64, a: Answer, number: usize, place: usize, first: usize) -> bool {
+fn is_listed(
+    rt: &impl Print,
+    k: u64,
+    a: Answer,
+    number: usize,
+    place: usize,
+    first: usize,
+) -> io::Result<bool> {
     if a.number == number {
         if a.place == place {
             if a.first == first {
-                return true;
+                return Ok(true);
             }
         }
     }
-    tell(k, a);
-    false
+    tell(rt, k, a)?;
+    Ok(false)
 }
 
-fn report(texts: u64, wrong: u64) {
-    io::write_all(STDOUT_FILENO, b"texts ");
-    io::print_decimal(STDOUT_FILENO, texts);
-    io::write_all(STDOUT_FILENO, b", other than listed ");
-    io::print_decimal(STDOUT_FILENO, wrong);
-    io::write_all(STDOUT_FILENO, b"\n");
+fn report(rt: &impl Print, texts: u64, wrong: u64) -> io::Result<()> {
+    println!(rt; "texts {texts}, other than listed {wrong}")
 }
 
 // a list: how many texts; then of each its refusal, its places, its length, its bytes, and zeros up to a whole word
-fn read_all(list: &[u8], names: &mut [u64]) {
+fn read_all(rt: &impl Print, list: &[u8], names: &mut [u64]) -> io::Result<()> {
     let words = list.len() / 4;
     let mut texts: u64 = 0;
     let mut wrong: u64 = 0;
@@ -100,17 +91,17 @@ fn read_all(list: &[u8], names: &mut [u64]) {
         let size = wide(word_at(list, at + 3));
         let start = 4 * (at + 4);
         if list.len() - start < size {
-            return;
+            return Ok(());
         }
         let end = start + size;
         let a = answer_of(&list[start..end], names);
-        if !is_listed(texts, a, number, place, first) {
+        if !is_listed(rt, texts, a, number, place, first)? {
             wrong = std::num::wrapping_add_u64(wrong, 1);
         }
         texts = std::num::wrapping_add_u64(texts, 1);
         at += 4 + (size + 3) / 4;
     }
-    report(texts, wrong);
+    report(rt, texts, wrong)
 }
 
 // room for the list, and for the names of open objects; the promises of their lengths are for lending them
@@ -126,16 +117,13 @@ fn cells() -> [u64; 4096]
     [0; 4096]
 }
 
-fn main() {
-    let path = b"json-texts.bin";
-    let file = os::open_read(path);
-    if file < 0 {
-        os::fail(path);
-        return;
-    }
+fn main(rt: HostRuntime) -> io::Result<()> {
     let mut list = room();
-    let n = io::read_full(file, &mut list);
-    libc::close(file);
-    let mut names = cells();
-    read_all(&list[..n], &mut names);
+    match intake::load(&rt, "json-texts.bin", &mut list)? {
+        Some(n) => {
+            let mut names = cells();
+            read_all(&rt, &list[..n], &mut names)
+        }
+        None => Ok(()),
+    }
 }

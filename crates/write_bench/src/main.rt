@@ -2,12 +2,12 @@
 
 #![tactic(auto)]
 
-ghost use Rattle.std.specs.Prelude.{◌≡◌, length};
-ghost use Rattle.io.specs.Counts.{IsPrefixLen};
+ghost use Rattle.std.specs.Prelude.{◌≡◌, ◌≤◌, length, IfOk};
 
 use casecheck::Checking;
 use casewrite::{Written, write};
-use libc::STDOUT_FILENO;
+use std::io;
+use std::rt::Files;
 
 // room for a file; the promise of its length is for lending it
 fn room() -> [u8; 4096]
@@ -16,11 +16,11 @@ fn room() -> [u8; 4096]
     [0; 4096]
 }
 
-fn say(yes: bool) {
+fn say(rt: &impl Print, yes: bool) -> io::Result<()> {
     if yes {
-        io::write_all(STDOUT_FILENO, b"yes\n");
+        rt.print("yes\n")
     } else {
-        io::write_all(STDOUT_FILENO, b"no\n");
+        rt.print("no\n")
     }
 }
 
@@ -32,80 +32,88 @@ fn passes(file: &[u8]) -> bool {
     }
 }
 
-fn tell(written: &[u8], stored: &[u8]) {
-    io::write_all(STDOUT_FILENO, b"passes the check: ");
-    say(passes(written));
-    io::write_all(STDOUT_FILENO, b"as stored: ");
-    say(check::same(written, stored));
+fn tell(rt: &impl Print, written: &[u8], stored: &[u8]) -> io::Result<()> {
+    rt.print("passes the check: ")?;
+    say(rt, passes(written))?;
+    rt.print("as stored: ")?;
+    say(rt, written == stored)
 }
 
-fn report(out: &[u8], size: usize, stored: &[u8]) {
+fn report(rt: &impl Print, out: &[u8], size: usize, stored: &[u8]) -> io::Result<()> {
     if out.len() < size {
-        return;
+        return Ok(());
     }
-    io::write_all(STDOUT_FILENO, b"bytes: ");
-    io::print_decimal(STDOUT_FILENO, size as u64);
-    io::write_all(STDOUT_FILENO, b"\n");
+    println!(rt; "bytes: {size}")?;
     let from = 0;
-    tell(&out[from..size], stored);
+    tell(rt, &out[from..size], stored)
 }
 
-fn write_and_report(unsorted: &[u8], marks: &[u8], stored: &[u8], out: &mut [u8]) {
+fn write_and_report(
+    rt: &impl Print,
+    unsorted: &[u8],
+    marks: &[u8],
+    stored: &[u8],
+    out: &mut [u8],
+) -> io::Result<()> {
     let mut lent: [u8; 4096] = [0; 4096];
     let written = write(unsorted, marks, &mut lent, out);
     match written {
-        Written::Wrote(size) => report(out, size, stored),
+        Written::Wrote(size) => report(rt, out, size, stored),
         Written::Refused(r) => {
-            io::write_all(STDOUT_FILENO, b"refused ");
-            io::print_decimal(STDOUT_FILENO, refusals::number(r));
-            io::write_all(STDOUT_FILENO, b"\n");
+            let number = refusals::number(r);
+            println!(rt; "refused {number}")
         }
     }
 }
 
 // into an output that is a byte shorter than the stored case, and as it was before
-fn write_short(unsorted: &[u8], marks: &[u8], stored: &[u8], out: &mut [u8], before: &[u8]) {
+fn write_short(
+    rt: &impl Print,
+    unsorted: &[u8],
+    marks: &[u8],
+    stored: &[u8],
+    out: &mut [u8],
+    before: &[u8],
+) -> io::Result<()> {
     if stored.len() == 0 {
-        return;
+        return Ok(());
     }
     if out.len() < stored.len() {
-        return;
+        return Ok(());
     }
     let short = stored.len() - 1;
     let from = 0;
-    write_and_report(unsorted, marks, stored, &mut out[from..short]);
-    io::write_all(STDOUT_FILENO, b"output as it was: ");
-    say(check::same(out, before));
+    write_and_report(rt, unsorted, marks, stored, &mut out[from..short])?;
+    rt.print("output as it was: ")?;
+    say(rt, *out == *before)
 }
 
-fn read(path: &[u8], into: &mut [u8]) -> usize
-    ensures { IsPrefixLen result into.new }
+// as much of a file as there is room for: how many bytes, 0 where it cannot be read
+fn read<R: Files + Eprint>(rt: &R, path: &str, into: &mut [u8]) -> io::Result<usize>
+    ensures { IfOk result (λ n. n ≤ length into.new) }
 {
-    let file = os::open_read(path);
-    if file < 0 {
-        os::fail(path);
-        return 0;
+    match intake::load(rt, path, into)? {
+        Some(n) => Ok(n),
+        None => Ok(0),
     }
-    let n = io::read_full(file, into);
-    libc::close(file);
-    n
 }
 
-fn main() {
+fn main(rt: HostRuntime) -> io::Result<()> {
     let mut unsorted = room();
-    let n = read(b"unsorted.bin", &mut unsorted);
+    let n = read(&rt, "unsorted.bin", &mut unsorted)?;
     let mut marks = room();
-    let m = read(b"marks.bin", &mut marks);
+    let m = read(&rt, "marks.bin", &mut marks)?;
     let mut stored = room();
-    let k = read(b"bench.bin", &mut stored);
+    let k = read(&rt, "bench.bin", &mut stored)?;
     let mut out = room();
-    write_and_report(&unsorted[..n], &marks[..m], &stored[..k], &mut out);
+    write_and_report(&rt, &unsorted[..n], &marks[..m], &stored[..k], &mut out)?;
     let mut other = room();
     write_short(
+        &rt,
         &unsorted[..n],
         &marks[..m],
         &stored[..k],
         &mut other,
         &room(),
-    );
+    )
 }

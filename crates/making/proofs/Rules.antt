@@ -14,7 +14,7 @@ use Rattle.meaning.specs.declared.Refusal.TheVariants.{BadContents, TooLarge, Ba
 use Rattle.meaning.specs.Tests.{◌and◌}
 use Rattle.meaning.specs.Case.{lists, values, points, nodes, vars}
 use Rattle.meaning.specs.Check.{bodies, mosts}
-use Rattle.laws.specs.Tests.{both, stop, skip, yes, no, after}
+use Rattle.laws.specs.Tests.{both, stop, skip, yes, no}
 use Rattle.laws.specs.Writing.{Writing}
 use Rattle.encode.specs.Encode.{flat}
 use Rattle.encode.specs.Unsorted.{texts, parts, finished}

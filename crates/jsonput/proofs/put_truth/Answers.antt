@@ -1,0 +1,15 @@
+use Rattle.std.proofs.Common.{rules}
+use Rattle.jsonput.specs.Laws.Values.{true-room, true-put, false-room, false-put}
+use Rattle.jsonput.proofs.put_truth.Goals as goal
+
+pub put_piece-requires : goal.put_piece-requires
+put_piece-requires c = search (true-room, rules)
+
+pub returns-then-b-eq1 : goal.returns-then-b-eq1
+returns-then-b-eq1 c = search (true-put, rules)
+
+pub put_piece-requires-2 : goal.put_piece-requires-2
+put_piece-requires-2 c = search (false-room, rules)
+
+pub returns : goal.returns
+returns c = search (false-put, rules)

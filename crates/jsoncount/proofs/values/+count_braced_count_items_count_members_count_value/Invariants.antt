@@ -1,0 +1,28 @@
+use Prim.Native.Nat.{◌+◌, ◌*◌, ◌-◌}
+use lib.ListN.{length}
+use Rattle.jsoncount.proofs.Items.{Items, Members}
+use Rattle.jsoncount.proofs.values.+count_braced_count_items_count_members_count_value.Given as goal
+
+abbrev pub decreases-count_braced : goal.decreases-count_braced
+decreases-count_braced l = 3 * l.levels + 2
+
+abbrev pub decreases-count_items : goal.decreases-count_items
+decreases-count_items l = 3 * l.levels + 1
+
+abbrev pub decreases-count_members : goal.decreases-count_members
+decreases-count_members l = 3 * l.levels + 1
+
+abbrev pub decreases-count_value : goal.decreases-count_value
+decreases-count_value l = 3 * l.levels
+
+abbrev pub invariant-count_items-loop-end : goal.invariant-count_items-loop-end
+invariant-count_items-loop-end l = Items l.line l.at l.levels l.initial.tally l.tally l.i
+
+abbrev pub decreases-count_items-loop-end : goal.decreases-count_items-loop-end
+decreases-count_items-loop-end l = length l.line - l.i
+
+abbrev pub invariant-count_members-loop-end : goal.invariant-count_members-loop-end
+invariant-count_members-loop-end l = Members l.line l.at l.levels l.initial.tally l.tally l.i
+
+abbrev pub decreases-count_members-loop-end : goal.decreases-count_members-loop-end
+decreases-count_members-loop-end l = length l.line - l.i

@@ -12,7 +12,8 @@ use Rattle.laws.specs.Tests.{both, all-at}
 use Rattle.laws.specs.Bodies.{long, body-ends}
 use Rattle.laws.specs.Writing.{Writing, write-none, write-more}
 use Rattle.encode.specs.Write.{over}
-use Rattle.writer.specs.Put.{put, Fits, Starts, Whole}
+use Rattle.writer.specs.Put.{put, Fits, appended, Starts, Whole}
+use Rattle.writer.specs.declared.Writer.{Writer}
 
 -- cells once the first k bodies of f are put into them
 unfoldable pub bodies_put : List ℕ → List ℕ → ℕ → List ℕ
@@ -98,3 +99,30 @@ module _ {cells f : List ℕ} (h : Whole cells f) where
       ∙ ap (λ (l : List ℕ). take 64 f ++ l) (drop-append-add (take 64 cells) (drop 64 f ++ drop (64 + length (drop 64 f)) cells) 0)
       ∙ sym (append_assoc (take 64 f) (drop 64 f) (drop (64 + length (drop 64 f)) cells))
       ∙ ap₂ (λ (l : List ℕ) (i : ℕ). l ++ drop i cells) (take-append-drop 64 f) rest-long
+
+-- ---- the writer after so many bodies
+
+pub record Stage (cells f : List ℕ) (w : Writer) (k : ℕ) : Type 0 where
+  pub is : w.out.now ≡ bodies_put cells f k
+  pub next : w.at ≡ start_of f k
+
+pub stage_none : {cells : List ℕ} (f : List ℕ) {w : Writer} → w.out.now ≡ cells → w.at ≡ 64 → Stage cells f w 0
+unfolding bodies_put start_of
+stage_none f e n = record { is = e; next = n }
+
+pub stage_more : {cells f : List ℕ} {w v : Writer} {k : ℕ} → Stage cells f w k → v ≡ appended w f k → Stage cells f v (suc k)
+unfolding bodies_put start_of
+stage_more {cells} {f} {w} {v} {k} s e =
+    record {
+      is = ap (λ (u : Writer). u.out.now) e ∙ ap₂ (λ (l : List ℕ) (i : ℕ). put l i (body f k)) s.is s.next;
+      next = ap (λ (u : Writer). u.at) e ∙ ap (λ (i : ℕ). i + size f k) s.next;
+    }
+
+pub stage_fits : {cells f : List ℕ} {w : Writer} {k : ℕ} → Whole cells f → k < 7 → Stage cells f w k → Fits w.out.now w.at f k
+stage_fits {f = f} {k = k} h hk s = let b = body-fits h k hk in rw (s.is, s.next) b
+
+pub stage_starts : {cells f : List ℕ} {w : Writer} → Whole cells f → Stage cells f w 7 → Starts w.out.now f
+stage_starts h s = let b = contents-fit h in rw s.is b
+
+pub stage_all : {cells f : List ℕ} {w : Writer} {l : List ℕ} → Whole cells f → Stage cells f w 7 → l ≡ put w.out.now 0 (take 64 f) → l ≡ over f cells
+stage_all {f = f} h s e = e ∙ ap (λ (l : List ℕ). put l 0 (take 64 f)) s.is ∙ all-put h

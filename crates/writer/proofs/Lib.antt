@@ -1,4 +1,2 @@
 pub mod Rules
 pub mod Bodies
-pub mod Again
-pub mod Held

@@ -10,7 +10,7 @@ ghost use Rattle.writer.specs.Put.{put, Fits, appended, Starts, Whole};
 use encode::copy_at;
 use tables::{offset_of, size_of, wide};
 
-#[derive(Clone, Copy)]
+#[derive(Drop)]
 pub struct Writer<'a> {
     pub out: &'a mut [u8],
     pub at: usize,
@@ -18,7 +18,9 @@ pub struct Writer<'a> {
 
 // past the contents
 fn start<'a>(out: &'a mut [u8]) -> Writer<'a>
-    ensures { (result.out ≡ out.entry) × (result.at ≡ 64) }
+    ensures same_reference { result.out.ghost_name ≡ out.entry.ghost_name }
+    ensures lent { result.out ≡ out.entry }
+    ensures next { result.at ≡ 64 }
 {
     Writer { out: out, at: 64 }
 }
@@ -34,16 +36,14 @@ fn put_body(out: &mut [u8], at: usize, f: &[u8], k: usize) -> usize
     at + (to - from)
 }
 
-fn append<'a, 'b>(w: Writer<'a>, f: &'b [u8], k: usize) -> Writer<'a>
-    requires { Fits w.out.now w.at f.now k }
-    ensures { result ≡ appended w.entry f.now k }
+// body k at the writer's place
+fn append(w: &mut Writer, f: &[u8], k: usize)
+    requires { Fits w.old.out.now w.old.at f.now k }
+    ensures same_reference { w.new.out.ghost_name ≡ w.old.out.ghost_name }
+    ensures value { w.new ≡ appended w.old f.now k }
 {
-    let at = w.at;
-    let next = put_body(&mut *w.out, at, f, k);
-    Writer {
-        out: w.out,
-        at: next,
-    }
+    let next = put_body(&mut *w.out, w.at, f, k);
+    w.at = next;
 }
 
 // a case's contents at the front
@@ -65,12 +65,13 @@ pub fn write_case(out: &mut [u8], f: &[u8])
     requires { Whole out.old f.now }
     ensures { out.new ≡ over f.now out.old }
 {
-    let strings = append(start(out), f, 0);
-    let values = append(strings, f, 1);
-    let members = append(values, f, 2);
-    let points = append(members, f, 3);
-    let nodes = append(points, f, 4);
-    let lists = append(nodes, f, 5);
-    let text = append(lists, f, 6);
-    patch(text, f);
+    let mut w = start(out);
+    append(&mut w, f, 0);
+    append(&mut w, f, 1);
+    append(&mut w, f, 2);
+    append(&mut w, f, 3);
+    append(&mut w, f, 4);
+    append(&mut w, f, 5);
+    append(&mut w, f, 6);
+    patch(w, f);
 }

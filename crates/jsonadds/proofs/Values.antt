@@ -94,13 +94,13 @@ run-shaped : (js : List J) (k : Next-as_Trace) → Shaped (array_tables js k)
 unfolding items_tables
 run-shaped js k =
     let h = shaped-items (ordered_items (item_parts js)) (after_run k (many (ordered_items (item_parts js)))) in
-    shaped-members _ h.0 then h.1
+    ◌then◌ (shaped-members _ h.0) h.1
 
 parts-shaped : (ms : List (List ℕ × J)) (k : Next-as_Trace) → Shaped (object_tables ms k)
 unfolding parts_tables
 parts-shaped ms k =
     let h = shaped-parts (ordered_members (member_parts ms)) (after_run k (many (ordered_members (member_parts ms)))) in
-    shaped-members _ h.0 then h.1
+    ◌then◌ (shaped-members _ h.0) h.1
 
 run_long : (js : List J) (k : Next-as_Trace) → length js ≤ length (array_tables js k).members
 unfolding items_tables members ◌⊕◌

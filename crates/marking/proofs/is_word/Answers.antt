@@ -6,4 +6,4 @@ pub returns-then-names : goal.returns-then-names
 returns-then-names c = search (named-as, rules)
 
 pub returns-else-names : goal.returns-else-names
-returns-else-names c = search (named-as, rules)
+returns-else-names c = search (other-as, rules)

@@ -1,6 +1,5 @@
 use Rattle.std.proofs.Common.{rules}
 use Rattle.marking.proofs.Tables.{items-to-none, items-end, items-all, items-no, items-on}
-use Prim.Native.Nat.{◌-◌}
 use Rattle.marking.proofs.item_run.Goals as goal
 
 pub loop-i-init : goal.loop-i-init

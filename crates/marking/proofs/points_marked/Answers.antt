@@ -1,7 +1,5 @@
 use Rattle.std.proofs.Common.{rules}
 use Rattle.laws.specs.Tests.{passing-none, passing-no, passing-more, passing-all}
-use Rattle.encode.specs.Write.{point_marks}
-use Prim.Native.Nat.{◌-◌}
 use Rattle.marking.proofs.points_marked.Goals as goal
 
 pub loop-p-init : goal.loop-p-init

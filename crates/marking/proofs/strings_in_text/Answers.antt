@@ -1,7 +1,5 @@
 use Rattle.std.proofs.Common.{rules}
 use Rattle.laws.specs.Tests.{passing-none, passing-no, passing-more, passing-all}
-use Rattle.encode.specs.Unsorted.{in_text}
-use Prim.Native.Nat.{◌-◌}
 use Rattle.marking.proofs.strings_in_text.Goals as goal
 
 pub loop-k-init : goal.loop-k-init

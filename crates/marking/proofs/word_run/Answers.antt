@@ -1,7 +1,6 @@
 use Rattle.std.proofs.Common.{rules}
 use Rattle.laws.specs.Tests.{passing-none, passing-all}
 use Rattle.marking.proofs.Tables.{words-all, words-no, words-on}
-use Prim.Native.Nat.{◌-◌}
 use Rattle.marking.proofs.word_run.Goals as goal
 
 pub loop-i-init : goal.loop-i-init

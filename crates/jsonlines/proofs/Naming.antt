@@ -7,7 +7,7 @@ use native.Mathlib.Omega.{arith}
 use lib.Dec.{eqb}
 use lib.ListN.{drop}
 use borrow.Author.Tests.{eq-eqb, ne_eqb, eqb-true, eqb-false}
-use Rattle.meaning.specs.Tests.{◌and◌, ◌or◌, choose}
+use Rattle.meaning.specs.Tests.{◌and◌, choose}
 use Rattle.laws.specs.Tests.{yes, no as otherwise}
 use Rattle.meaning.specs.Equal.{same_list}
 use Rattle.jsontext.specs.declared.Fault.TheVariants.{BadField}

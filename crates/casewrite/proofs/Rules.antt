@@ -18,7 +18,7 @@ use Rattle.meaning.specs.Calls.{number_of}
 use Rattle.laws.specs.Tests.{both, stop, after, yes, no, unbroken}
 use Rattle.encode.specs.Unsorted.{in_text, finished}
 use Rattle.encode.specs.Write.{point_marks, node_marks, make_refusal, room_after, later_refusal, write_refusal, output_after, over}
-use Rattle.encode.specs.Laws.Unsorted.{finished-bodies}
+use Rattle.encode.proofs.Laws.Unsorted.{finished-bodies}
 use Rattle.casecheck.specs.declared.Contents.{Contents}
 use Rattle.casecheck.specs.declared.Checking.{Checking}
 use Rattle.casecheck.specs.declared.Checking.TheVariants as Che

@@ -1,1 +1,3 @@
 pub mod Out
+pub mod Laws
+pub mod Theorems

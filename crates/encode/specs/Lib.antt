@@ -5,5 +5,3 @@ pub mod Unsorted
 pub mod Write
 pub mod Read
 pub mod Records
-pub mod Laws
-pub mod Theorems

@@ -13,9 +13,9 @@ use Rattle.laws.specs.Writing.{Writing, write-none, write-more}
 use Rattle.encode.specs.Words.{packed}
 use Rattle.encode.specs.Encode.{flat, placed}
 use Rattle.encode.specs.Unsorted.{texts, number, names, renamed, table}
-use Rattle.encode.specs.Laws.Words.{packed-long, packed-append}
-use Rattle.encode.specs.Laws.Encode.{flat_step, step-long, flat-most, placed-more, placed-long}
-use Rattle.encode.specs.Laws.Unsorted.{words_long}
+use Rattle.encode.proofs.Laws.Words.{packed-long, packed-append}
+use Rattle.encode.proofs.Laws.Encode.{flat_step, step-long, flat-most, placed-more, placed-long}
+use Rattle.encode.proofs.Laws.Unsorted.{words_long}
 use Rattle.joining.specs.Order.{Cut, Sorted}
 use Rattle.joining.specs.Laws.{listed-long, listed_at}
 use Rattle.finish.specs.Sizes.{BodySize, TextBytes, Put}

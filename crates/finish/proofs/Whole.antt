@@ -11,9 +11,9 @@ use Rattle.laws.specs.Writing.{Writing, write-more}
 use Rattle.encode.specs.Words.{packed}
 use Rattle.encode.specs.Encode.{flat, placed, encoded}
 use Rattle.encode.specs.Unsorted.{texts, table, tables, parts, finished}
-use Rattle.encode.specs.Laws.Words.{packed-long, packed-append}
-use Rattle.encode.specs.Laws.Encode.{flat-more, placed-long}
-use Rattle.encode.specs.Laws.Unsorted.{seven, finished-long, strings-long, table-long, part-long}
+use Rattle.encode.proofs.Laws.Words.{packed-long, packed-append}
+use Rattle.encode.proofs.Laws.Encode.{flat-more, placed-long}
+use Rattle.encode.proofs.Laws.Unsorted.{seven, finished-long, strings-long, table-long, part-long}
 use Rattle.finish.specs.Sizes.{BodySize, Table, Sized, PartSize, Fits, Room, Put}
 use Rattle.finish.proofs.Parts.{Placing, placing_none, placing_more, placing_all, Filling, filling_none, filling_more, filling_all}
 

@@ -2,7 +2,7 @@
 use Rattle.std.proofs.Common.{◌≡◌, ℕ, ◌+◌, ◌-◌, ◌<◌, ◌≤◌, Bool, true, false, ltb, ◌⊎◌, List, length, sym, ◌∙◌, inl, inr, ⊎_elim, arith, ext_get_or, lt-ltb}
 use Rattle.meaning.specs.Tests.{choose}
 use Rattle.meaning.specs.Text.{before}
-use Rattle.encode.specs.Laws.Join.{before-neither}
+use Rattle.encode.proofs.Laws.Join.{before-neither}
 use Rattle.stringcheck.specs.Eight.{Lesser, Eight}
 use Rattle.stringcheck.proofs.Orders.{Alike, alike-more, alike-not, alike-less, alike_all}
 use Rattle.joining.specs.Order.{Least}

@@ -7,7 +7,7 @@ use Rattle.meaning.specs.Text.{before}
 use Rattle.meaning.specs.Case.{text, strings}
 use Rattle.encode.specs.Join.{insert_new, joined}
 use Rattle.encode.specs.Unsorted.{texts}
-use Rattle.encode.specs.Laws.Join.{Rising, every-at, before-not, insert_rises, joined-rises, place-above, place_inside}
+use Rattle.encode.proofs.Laws.Join.{Rising, every-at, before-not, insert_rises, joined-rises, place-above, place_inside}
 use Rattle.stringcheck.specs.Tables.{replicate-same}
 use Rattle.joining.specs.Order.{Cut, Place, listed, InOrder, Joins, Put}
 use Rattle.joining.specs.Fresh.{insert_all}

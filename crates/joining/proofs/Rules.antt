@@ -7,7 +7,7 @@ use Rattle.meaning.specs.Case.{text, strings}
 use Rattle.laws.specs.Lists.{Every}
 use Rattle.encode.specs.Join.{below, insert_new, joined}
 use Rattle.encode.specs.Unsorted.{number, texts}
-use Rattle.encode.specs.Laws.Join.{Rising, every-at, insert_every, insert_rises, joined-rises, joined-long, joined-most, place-above, place-below, place_inside, insert_there, insert_at}
+use Rattle.encode.proofs.Laws.Join.{Rising, every-at, insert_every, insert_rises, joined-rises, joined-long, joined-most, place-above, place-below, place_inside, insert_there, insert_at}
 use Rattle.joining.specs.declared.Joined.{Joined}
 use Rattle.joining.specs.declared.Joined.TheVariants.{Made, TooMany}
 use Rattle.joining.specs.Order.{Cut, Place, Stands, listed, InOrder, Joins, Sorted, Moved, Put}

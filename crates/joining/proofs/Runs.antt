@@ -5,7 +5,7 @@ use Rattle.meaning.specs.Tests.{choose}
 use Rattle.meaning.specs.Text.{before}
 use Rattle.meaning.specs.Case.{text, strings}
 use Rattle.encode.specs.Join.{below, insert_new, joined}
-use Rattle.encode.specs.Laws.Join.{joined-rises, place-above, place-below, place_inside, insert_at}
+use Rattle.encode.proofs.Laws.Join.{joined-rises, place-above, place-below, place_inside, insert_at}
 use Rattle.joining.specs.Order.{listed, Cut}
 use Rattle.joining.specs.Fresh.{New}
 use Rattle.joining.specs.Run.{onward, Run, Counted, Begun}

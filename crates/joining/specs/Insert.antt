@@ -5,7 +5,7 @@ use Rattle.meaning.specs.Tests.{choose}
 use Rattle.meaning.specs.Text.{before}
 use Rattle.laws.specs.Lists.{Every}
 use Rattle.encode.specs.Join.{insert_new, below}
-use Rattle.encode.specs.Laws.Join.{Rising, every-at, before_trans, before-neither, before-not, place-above, place-below, place_inside, insert_at}
+use Rattle.encode.proofs.Laws.Join.{Rising, every-at, before_trans, before-neither, before-not, place-above, place-below, place_inside, insert_at}
 use Rattle.joining.specs.Fresh.{insert_all, New}
 use Rattle.joining.specs.Laws.{more-long}
 

@@ -5,7 +5,7 @@ use Rattle.meaning.specs.Text.{before}
 use Rattle.meaning.specs.Case.{text}
 use Rattle.encode.specs.Join.{below}
 use Rattle.encode.specs.Unsorted.{texts}
-use Rattle.encode.specs.Laws.Join.{Rising}
+use Rattle.encode.proofs.Laws.Join.{Rising}
 use Rattle.joining.specs.declared.Joined.{Joined}
 use Rattle.joining.specs.declared.Joined.TheVariants.{Made, TooMany}
 

@@ -14,7 +14,7 @@ use Rattle.jsontext.specs.Strings.{string}
 use Rattle.jsontext.specs.Values.{J, Text}
 use Rattle.jsontrace.specs.Order.{ordered}
 use Rattle.jsontrace.specs.Trace.{Tables, ◌⊕◌, texts, value as value·Trace, Next as Next-as_Trace, value_adds}
-use Rattle.jsontrace.specs.Laws.Trace.{shaped-texts, shaped-value}
+use Rattle.jsontrace.proofs.Laws.Trace.{shaped-texts, shaped-value}
 use Rattle.jsonread.specs.Told.{Told}
 use Rattle.jsonread.proofs.Spelling.{never}
 use Rattle.jsonroom.specs.declared.Bodies.{Bodies}

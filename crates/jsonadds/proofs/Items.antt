@@ -16,7 +16,7 @@ use Rattle.jsontext.specs.Reading.{blanks}
 use Rattle.jsontext.specs.Values.{J, Null, Truth, Int, Text, EntityOf, Decimal, Array, Object, Parts, end, part, item_parts, array, value}
 use Rattle.jsontrace.specs.Order.{ordered, ordered_items}
 use Rattle.jsontrace.specs.Trace.{Tables, ◌⊕◌, value as value·Trace, members, Next as Next-as_Trace, past, last_value, many, after_run, holding, texts, value_adds, items_add, members_add}
-use Rattle.jsontrace.specs.Laws.Trace.{shaped}
+use Rattle.jsontrace.proofs.Laws.Trace.{shaped}
 use Rattle.jsonroom.specs.declared.Bodies.{Bodies}
 use Rattle.jsonroom.specs.declared.Next.{Next}
 use Rattle.jsonroom.specs.declared.Written.{Written}

@@ -14,7 +14,7 @@ use Rattle.jsontext.specs.Strings.{string}
 use Rattle.jsontext.specs.Values.{J, Parts, end, part, value}
 use Rattle.jsontrace.specs.Order.{ordered}
 use Rattle.jsontrace.specs.Trace.{Tables, ◌⊕◌, texts, Next as Next-as_Trace, past, last_value, many, after_run, value_adds, members_add}
-use Rattle.jsontrace.specs.Laws.Trace.{shaped, shaped-texts, ◌then◌}
+use Rattle.jsontrace.proofs.Laws.Trace.{shaped, shaped-texts, ◌then◌}
 use Rattle.jsonroom.specs.declared.Bodies.{Bodies}
 use Rattle.jsonroom.specs.declared.Next.{Next}
 use Rattle.jsonroom.specs.declared.Written.{Written}

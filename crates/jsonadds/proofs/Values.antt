@@ -11,7 +11,7 @@ use Rattle.jsontext.specs.Reading.{Read, got, then, mapped}
 use Rattle.jsontext.specs.Values.{J, Array, Object, item_parts, member_parts, array, form, value}
 use Rattle.jsontrace.specs.Order.{ordered, ordered_items, ordered_members}
 use Rattle.jsontrace.specs.Trace.{Tables, ◌⊕◌, value as value·Trace, members, Next as Next-as_Trace, many, after_run, holding, value_adds, items_add, members_add}
-use Rattle.jsontrace.specs.Laws.Trace.{Shaped, shaped-items, shaped-parts, shaped-members, shaped-value, ◌then◌}
+use Rattle.jsontrace.proofs.Laws.Trace.{Shaped, shaped-items, shaped-parts, shaped-members, shaped-value, ◌then◌}
 use Rattle.jsonread.proofs.Spelling.{came}
 use Rattle.jsonroom.specs.declared.Bodies.{Bodies}
 use Rattle.jsonroom.specs.declared.Next.{Next}

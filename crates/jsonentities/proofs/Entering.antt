@@ -13,7 +13,7 @@ use Rattle.jsontext.specs.Values.{Object, array}
 use Rattle.jsontext.specs.Events.{Item}
 use Rattle.jsontrace.specs.Order.{ordered, item_before, insert_item, ordered_entities}
 use Rattle.jsontrace.specs.Trace.{Tables, empty, ◌⊕◌, Next as Next-as_Trace, past, entity_adds, entities_add}
-use Rattle.jsontrace.specs.Laws.Trace.{Shaped, shaped, shaped-empty, shaped-texts, shaped-lists, ◌then◌}
+use Rattle.jsontrace.proofs.Laws.Trace.{Shaped, shaped, shaped-empty, shaped-texts, shaped-lists, ◌then◌}
 use Rattle.jsonroom.specs.declared.Bodies.{Bodies}
 use Rattle.jsonroom.specs.declared.Next.{Next}
 use Rattle.jsonruns.proofs.Runs.{same-got}

@@ -9,7 +9,7 @@ use Rattle.jsontext.specs.Values.{J, Parts, Object, member_parts, fields}
 use Rattle.jsontext.specs.Events.{Item}
 use Rattle.jsontrace.specs.Order.{ordered, ordered_members}
 use Rattle.jsontrace.specs.Trace.{Tables, ◌⊕◌, lists, Next as Next-as_Trace, past, last_value, value_adds}
-use Rattle.jsontrace.specs.Laws.Trace.{Shaped, shaped, shaped-lists, ◌then◌}
+use Rattle.jsontrace.proofs.Laws.Trace.{Shaped, shaped, shaped-lists, ◌then◌}
 use Rattle.jsonroom.specs.declared.Bodies.{Bodies}
 use Rattle.jsonroom.specs.declared.Next.{Next}
 use Rattle.jsonroom.specs.declared.Written.{Written}

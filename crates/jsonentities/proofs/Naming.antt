@@ -9,7 +9,7 @@ use Rattle.jsontext.specs.Strings.{string}
 use Rattle.jsontext.specs.Values.{fields}
 use Rattle.jsontext.specs.Events.{Item}
 use Rattle.jsontrace.specs.Trace.{Tables, ◌⊕◌, texts, lists, Next as Next-as_Trace, past}
-use Rattle.jsontrace.specs.Laws.Trace.{shaped-texts, shaped-lists}
+use Rattle.jsontrace.proofs.Laws.Trace.{shaped-texts, shaped-lists}
 use Rattle.jsonread.specs.Told.{Blanks}
 use Rattle.jsonroom.specs.declared.Bodies.{Bodies}
 use Rattle.jsonroom.specs.declared.Next.{Next}

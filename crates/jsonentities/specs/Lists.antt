@@ -4,12 +4,12 @@ use Rattle.std.proofs.Common.{sym, ap, subst, ◌∙◌, append-nil, arith}
 use Rattle.meaning.specs.Case.{places}
 use Rattle.encode.specs.Words.{packed}
 use Rattle.encode.specs.Encode.{flat, placed}
-use Rattle.encode.specs.Laws.Words.{packed-long}
+use Rattle.encode.proofs.Laws.Words.{packed-long}
 use Rattle.jsontext.specs.Values.{Object}
 use Rattle.jsontext.specs.Events.{Item}
 use Rattle.jsontrace.specs.Order.{ordered_members}
 use Rattle.jsontrace.specs.Trace.{Tables, ◌⊕◌, texts, lists, Next as Next-as_Trace, past, last_value, value_adds, naming, entity_adds}
-use Rattle.jsontrace.specs.Laws.Trace.{Shaped, shaped-texts, shaped-lists, ◌then◌}
+use Rattle.jsontrace.proofs.Laws.Trace.{Shaped, shaped-texts, shaped-lists, ◌then◌}
 use Rattle.jsonroom.specs.declared.Bodies.{Bodies}
 use Rattle.jsonroom.specs.declared.Next.{Next}
 use Rattle.jsonroom.specs.Put.{with_list, ListPut}

@@ -7,7 +7,7 @@ use Rattle.meaning.specs.Equal.{same_list}
 use Rattle.laws.specs.Tests.{yes, no as otherwise}
 use Rattle.laws.specs.Text.{same-list, list_same}
 use Rattle.laws.specs.Lists.{Every, every_map}
-use Rattle.encode.specs.Laws.Join.{before_trans, before-neither, before-not}
+use Rattle.encode.proofs.Laws.Join.{before_trans, before-neither, before-not}
 use Rattle.jsontext.specs.Events.{Item}
 use Rattle.jsontrace.specs.Order.{item_before, insert_item, ordered_entities, ordered_members}
 use Rattle.jsonsort.specs.Order.{false-true, between}

@@ -3,7 +3,7 @@ use Rattle.std.specs.Prelude.{◌≡◌, List, [], ◌++◌, map, ℕ, ◌+◌, 
 use Rattle.std.proofs.Common.{sym, ap, subst, ◌∙◌, arith, length-append}
 use Rattle.std.proofs.lemmas.List.{length-map}
 use Rattle.jsontrace.specs.Trace.{Tables, ◌⊕◌}
-use Rattle.jsontrace.specs.Laws.Trace.{Shaped}
+use Rattle.jsontrace.proofs.Laws.Trace.{Shaped}
 use Rattle.jsonroom.specs.declared.Bodies.{Bodies}
 use Rattle.jsonroom.specs.declared.Next.{Next}
 use Rattle.jsonview.specs.Cells.{write, write_then, write-long, write-nothing}

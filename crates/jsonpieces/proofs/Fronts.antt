@@ -13,7 +13,7 @@ use Rattle.jsontext.specs.Values.{Object, fields, array}
 use Rattle.jsontext.specs.Events.{Item, Event, line as line_of}
 use Rattle.jsontrace.specs.Order.{ordered_members, item_before, insert_item, ordered_entities}
 use Rattle.jsontrace.specs.Trace.{Tables, ◌⊕◌, texts, lists, Next as Next-as_Trace, past, last_value, naming, entity_adds, entities_add, value_adds}
-use Rattle.jsontrace.specs.Laws.Trace.{Shaped, ◌then◌, shaped-entities}
+use Rattle.jsontrace.proofs.Laws.Trace.{Shaped, ◌then◌, shaped-entities}
 use Rattle.jsonroom.specs.declared.Bodies.{Bodies}
 use Rattle.jsonroom.specs.declared.Next.{Next}
 use Rattle.jsonruns.proofs.Runs.{same-got}

@@ -10,7 +10,7 @@ use Rattle.jsontext.specs.Reading.{Read, got, fault}
 use Rattle.jsontext.specs.Events.{Event, line as line_of, cut, Log, events, refused, with_event, lines, log}
 use Rattle.jsontrace.specs.Order.{arranged}
 use Rattle.jsontrace.specs.Trace.{Tables, empty, ◌⊕◌, Next as Next-as_Trace, first, past, event_adds, events_add, tables_of}
-use Rattle.jsontrace.specs.Laws.Trace.{Shaped, ◌then◌, shaped-empty, shaped-event}
+use Rattle.jsontrace.proofs.Laws.Trace.{Shaped, ◌then◌, shaped-empty, shaped-event}
 use Rattle.jsonroom.specs.declared.Bodies.{Bodies}
 use Rattle.jsonroom.specs.declared.Next.{Next}
 use Rattle.jsonlines.specs.Events.{line_length}

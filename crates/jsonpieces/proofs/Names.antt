@@ -9,14 +9,14 @@ use mir.Val.{Fits}
 use mir.Syntax.{w64}
 use borrow.Author.Tests.{eq-eqb, ne_eqb}
 use Rattle.meaning.specs.Case.{places}
-use Rattle.encode.specs.Laws.Unsorted.{places-long}
+use Rattle.encode.proofs.Laws.Unsorted.{places-long}
 use Rattle.jsontext.specs.declared.Fault.TheVariants.{BadField}
 use Rattle.jsontext.specs.Reading.{Read, got, then, blanks, want}
 use Rattle.jsontext.specs.Strings.{string}
 use Rattle.jsontext.specs.Values.{text, array}
 use Rattle.jsontext.specs.Events.{Event, listed}
 use Rattle.jsontrace.specs.Trace.{Tables, empty, ◌⊕◌, texts, lists, Next as Next-as_Trace, past, naming}
-use Rattle.jsontrace.specs.Laws.Trace.{Shaped, shaped-texts, shaped-lists, ◌then◌}
+use Rattle.jsontrace.proofs.Laws.Trace.{Shaped, shaped-texts, shaped-lists, ◌then◌}
 use Rattle.jsonroom.specs.declared.Bodies.{Bodies}
 use Rattle.jsonroom.specs.declared.Next.{Next}
 use Rattle.jsonroom.specs.declared.Written.{Written}

@@ -9,7 +9,7 @@ use mir.Syntax.{w64}
 use Rattle.laws.specs.Writing.{Writing}
 use Rattle.encode.specs.Words.{packed}
 use Rattle.encode.specs.Encode.{flat, placed}
-use Rattle.encode.specs.Laws.Words.{packed-long}
+use Rattle.encode.proofs.Laws.Words.{packed-long}
 use Rattle.jsontext.specs.declared.Fault.TheVariants.{BadField}
 use Rattle.jsontext.specs.Reading.{got}
 use Rattle.jsontext.specs.Numbers.{number}
@@ -17,7 +17,7 @@ use Rattle.jsontext.specs.Values.{numeral}
 use Rattle.jsontext.specs.Events.{Event, line as line_of}
 use Rattle.jsontrace.specs.Order.{arranged, ordered_entities}
 use Rattle.jsontrace.specs.Trace.{Tables, ◌⊕◌, point, Next as Next-as_Trace, past, low, high, entities_add, event_adds}
-use Rattle.jsontrace.specs.Laws.Trace.{Shaped, shaped-point}
+use Rattle.jsontrace.proofs.Laws.Trace.{Shaped, shaped-point}
 use Rattle.jsonroom.specs.declared.Bodies.{Bodies}
 use Rattle.jsonroom.specs.declared.Next.{Next}
 use Rattle.jsonroom.proofs.Records.{words_more}

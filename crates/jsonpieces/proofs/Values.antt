@@ -10,7 +10,7 @@ use Rattle.jsontext.specs.Reading.{Read, got}
 use Rattle.jsontext.specs.Values.{J, Object, Parts, member_parts, value, fields}
 use Rattle.jsontrace.specs.Order.{ordered, ordered_members, ordered_maybe}
 use Rattle.jsontrace.specs.Trace.{Tables, empty, ◌⊕◌, Next as Next-as_Trace, past, last_value, value_adds, maybe_adds, maybe_number}
-use Rattle.jsontrace.specs.Laws.Trace.{Shaped, shaped, shaped-maybe}
+use Rattle.jsontrace.proofs.Laws.Trace.{Shaped, shaped, shaped-maybe}
 use Rattle.jsonroom.specs.declared.Bodies.{Bodies}
 use Rattle.jsonroom.specs.declared.Next.{Next}
 use Rattle.jsonroom.specs.declared.Written.{Written}

@@ -10,7 +10,7 @@ use mir.Val.{Fits}
 use mir.Syntax.{w64}
 use Rattle.laws.specs.Writing.{Writing, write-none, write-more}
 use Rattle.encode.specs.Words.{packed}
-use Rattle.encode.specs.Laws.Words.{packed-long, packed-append}
+use Rattle.encode.proofs.Laws.Words.{packed-long, packed-append}
 use Rattle.jsonspelt.specs.declared.Spelt.{Spelt}
 use Rattle.jsonspelt.specs.Spelt.{PutTold}
 use Rattle.jsonroom.specs.declared.Bodies.{Bodies}

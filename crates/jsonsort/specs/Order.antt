@@ -4,7 +4,7 @@ use Rattle.std.proofs.Common.{sym, ap, ◌∙◌, arith}
 use Rattle.meaning.specs.Tests.{choose}
 use Rattle.laws.specs.Tests.{yes, no as otherwise}
 use Rattle.meaning.specs.Text.{before}
-use Rattle.encode.specs.Laws.Join.{before_trans, before-neither, before-not}
+use Rattle.encode.proofs.Laws.Join.{before_trans, before-neither, before-not}
 use Rattle.jsontext.specs.Values.{J, Parts, end, part}
 use Rattle.jsontrace.specs.Order.{insert_part, ordered, ordered_members}
 use Rattle.jsonsort.specs.Sort.{insert_all, Fresh, Apart, Away, Among, here, later, Least, Ascends}

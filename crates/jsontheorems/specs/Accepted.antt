@@ -4,7 +4,7 @@ use Rattle.std.proofs.Common.{sym, ap, subst, ◌∙◌, le-leb}
 use Rattle.meaning.specs.declared.Refusal.TheVariants.{BadLimits}
 use Rattle.meaning.specs.Tests.{choose}
 use Rattle.laws.specs.Tests.{pass, yes}
-use Rattle.encode.specs.Laws.Read.{never}
+use Rattle.encode.proofs.Laws.Read.{never}
 use Rattle.jsontext.specs.Reading.{Read, got, fault}
 use Rattle.jsontext.specs.Events.{Event, Log, events, refused, line, cut, with_event, lines, log}
 use Rattle.jsontrace.specs.declared.Imported.{Imported}
@@ -13,7 +13,7 @@ use Rattle.jsontrace.specs.Trace.{trace, trace_marks}
 use Rattle.jsontrace.specs.Import.{cells_for, longest, given_events, given_log, imported}
 use Rattle.jsontrace.specs.Text.{log_text}
 use Rattle.jsontrace.specs.Writable.{writable_events}
-use Rattle.jsontrace.specs.Laws.Lines.{log-reads}
+use Rattle.jsontrace.proofs.Laws.Lines.{log-reads}
 
 -- ---- every line that is taken is an event
 

@@ -7,5 +7,3 @@ pub mod Export
 pub mod Writable
 pub mod Examples
 pub mod ExportExamples
-pub mod Laws
-pub mod Theorems

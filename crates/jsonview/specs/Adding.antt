@@ -6,11 +6,11 @@ use Rattle.std.proofs.Math.ListN.{length, length-append}
 use Rattle.laws.specs.Writing.{Writing}
 use Rattle.encode.specs.Words.{packed}
 use Rattle.encode.specs.Encode.{flat, placed}
-use Rattle.encode.specs.Laws.Words.{packed-long, packed-append}
+use Rattle.encode.proofs.Laws.Words.{packed-long, packed-append}
 use Rattle.jsonroom.specs.declared.Bodies.{Bodies}
 use Rattle.jsonroom.specs.declared.Next.{Next}
 use Rattle.jsontrace.specs.Trace.{Tables, empty, ◌⊕◌, members}
-use Rattle.jsontrace.specs.Laws.Trace.{Long, Shaped, shaped-members}
+use Rattle.jsontrace.proofs.Laws.Trace.{Long, Shaped, shaped-members}
 use Rattle.jsonview.specs.Cells.{write, write_then, write-swap, write-long}
 use Rattle.jsonview.specs.Room.{Room, Shows, filled, beyond, Fit, Ready, Adds, leaving, Running}
 use Rattle.jsonview.specs.Filling.{strings-long, values-long, members-long, points-long, lists-long, flat_append, beyond-beyond, filled-then}

@@ -4,11 +4,11 @@ use Rattle.std.proofs.Common.{sym, ap, ◌∙◌, append_assoc, arith, length-ap
 use Rattle.std.proofs.lemmas.List.{length-map}
 use Rattle.encode.specs.Words.{packed}
 use Rattle.encode.specs.Encode.{flat, placed}
-use Rattle.encode.specs.Laws.Words.{packed-long, packed-append}
-use Rattle.encode.specs.Laws.Encode.{placed-long}
+use Rattle.encode.proofs.Laws.Words.{packed-long, packed-append}
+use Rattle.encode.proofs.Laws.Encode.{placed-long}
 use Rattle.jsonroom.specs.declared.Next.{Next}
 use Rattle.jsontrace.specs.Trace.{Tables, ◌⊕◌, past}
-use Rattle.jsontrace.specs.Laws.Trace.{Shaped, long-flat}
+use Rattle.jsontrace.proofs.Laws.Trace.{Shaped, long-flat}
 use Rattle.jsonview.specs.Cells.{write, write_then}
 use Rattle.jsonview.specs.Room.{Room, filled, beyond, numbers, Fit}
 

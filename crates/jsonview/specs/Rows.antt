@@ -7,7 +7,7 @@ use Rattle.encode.specs.Encode.{flat}
 use Rattle.jsonroom.specs.declared.Bodies.{Bodies}
 use Rattle.jsonroom.specs.declared.Next.{Next}
 use Rattle.jsontrace.specs.Trace.{Tables, empty, ◌⊕◌, members}
-use Rattle.jsontrace.specs.Laws.Trace.{Long, long-append, Shaped, ◌then◌, shaped-empty, shaped-members}
+use Rattle.jsontrace.proofs.Laws.Trace.{Long, long-append, Shaped, ◌then◌, shaped-empty, shaped-members}
 use Rattle.jsonview.specs.Room.{Room, Shows, filled, beyond, Fit, Ready, Adds, leaving, Running}
 use Rattle.jsonview.specs.Filling.{beyond-beyond}
 use Rattle.jsonview.specs.Adding.{Alike, filled-long, fit-alike, fit-first, fit-second, fit-run, after_run, run-start, run-child, run-member, run_end}

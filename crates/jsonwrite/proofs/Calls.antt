@@ -21,7 +21,7 @@ use Rattle.jsontrace.specs.declared.Imported.{Imported}
 use Rattle.jsontrace.specs.declared.Imported.TheVariants.{Written, Faulty, Refused}
 use Rattle.jsontrace.specs.Trace.{trace, trace_marks}
 use Rattle.jsontrace.specs.Import.{cells_for, given_events, given_log, imported, workspace_after, events_of, filled_if, ImportResult, import_call}
-use Rattle.jsontrace.specs.Laws.Trace.{trace-long, marks-long}
+use Rattle.jsontrace.proofs.Laws.Trace.{trace-long, marks-long}
 use Rattle.jsonroom.specs.declared.Bodies.{Bodies}
 use Rattle.jsoncount.specs.declared.tallies.Tally.{Tally}
 use Rattle.jsonlines.specs.Events.{LogIs, LogTold}

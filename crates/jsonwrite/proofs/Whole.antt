@@ -9,13 +9,13 @@ use Rattle.laws.specs.Writing.{Writing}
 use Rattle.encode.specs.Words.{packed}
 use Rattle.encode.specs.Encode.{flat, placed, encoded}
 use Rattle.encode.specs.Write.{over}
-use Rattle.encode.specs.Laws.Words.{packed-long}
+use Rattle.encode.proofs.Laws.Words.{packed-long}
 use Rattle.jsontext.specs.Events.{Event, Log, events, log}
 use Rattle.jsontrace.specs.Count.{Count}
 use Rattle.jsontrace.specs.Order.{arranged}
 use Rattle.jsontrace.specs.Trace.{Tables, Next, first, past, event_adds, events_add, bodies_of, tables_of, trace, trace_marks}
-use Rattle.jsontrace.specs.Laws.Counts.{Sized, tables-sized}
-use Rattle.jsontrace.specs.Laws.Trace.{Shaped, ◌then◌, shaped-empty, shaped-event}
+use Rattle.jsontrace.proofs.Laws.Counts.{Sized, tables-sized}
+use Rattle.jsontrace.proofs.Laws.Trace.{Shaped, ◌then◌, shaped-empty, shaped-event}
 use Rattle.jsonroom.specs.declared.Bodies.{Bodies}
 use Rattle.jsonroom.specs.declared.Next.{Next as Next-as-Room}
 use Rattle.jsonroom.specs.Put.{spans, front, contents}

@@ -19,8 +19,8 @@ use Rattle.laws.specs.Writing.{Writing}
 use Rattle.encode.specs.Encode.{flat}
 use Rattle.encode.specs.Unsorted.{texts, parts, finished}
 use Rattle.encode.specs.Write.{make_refusal, room_after, over}
-use Rattle.encode.specs.Laws.Encode.{step-long}
-use Rattle.encode.specs.Laws.Unsorted.{seven, finished-long, mosts-as}
+use Rattle.encode.proofs.Laws.Encode.{step-long}
+use Rattle.encode.proofs.Laws.Unsorted.{seven, finished-long, mosts-as}
 use Rattle.joining.specs.declared.Joined.{Joined}
 use Rattle.joining.specs.declared.Joined.TheVariants as J
 use Rattle.joining.specs.Order.{Joins, Sorted}

@@ -15,7 +15,7 @@ use Rattle.meaning.specs.declared.Due.TheVariants.{Nothing, One, Two, Three, Aft
 use Rattle.meaning.specs.Tests.{◌and◌, ◌or◌, choose, only_if, or_else}
 use Rattle.meaning.specs.Text.{first, follow, next, ended, utf8}
 use Rattle.laws.specs.Tests.{yes, no as otherwise, and-false}
-use Rattle.encode.specs.Laws.Read.{never}
+use Rattle.encode.proofs.Laws.Read.{never}
 use Rattle.jsontext.specs.Reading.{got, then, mapped, want, or_wrong}
 use Rattle.jsontext.specs.Strings.{hex_digit, hex_digits, utf8_of, is_high, is_low, character, simple, escape, is_wrong, chars, string}
 use Rattle.jsontrace.specs.Text.{hex_byte, escaped_byte, escaped, quoted}

@@ -21,7 +21,7 @@ use Rattle.encode.specs.Unsorted.{value_names, member_names, point_names, node_n
 use Rattle.encode.specs.Write.{point_marks, node_marks}
 use Rattle.encode.specs.Read.{one_of, point_strings, point_others}
 use Rattle.encode.specs.Records.{Renumbered, part_under, value_under, entity_under, point_under, node_under, SameRecords}
-use Rattle.encode.specs.Laws.Read.{never, or_left, or_right, some_at, one_at, point-says, point_denies, node-says, node_denies, point_in_lem, node_in}
+use Rattle.encode.proofs.Laws.Read.{never, or_left, or_right, some_at, one_at, point-says, point_denies, node-says, node_denies, point_in_lem, node_in}
 
 map-every : {A : Type 0} (f g : ℕ → A) (l : List ℕ) → Every (λ i. f i ≡ g i) l → map f l ≡ map g l
 map-every f g [] e = refl

@@ -18,15 +18,15 @@ use Rattle.encode.specs.Encode.{flat, placed, encoded}
 use Rattle.encode.specs.Join.{joined}
 use Rattle.encode.specs.Unsorted.{in_text, texts, parts, tables, finished}
 use Rattle.encode.specs.Write.{node_marks}
-use Rattle.encode.specs.Laws.Words.{words-packed, packed-long}
-use Rattle.encode.specs.Laws.Encode.{all_true, placed-long, placed-start, placed-size, flat-at, step-long, flat-most, encoded-size, encoded-body}
-use Rattle.encode.specs.Laws.Join.{Rising, every-at, insert_every, joined-rises}
-use Rattle.encode.specs.Laws.Unsorted.{kept, seven}
+use Rattle.encode.proofs.Laws.Words.{words-packed, packed-long}
+use Rattle.encode.proofs.Laws.Encode.{all_true, placed-long, placed-start, placed-size, flat-at, step-long, flat-most, encoded-size, encoded-body}
+use Rattle.encode.proofs.Laws.Join.{Rising, every-at, insert_every, joined-rises}
+use Rattle.encode.proofs.Laws.Unsorted.{kept, seven}
 use Rattle.jsontext.specs.Events.{Event}
 use Rattle.jsontrace.specs.Trace.{Tables, bodies_of, tables_of, trace, trace_marks}
 use Rattle.jsontrace.specs.Writable.{well, writable_events}
-use Rattle.jsontrace.specs.Laws.Trace.{trace-bodies}
-use Rattle.jsontrace.specs.Laws.Wells.{trace_wells}
+use Rattle.jsontrace.proofs.Laws.Trace.{trace-bodies}
+use Rattle.jsontrace.proofs.Laws.Wells.{trace_wells}
 
 -- each rising text is before the next
 next-after : (ts : List (List ℕ)) (k : ℕ) → Rising ts → suc k < length ts → before (get_or ts k []) (get_or ts (suc k) []) ≡ true

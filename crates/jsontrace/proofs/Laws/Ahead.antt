@@ -8,11 +8,11 @@ use borrow.Author.Tests.{ltb-true, ltb-false, ne_eqb}
 use Rattle.meaning.specs.Tests.{◌or◌, choose}
 use Rattle.laws.specs.Tests.{yes, no as otherwise}
 use Rattle.laws.specs.Lists.{Every}
-use Rattle.encode.specs.Laws.Read.{never}
+use Rattle.encode.proofs.Laws.Read.{never}
 use Rattle.jsontext.specs.declared.Side.TheVariants.{Outside, Inside}
 use Rattle.jsontext.specs.Values.{J, Null, Truth, Int, Text, EntityOf, Decimal, Array, Object, Parts, end, part, closes_first, __entity, «type», «id», __extn, «fn», «arg», «decimal»}
 use Rattle.jsontrace.specs.Text.{hex_byte, escaped_byte, escaped, quoted, decimal_digits, natural, integer, after_first, commas, brackets, braces, pair, shown, shown_items, shown_members}
-use Rattle.jsontrace.specs.Laws.Strings.{neither}
+use Rattle.jsontrace.proofs.Laws.Strings.{neither}
 
 -- what is seen after it is seen from before it
 pub record Passed (t : List ℕ) : Type 0 where

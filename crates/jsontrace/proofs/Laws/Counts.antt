@@ -8,7 +8,7 @@ use Rattle.meaning.specs.Tests.{choose}
 use Rattle.meaning.specs.Text.{before}
 use Rattle.meaning.specs.Case.{places}
 use Rattle.encode.specs.Encode.{flat}
-use Rattle.encode.specs.Laws.Unsorted.{places-long}
+use Rattle.encode.proofs.Laws.Unsorted.{places-long}
 use Rattle.jsontext.specs.Values.{J, Null, Truth, Int, Text, EntityOf, Decimal, Array, Object, Parts, end, part}
 use Rattle.jsontext.specs.Events.{Item, Event}
 use Rattle.jsontrace.specs.Order.{insert_part, ordered, ordered_items, ordered_members, ordered_maybe, item_before, insert_item, ordered_entities, arranged}

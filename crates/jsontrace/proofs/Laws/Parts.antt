@@ -13,13 +13,13 @@ use Rattle.meaning.specs.Tests.{◌and◌, ◌or◌, choose}
 use Rattle.meaning.specs.Text.{utf8}
 use Rattle.meaning.specs.Equal.{is_digit, same_list}
 use Rattle.laws.specs.Tests.{both, no as otherwise}
-use Rattle.encode.specs.Laws.Read.{never}
+use Rattle.encode.proofs.Laws.Read.{never}
 use Rattle.jsontext.specs.Reading.{Read, got, then, is_blank, blanks, want}
 use Rattle.jsontext.specs.Values.{Name, after_part, items, unless_empty, array, before, after_name, members, object}
 use Rattle.jsontrace.specs.Writable.{fresh, distinct}
 use Rattle.jsontrace.specs.Text.{quoted, after_first, commas, pair}
-use Rattle.jsontrace.specs.Laws.Numbers.{ends_number}
-use Rattle.jsontrace.specs.Laws.Strings.{string-text}
+use Rattle.jsontrace.proofs.Laws.Numbers.{ends_number}
+use Rattle.jsontrace.proofs.Laws.Strings.{string-text}
 
 -- ---- what reads back
 

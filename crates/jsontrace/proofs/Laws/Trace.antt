@@ -12,13 +12,13 @@ use Rattle.meaning.specs.Check.{record_bytes, bodies}
 use Rattle.laws.specs.Lists.{Every}
 use Rattle.encode.specs.Words.{packed}
 use Rattle.encode.specs.Encode.{flat, placed, encoded}
-use Rattle.encode.specs.Laws.Words.{packed-long}
-use Rattle.encode.specs.Laws.Encode.{placed-long, encoded-long, encoded-size, encoded-bodies}
+use Rattle.encode.proofs.Laws.Words.{packed-long}
+use Rattle.encode.proofs.Laws.Encode.{placed-long, encoded-long, encoded-size, encoded-bodies}
 use Rattle.jsontext.specs.Values.{J, Null, Truth, Int, Text, EntityOf, Decimal, Array, Object, Parts, end, part}
 use Rattle.jsontext.specs.Events.{Item, Event}
 use Rattle.jsontrace.specs.Order.{arranged}
 use Rattle.jsontrace.specs.Count.{counted_events, trace_bytes}
-use Rattle.jsontrace.specs.Laws.Counts.{tables-sized}
+use Rattle.jsontrace.proofs.Laws.Counts.{tables-sized}
 use Rattle.jsontrace.specs.Trace.{Tables, empty, ◌⊕◌, texts, value, members, point, lists as lists·Trace, Next, first, past, many, holding, after_run, value_adds, items_add, members_add, maybe_adds, entity_adds, entities_add, event_adds, events_add, bodies_of, tables_of, trace, trace_marks}
 
 -- ---- records of so many words

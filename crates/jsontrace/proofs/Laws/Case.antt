@@ -19,8 +19,8 @@ use Rattle.laws.specs.Tests.{both, pass, all-at}
 use Rattle.laws.specs.Lists.{Every, every_map, every-place}
 use Rattle.laws.specs.Values.{held, held-is, depth_is}
 use Rattle.laws.specs.Checked.{rules, checked-values, lower-parts}
-use Rattle.encode.specs.Laws.Join.{before_trans, before-not}
-use Rattle.encode.specs.Laws.Read.{never}
+use Rattle.encode.proofs.Laws.Join.{before_trans, before-not}
+use Rattle.encode.proofs.Laws.Read.{never}
 use Rattle.jsontext.specs.Values.{J, Null as Null-as-J, Array as Array-as-J, Object as Object-as-J}
 use Rattle.jsontrace.specs.Export.{parts_of, members_of, tree_of, tree_at, maybe_tree, item_of, event_of, point_events, not_form, clear, clear_parts, clear_maybe, clear_items, clear_event, clear_events}
 use Rattle.jsontrace.specs.Writable.{fits64, well, fresh, distinct, part_names, writable, writable_items, writable_members, deep, deep_parts, writable_value, writable_maybe, all_well, writable_entities, writable_event, writable_events}

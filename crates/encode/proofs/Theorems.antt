@@ -18,13 +18,13 @@ use Rattle.encode.specs.Unsorted.{in_text, names, number, renamed, finished}
 use Rattle.encode.specs.Write.{point_marks, node_marks, over, make_refusal, later_refusal, write_refusal, output_after}
 use Rattle.encode.specs.Read.{read_marks, one_way}
 use Rattle.encode.specs.Records.{Renumbered, SameRecords}
-use Rattle.encode.specs.Laws.Encode.{all_true}
-use Rattle.encode.specs.Laws.Unsorted.{kept, vars-kept, finished-bodies}
-use Rattle.encode.specs.Laws.ReadBack.{finished-word, reads-back, number-inside, number-outside}
-use Rattle.encode.specs.Laws.Records.{same-records}
-use Rattle.encode.specs.Laws.Own.{Bytes}
-use Rattle.encode.specs.Laws.Again.{end_in, finished-same}
-use Rattle.encode.specs.Laws.Read.{never, read-long, points-fit, nodes-fit, used_one_way}
+use Rattle.encode.proofs.Laws.Encode.{all_true}
+use Rattle.encode.proofs.Laws.Unsorted.{kept, vars-kept, finished-bodies}
+use Rattle.encode.proofs.Laws.ReadBack.{finished-word, reads-back, number-inside, number-outside}
+use Rattle.encode.proofs.Laws.Records.{same-records}
+use Rattle.encode.proofs.Laws.Own.{Bytes}
+use Rattle.encode.proofs.Laws.Again.{end_in, finished-same}
+use Rattle.encode.proofs.Laws.Read.{never, read-long, points-fit, nodes-fit, used_one_way}
 
 -- ---- 1: what is written passes the check
 

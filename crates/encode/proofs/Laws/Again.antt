@@ -22,9 +22,9 @@ use Rattle.encode.specs.Words.{packed}
 use Rattle.encode.specs.Encode.{flat, placed, encoded}
 use Rattle.encode.specs.Join.{insert_new, below, joined}
 use Rattle.encode.specs.Unsorted.{texts, number, names, renamed, table, tables, parts, finished}
-use Rattle.encode.specs.Laws.Join.{before_trans, before-not, insert_every, joined-rises, place-above, place-below}
-use Rattle.encode.specs.Laws.Encode.{flat-more, placed-more}
-use Rattle.encode.specs.Laws.Own.{Bytes, words_count, packed-own, encoded-own, table-own}
+use Rattle.encode.proofs.Laws.Join.{before_trans, before-not, insert_every, joined-rises, place-above, place-below}
+use Rattle.encode.proofs.Laws.Encode.{flat-more, placed-more}
+use Rattle.encode.proofs.Laws.Own.{Bytes, words_count, packed-own, encoded-own, table-own}
 
 -- a text after all others goes last
 insert_last : (x : List ℕ) (l : List (List ℕ)) → Every (λ y. before y x ≡ true) l → insert_new x l ≡ l ++ (x ∷ [])

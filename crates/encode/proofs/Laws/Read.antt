@@ -16,9 +16,9 @@ use Rattle.laws.specs.Checked.{rules, checked-nodes}
 use Rattle.encode.specs.Unsorted.{marked}
 use Rattle.encode.specs.Write.{all_marked, none_marked, entity_marks, point_marks, argument_marks, marks_of, node_marks}
 use Rattle.encode.specs.Read.{some_below, one_of, point_strings, strings_of, used_as_string, point_others, others_of, used_otherwise, read_marks, one_way}
-use Rattle.encode.specs.Laws.Encode.{all_true}
-use Rattle.encode.specs.Laws.Unsorted.{places-long}
-use Rattle.encode.specs.Laws.ReadBack.{place_at}
+use Rattle.encode.proofs.Laws.Encode.{all_true}
+use Rattle.encode.proofs.Laws.Unsorted.{places-long}
+use Rattle.encode.proofs.Laws.ReadBack.{place_at}
 
 -- ---- some of several
 

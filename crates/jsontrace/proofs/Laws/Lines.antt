@@ -10,13 +10,13 @@ use Rattle.meaning.specs.Tests.{◌and◌, ◌or◌, choose}
 use Rattle.meaning.specs.Text.{free}
 use Rattle.laws.specs.Tests.{both, pass}
 use Rattle.laws.specs.Lists.{Every}
-use Rattle.encode.specs.Laws.Read.{never}
+use Rattle.encode.proofs.Laws.Read.{never}
 use Rattle.jsontext.specs.Values.{J, Null, Truth, Int, Text, EntityOf, Decimal, Array, Object, Parts, end, part, __entity, «type», «id», __extn, «fn», «arg», «decimal»}
 use Rattle.jsontext.specs.Events.{Item, Event, onto, cut, events, with_event, lines, log}
 use Rattle.jsontrace.specs.Text.{hex_byte, escaped_byte, escaped, quoted, decimal_digits, natural, integer, after_first, commas, brackets, braces, pair, shown, shown_items, shown_members, maybe_pair, entity_text, field_texts, event_text, log_text, «time», «namespace», «action», «kind», «logged», «context», «principal», «resource», «entities»}
 use Rattle.jsontrace.specs.Export.{exported, point_events}
 use Rattle.jsontrace.specs.Writable.{writable_event, writable_events}
-use Rattle.jsontrace.specs.Laws.Events.{line_reads}
+use Rattle.jsontrace.proofs.Laws.Events.{line_reads}
 
 -- ---- texts without a line's end
 

@@ -17,8 +17,8 @@ use Rattle.laws.specs.Words.{words-part}
 use Rattle.laws.specs.Bodies.{long, edition, body-length}
 use Rattle.encode.specs.Words.{packed}
 use Rattle.encode.specs.Encode.{flat, placed, encoded}
-use Rattle.encode.specs.Laws.Unsorted.{places-long, quarter}
-use Rattle.encode.specs.Laws.ReadBack.{place_at}
+use Rattle.encode.proofs.Laws.Unsorted.{places-long, quarter}
+use Rattle.encode.proofs.Laws.ReadBack.{place_at}
 
 -- ---- bytes as words and back
 

@@ -11,7 +11,7 @@ use Rattle.meaning.specs.Check.{Checked, check, mosts, string_rules, node_rules}
 use Rattle.laws.specs.Tests.{pass, yes}
 use Rattle.encode.specs.Unsorted.{in_text, finished}
 use Rattle.encode.specs.Write.{over, node_marks, make_refusal}
-use Rattle.encode.specs.Laws.Read.{never}
+use Rattle.encode.proofs.Laws.Read.{never}
 use Rattle.jsontext.specs.Events.{Event, Log, events, refused, log}
 use Rattle.jsontrace.specs.declared.Imported.TheVariants.{Refused as Refused_as_Imported}
 use Rattle.jsontrace.specs.declared.Exported.{Exported}
@@ -21,10 +21,10 @@ use Rattle.jsontrace.specs.Count.{counted_events, trace_bytes}
 use Rattle.jsontrace.specs.Import.{cells_for, given_events, given_log, imported}
 use Rattle.jsontrace.specs.Export.{point_events, exported, clear_events, given_case, unless_refused, filled_if, export_call}
 use Rattle.jsontrace.specs.Writable.{writable_events}
-use Rattle.jsontrace.specs.Laws.Trace.{trace-bodies, trace-marks, trace-long, marks-long}
-use Rattle.jsontrace.specs.Laws.Taken.{never_3, never_6}
-use Rattle.jsontrace.specs.Laws.Lines.{export_reads}
-use Rattle.jsontrace.specs.Laws.Case.{points-write}
+use Rattle.jsontrace.proofs.Laws.Trace.{trace-bodies, trace-marks, trace-long, marks-long}
+use Rattle.jsontrace.proofs.Laws.Taken.{never_3, never_6}
+use Rattle.jsontrace.proofs.Laws.Lines.{export_reads}
+use Rattle.jsontrace.proofs.Laws.Case.{points-write}
 
 -- ---- 1: one answer
 

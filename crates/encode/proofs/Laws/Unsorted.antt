@@ -13,8 +13,8 @@ use Rattle.laws.specs.Bodies.{wholes}
 use Rattle.encode.specs.Words.{packed}
 use Rattle.encode.specs.Encode.{flat, placed}
 use Rattle.encode.specs.Unsorted.{texts, renamed, table, tables, parts, finished}
-use Rattle.encode.specs.Laws.Words.{packed-long}
-use Rattle.encode.specs.Laws.Encode.{placed-long, encoded-long, encoded-size, encoded-word, encoded-bodies}
+use Rattle.encode.proofs.Laws.Words.{packed-long}
+use Rattle.encode.proofs.Laws.Encode.{placed-long, encoded-long, encoded-size, encoded-word, encoded-bodies}
 
 pub places-long : (first n : ℕ) → length (places first 1 n) ≡ n
 unfolding places

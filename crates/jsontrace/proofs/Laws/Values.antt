@@ -9,7 +9,7 @@ use Rattle.meaning.specs.Tests.{◌and◌, ◌or◌, choose}
 use Rattle.meaning.specs.Text.{first, next, ended, utf8}
 use Rattle.meaning.specs.Equal.{is_digit, same_list}
 use Rattle.laws.specs.Tests.{both, yes, no as otherwise}
-use Rattle.encode.specs.Laws.Read.{never}
+use Rattle.encode.proofs.Laws.Read.{never}
 use Rattle.jsontext.specs.declared.Fault.TheVariants.{BadField}
 use Rattle.jsontext.specs.declared.Form.{Form}
 use Rattle.jsontext.specs.declared.Form.TheVariants.{Plain, Entity, Extension}
@@ -21,10 +21,10 @@ use Rattle.jsontext.specs.Values.{J, Null, Truth, Int, Text, EntityOf, Decimal, 
 use Rattle.jsontrace.specs.Text.{escaped, quoted, integer, after_first, commas, brackets, braces, pair, shown, shown_items, shown_members}
 use Rattle.jsontrace.specs.Export.{form_name, not_form}
 use Rattle.jsontrace.specs.Writable.{fits64, well, fresh, distinct, part_names, writable, writable_items, writable_members, deep, deep_parts}
-use Rattle.jsontrace.specs.Laws.Numbers.{ends_number, Begun, begun, number-text}
-use Rattle.jsontrace.specs.Laws.Strings.{string-text}
-use Rattle.jsontrace.specs.Laws.Ahead.{Passed, shown-passed, quoted-passed, braces-passed, pair-passed}
-use Rattle.jsontrace.specs.Laws.Parts.{Reads, Entry, texts_of, whats_of, array-text, Member, pairs_of, named_of, member_names, object-text}
+use Rattle.jsontrace.proofs.Laws.Numbers.{ends_number, Begun, begun, number-text}
+use Rattle.jsontrace.proofs.Laws.Strings.{string-text}
+use Rattle.jsontrace.proofs.Laws.Ahead.{Passed, shown-passed, quoted-passed, braces-passed, pair-passed}
+use Rattle.jsontrace.proofs.Laws.Parts.{Reads, Entry, texts_of, whats_of, array-text, Member, pairs_of, named_of, member_names, object-text}
 
 -- ---- leaves
 

@@ -20,9 +20,9 @@ use Rattle.jsontext.specs.Events.{Item, Event, comma, closing, triple, unless_no
 use Rattle.jsontrace.specs.Text.{quoted, integer, after_first, commas, brackets, braces, shown, shown_members, maybe_pair, entity_text, field_texts, event_text, «time», «namespace», «action», «kind», «logged», «context», «principal», «resource», «entities»}
 use Rattle.jsontrace.specs.Export.{not_form}
 use Rattle.jsontrace.specs.Writable.{fits64, well, fresh, distinct, part_names, writable, writable_members, deep, deep_parts, writable_value, writable_maybe, all_well, writable_entities, writable_event}
-use Rattle.jsontrace.specs.Laws.Numbers.{ends_number, begun, number-text}
-use Rattle.jsontrace.specs.Laws.Parts.{Reads, no-blanks, Entry, texts_of, whats_of, array-text, Member, pairs_of, named_of, member_names, object-text}
-use Rattle.jsontrace.specs.Laws.Values.{text-reads, braces-reads, members-read, object-plain, value-reads, parts-read}
+use Rattle.jsontrace.proofs.Laws.Numbers.{ends_number, begun, number-text}
+use Rattle.jsontrace.proofs.Laws.Parts.{Reads, no-blanks, Entry, texts_of, whats_of, array-text, Member, pairs_of, named_of, member_names, object-text}
+use Rattle.jsontrace.proofs.Laws.Values.{text-reads, braces-reads, members-read, object-plain, value-reads, parts-read}
 
 -- ---- readers over readers
 

@@ -15,10 +15,10 @@ use Rattle.encode.specs.Words.{packed}
 use Rattle.encode.specs.Encode.{flat, placed}
 use Rattle.encode.specs.Join.{insert_new, below, joined}
 use Rattle.encode.specs.Unsorted.{texts, number, renamed, table, tables, parts, finished}
-use Rattle.encode.specs.Laws.Words.{words-packed}
-use Rattle.encode.specs.Laws.Join.{Rising, joined-rises, joined-most, before-neither, before-not}
-use Rattle.encode.specs.Laws.Encode.{flat-at, placed-start, placed-size, encoded-body}
-use Rattle.encode.specs.Laws.Unsorted.{seven, strings-size}
+use Rattle.encode.proofs.Laws.Words.{words-packed}
+use Rattle.encode.proofs.Laws.Join.{Rising, joined-rises, joined-most, before-neither, before-not}
+use Rattle.encode.proofs.Laws.Encode.{flat-at, placed-start, placed-size, encoded-body}
+use Rattle.encode.proofs.Laws.Unsorted.{seven, strings-size}
 
 -- ---- every text is among those joined
 

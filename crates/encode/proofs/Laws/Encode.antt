@@ -14,7 +14,7 @@ use Rattle.laws.specs.Tests.{pass}
 use Rattle.laws.specs.Words.{words-first}
 use Rattle.encode.specs.Words.{packed}
 use Rattle.encode.specs.Encode.{flat, placed, encoded}
-use Rattle.encode.specs.Laws.Words.{words-packed, packed-long}
+use Rattle.encode.proofs.Laws.Words.{words-packed, packed-long}
 
 pub all_true : (test : ℕ → Bool) (n : ℕ) → ((i : ℕ) → i < n → test i ≡ true) → all_below n test ≡ true
 unfolding all_below

@@ -19,14 +19,14 @@ use Rattle.meaning.specs.Rows.{Row, in_cells, same_cell}
 use Rattle.meaning.specs.Meaning.{names}
 use Rattle.matching.specs.declared.Settled.{Settled}
 use Rattle.matching.specs.declared.Settled.TheVariants as Set
-use Rattle.matching.specs.Asking.{walks, Arguments, Fixes, field_row, argument_row, arguments_row}
+use Rattle.matching.specs.Asking.{walks, Arguments, Fixes, argument_row, arguments_row}
 use Rattle.matching.specs.Laws.{going_on, no_arguments, first-argument}
-use Rattle.scanning.specs.Plans.{meets, Wants, WantsBy, WantsIf}
+use Rattle.scanning.specs.Plans.{meets, Wants, WantsBy}
 use Rattle.scanning.proofs.Fitted.{want-any, want-known, want_open}
 use Rattle.matching.proofs.Fields.{Resolves, resolves-fixed}
 use Rattle.quick.specs.declared.Fit.{Fit}
 use Rattle.quick.specs.declared.Fit.TheVariants.{Yes, No}
-use Rattle.quick.specs.Tells.{Grounds, KeepsOne, KeepsAll, OneBy, FitsOne, FitsAll}
+use Rattle.quick.specs.Tells.{Grounds, KeepsOne, OneBy, FitsOne, FitsAll}
 
 -- ---- what a term wants
 

@@ -1,9 +1,9 @@
 -- A node by its kind: its walk is its children's, after a step
-use mathlib.Core.Path.{◌≡◌, refl, sym, ap, subst, ◌∙◌}
+use mathlib.Core.Path.{◌≡◌, sym, ap, subst, ◌∙◌}
 use mathlib.Core.Bool.{Bool, true, false, not}
 use mathlib.Core.List.{List}
 use mathlib.Core.Option.{Option}
-use Prim.Native.Nat.{ℕ, suc, ◌+◌, ◌-◌, ◌<◌, ◌≤◌}
+use Prim.Native.Nat.{ℕ, suc, ◌+◌, ◌-◌, ◌<◌}
 use native.Mathlib.Omega.{arith}
 use lib.Dec.{lit<}
 use Rattle.meaning.specs.declared.Env.{Env}
@@ -17,10 +17,10 @@ use Rattle.meaning.specs.Check.{Checked}
 use Rattle.meaning.specs.Case.{case_of, node_at, point_at, list, arity, child}
 use Rattle.meaning.specs.Rows.{Row, row_of, blank}
 use Rattle.meaning.specs.Walk.{W, give, visit, ◌>>=◌}
-use Rattle.meaning.specs.Meaning.{Question, Meaning, meaning, meaning_of, condition, predicate, lending, lent_to, if_yes, unless_yes, and_verdict, or_verdict, not_verdict, names, same_event, match, arguments}
+use Rattle.meaning.specs.Meaning.{Question, Meaning, meaning, meaning_of, condition, predicate, lending, lent_to, if_yes, unless_yes, and_verdict, or_verdict, not_verdict, names, same_event}
 use Rattle.laws.specs.Meaning.{meaning-is, lent_nothing}
 use Rattle.laws.specs.Checked.{lower-child}
-use Rattle.matching.specs.Asking.{Arguments, asking, arguments_row, event_row}
+use Rattle.matching.specs.Asking.{Arguments, asking, event_row}
 use Rattle.matching.specs.Laws.{predicate-arguments, by-event}
 use Rattle.scanning.proofs.Fitted.{some_if}
 use Rattle.quick.specs.declared.Fit.{Fit}

@@ -1,0 +1,15 @@
+use Rattle.std.proofs.Common.{rules}
+use Rattle.quick.proofs.Arguments.{try_start, try_next, try_stop, try_all}
+use Rattle.quick.proofs.fit_all.Goals as goal
+
+pub loop-k-init : goal.loop-k-init
+loop-k-init c = search (try_start, rules)
+
+pub loop-k-preserved : goal.loop-k-preserved
+loop-k-preserved c = search (try_next, rules)
+
+pub returns-in-No : goal.returns-in-No
+returns-in-No c = search (try_stop, rules)
+
+pub returns : goal.returns
+returns c = search (try_all, rules)

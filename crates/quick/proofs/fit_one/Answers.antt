@@ -1,0 +1,32 @@
+use Rattle.std.proofs.Common.{rules}
+use Rattle.laws.specs.Checked.{checked-bodies}
+use Rattle.matching.proofs.Leaves.{stands}
+use Rattle.quick.proofs.Arguments.{fit-equal, fit-other, fit-any, fit-missing}
+use Rattle.quick.proofs.fit_one.Goals as goal
+
+pub list_at-term-requires : goal.list_at-term-requires
+list_at-term-requires c = search (checked-bodies, rules)
+
+pub node_at-node-requires : goal.node_at-node-requires
+node_at-node-requires c = search (checked-bodies, rules)
+
+pub ground-requires : goal.ground-requires
+ground-requires c = search (stands, rules)
+
+pub list_at-first-requires : goal.list_at-first-requires
+list_at-first-requires c = search (checked-bodies, rules)
+
+pub list_at-count-requires : goal.list_at-count-requires
+list_at-count-requires c = search (checked-bodies, rules)
+
+pub returns-then-binding_eq : goal.returns-then-binding_eq
+returns-then-binding_eq c = search (fit-equal, rules)
+
+pub returns-then-is_bound-2 : goal.returns-then-is_bound-2
+returns-then-is_bound-2 c = search (fit-other, rules)
+
+pub returns-then-is_bound : goal.returns-then-is_bound
+returns-then-is_bound c = search (fit-any, rules)
+
+pub returns : goal.returns
+returns c = search (fit-missing, rules)

@@ -1,0 +1,18 @@
+use Rattle.std.proofs.Common.{rules}
+use Rattle.jsonpoints.specs.Laws.{first-room, second-room, second-put, type-same}
+use Rattle.laws.specs.Checked.{checked-bodies}
+use Rattle.jsonpoints.specs.Laws.{first-room, second-room, second-put, type-same}
+use Rattle.jsonpoints.specs.Laws.{first-room, second-room, second-put, type-same}
+use Rattle.jsonpoints.proofs.put_type.Goals as goal
+
+pub put_comma-next-requires : goal.put_comma-next-requires
+put_comma-next-requires c = search (first-room, rules)
+
+pub list_at-requires : goal.list_at-requires
+list_at-requires c = search (checked-bodies, rules)
+
+pub put_after-requires-clause-n_in_bounds : goal.put_after-requires-clause-n_in_bounds
+put_after-requires-clause-n_in_bounds c = search (second-room, type-same, rules)
+
+pub returns : goal.returns
+returns c = search (second-put, type-same, rules)

@@ -1,4 +1,4 @@
-// A case written over a lent output: bodies in their order from past the contents on, contents last. `Writer` holds the output and the next place; each function over it takes it apart and leaves the work to one on a plain slice.
+// A case written over a lent output: bodies in their order from past the contents on, contents last. `Writer` holds the output and the next place; each function over it leaves the work to one on a plain slice.
 
 #![tactic(auto)]
 

@@ -1,11 +1,11 @@
 -- Entities written one after another, in the order of their cells
 use mathlib.Core.Path.{◌≡◌, refl, sym, ap, subst, ◌∙◌}
 use mathlib.Core.Bool.{Bool, true, false}
-use mathlib.Core.List.{List, [], ◌∷◌, map}
-use Prim.Native.Nat.{ℕ, ◌+◌, ◌<◌, ◌≤◌}
+use mathlib.Core.List.{List, [], ◌∷◌}
+use Prim.Native.Nat.{ℕ, suc, ◌+◌, ◌<◌, ◌≤◌}
 use native.Mathlib.Omega.{arith}
 use native.Mathlib.Numerals.{add-one}
-use lib.ListN.{length, drop, get_or, length-map}
+use lib.ListN.{length, drop, get_or}
 use mir.Val.{Fits}
 use mir.Syntax.{w64}
 use Rattle.meaning.specs.Tests.{choose}
@@ -26,16 +26,30 @@ use Rattle.jsonadds.proofs.Named.{named-ordered}
 use Rattle.jsonentry.specs.Marks.{MarkReady, MarkAdds}
 use Rattle.jsonentry.specs.Marking.{mark-none, mark-then, mark-ready-first, mark-ready-second}
 use Rattle.jsonentry.specs.Entries.{named_entities, EntitiesDue, EntitiesWritten}
-use Rattle.jsonentities.specs.Order.{arranged_item, all-items, sorted-long}
+use Rattle.jsonentities.specs.Order.{arranged_item}
 use Rattle.jsonentities.specs.Put.{HeldDue, HeldWritten, entity_tables, named_fields, named_item}
 use Rattle.jsonentities.specs.Lists.{mark-numbers}
-use Rattle.jsonentities.specs.Sort.{Stood, ItemCells, SortDue, Sorted, inside_items, SortedDue, SortedWritten}
-use Rattle.jsonentities.proofs.Cells.{none_left, cells-one, Front, front_of}
+use Rattle.jsonentities.specs.Sort.{Stood, ItemCells, none, more, SortDue, Sorted, inside_items, SortedDue, SortedWritten}
 
 -- ---- how many, and names inside, in any order
 
+item-long : (x : Item) (ys : List Item) → length (insert_item x ys) ≡ suc (length ys)
+unfolding insert_item choose
+item-long x [] = refl
+item-long x (y ∷ ys) =
+    go (item_before y x) (item-long x ys)
+  where
+    go : (b : Bool) → length (insert_item x ys) ≡ suc (length ys) → length (choose b (y ∷ insert_item x ys) (x ∷ y ∷ ys)) ≡ suc (suc (length ys))
+    go true r = ap suc r
+    go false r = refl
+
 ordered-long : (is : List Item) → length (ordered_entities is) ≡ length is
-ordered-long is = ap length (sym (all-items is)) ∙ sorted-long (map arranged_item is) ∙ length-map is arranged_item
+unfolding ordered_entities
+ordered-long [] = refl
+ordered-long (i ∷ is) = omega (arith, item-long (arranged_item i) (ordered_entities is), ordered-long is, same)
+  where
+    same : length (insert_item (arranged_item i) (ordered_entities is)) ≡ length (ordered_entities (i ∷ is))
+    same = unfold arranged_item in refl
 
 named-item : (i : Item) → named_item (arranged_item i) ≡ named_item i
 unfolding named_item named_fields arranged_item ordered
@@ -56,16 +70,43 @@ unfolding ordered_entities inside_items arranged_item
 inside-ordered [] = refl
 inside-ordered (i ∷ is) = omega (arith, inside-item (arranged_item i) (ordered_entities is), inside-ordered is, named-item i)
 
-named-all : (is : List Item) → named_entities is ≡ length is + length is + inside_items is
+named-all : (is : List Item) → named_entities is ≡ length is + inside_items is
 unfolding named_entities inside_items named_item named_fields
 named-all [] = refl
 named-all (i ∷ is) = omega (arith, named-all is)
 
--- ---- the loop
+-- ---- what stands in the cells is one thing
+
+cells-one : {line names : List ℕ} (k : ℕ) {ps qs : List Item} → ItemCells line names k ps → ItemCells line names k qs → length ps ≡ length qs → ps ≡ qs
+cells-one k none none e = refl
+cells-one k none (more t d) e = absurd (omega arith)
+cells-one k (more s c) none e = absurd (omega arith)
+cells-one k (more {y = x} {ys = ps} s c) (more {y = y} {ys = qs} t d) e =
+    let a : x ≡ y = s.is ∙ ap arranged_item (same-got s.stands.is t.stands.is) ∙ sym t.is in
+    let z : ps ≡ qs = cells-one (suc k) c d (omega arith) in
+    cc
+
+-- the first of those left
+record Front (line names : List ℕ) (i : ℕ) (left : List Item) : Type 0 where
+  item : Item
+  others : List Item
+  is : left ≡ item ∷ others
+  stood : Stood line (get_or names i 0) item
+  cells : ItemCells line names (suc i) others
+
+front_of : {line names : List ℕ} (i : ℕ) {left : List Item} → 0 < length left → ItemCells line names i left → Front line names i left
+front_of i h none = absurd (omega arith)
+front_of i h (more s c) = record { item = _; others = _; is = refl; stood = s; cells = c }
+
+none_left : (is : List Item) → length is ≡ 0 → is ≡ []
+none_left [] e = refl
+none_left (i ∷ is) e = absurd (omega arith)
 
 shaped-entity : (i : Item) (k : Next-as_Trace) → Shaped (entity_adds i k)
 unfolding entity_adds
 shaped-entity i k = shaped-texts _ then shaped _ _ then shaped-lists _
+
+-- ---- the loop
 
 pub record Entering (line names₀ names : List ℕ) (count : ℕ) (before file marks₀ marks : List ℕ) (b : Bodies) (n next : Next) (i : ℕ) : Type 0 where
   due : SortedDue line names₀ count before marks₀ b n

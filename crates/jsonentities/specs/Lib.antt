@@ -2,4 +2,3 @@ pub mod Order
 pub mod Put
 pub mod Lists
 pub mod Sort
-pub mod Merges

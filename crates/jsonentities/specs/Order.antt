@@ -1,5 +1,5 @@
--- Entities in order: those of two lists in order, merged, are those of both lists put in order
-use Rattle.std.specs.Prelude.{◌≡◌, refl, Bool, true, false, List, [], ◌∷◌, ◌++◌, map, ℕ, suc, length}
+-- Entities in order: put behind their equals from the front, as before their equals from the back
+use Rattle.std.specs.Prelude.{◌≡◌, refl, Bool, true, false, List, [], ◌∷◌, ℕ, suc, length}
 use Rattle.std.proofs.Common.{sym, ap, ◌∙◌}
 use Rattle.meaning.specs.Tests.{◌and◌, ◌or◌, choose}
 use Rattle.meaning.specs.Text.{before}
@@ -16,15 +16,15 @@ use Rattle.jsonsort.specs.Order.{false-true, between}
 unfoldable pub arranged_item : Item → Item
 arranged_item x = record { type = x.type; id = x.id; attributes = ordered_members x.attributes }
 
--- entities put in order, from the back, each before its equals
-unfoldable pub sorted_items : List Item → List Item
-sorted_items [] = []
-sorted_items (x ∷ xs) = insert_item x (sorted_items xs)
+-- an entity among entities in order, behind its equals
+unfoldable pub insert_behind : Item → List Item → List Item
+insert_behind x [] = x ∷ []
+insert_behind x (y ∷ ys) = choose (item_before x y) (x ∷ y ∷ ys) (y ∷ insert_behind x ys)
 
--- entities put among others in order, from the back, each before its equals
-unfoldable pub merged_items : List Item → List Item → List Item
-merged_items [] ys = ys
-merged_items (x ∷ xs) ys = insert_item x (merged_items xs ys)
+-- entities put one after another among those in order
+unfoldable pub insert_items : List Item → List Item → List Item
+insert_items [] sorted = sorted
+insert_items (x ∷ xs) sorted = insert_items xs (insert_behind (arranged_item x) sorted)
 
 -- ---- before, by type and then by id
 
@@ -103,6 +103,90 @@ item-not m a b p q =
     go true e = false-true (sym q ∙ item-between m a b p e)
     go false e = e
 
+-- ---- put before its equals, or behind them
+
+pub item-past : (x y : Item) (ys : List Item) → item_before y x ≡ true → insert_item x (y ∷ ys) ≡ y ∷ insert_item x ys
+unfolding insert_item
+item-past x y ys h = yes _ h
+
+pub item-here : (x y : Item) (ys : List Item) → item_before y x ≡ false → insert_item x (y ∷ ys) ≡ x ∷ y ∷ ys
+unfolding insert_item
+item-here x y ys h = otherwise _ h refl
+
+pub behind-here : (x y : Item) (ys : List Item) → item_before x y ≡ true → insert_behind x (y ∷ ys) ≡ x ∷ y ∷ ys
+unfolding insert_behind
+behind-here x y ys h = yes _ h
+
+pub behind-past : (x y : Item) (ys : List Item) → item_before x y ≡ false → insert_behind x (y ∷ ys) ≡ y ∷ insert_behind x ys
+unfolding insert_behind
+behind-past x y ys h = otherwise _ h refl
+
+-- in front of any other, whichever is put first
+front : (x y : Item) (zs : List Item) → insert_item x zs ≡ x ∷ zs → insert_behind y zs ≡ y ∷ zs → insert_behind y (x ∷ zs) ≡ insert_item x (y ∷ zs)
+front x y zs p q =
+    go (item_before y x) refl
+  where
+    go : (b : Bool) → item_before y x ≡ b → insert_behind y (x ∷ zs) ≡ insert_item x (y ∷ zs)
+    go true e = behind-here y x zs e ∙ sym (item-past x y zs e ∙ ap (λ (l : List Item). y ∷ l) p)
+    go false e = behind-past y x zs e ∙ ap (λ (l : List Item). x ∷ l) q ∙ sym (item-here x y zs e)
+
+pub behind-swap : (x y : Item) (zs : List Item) → insert_behind y (insert_item x zs) ≡ insert_item x (insert_behind y zs)
+unfolding insert_item insert_behind
+behind-swap x y [] = front x y [] refl refl
+behind-swap x y (z ∷ zs) =
+    go (behind-swap x y zs) (item_before z x) (item_before y z) refl refl
+  where
+    go : insert_behind y (insert_item x zs) ≡ insert_item x (insert_behind y zs) → (a b : Bool) → item_before z x ≡ a → item_before y z ≡ b → insert_behind y (insert_item x (z ∷ zs)) ≡ insert_item x (insert_behind y (z ∷ zs))
+    go r true true p q =
+        ap (insert_behind y) (item-past x z zs p) ∙ behind-here y z (insert_item x zs) q ∙ ap (λ (l : List Item). y ∷ l) (sym (item-past x z zs p))
+        ∙ sym (ap (insert_item x) (behind-here y z zs q) ∙ item-past x y (z ∷ zs) (item_trans y z x q p))
+    go r true false p q =
+        ap (insert_behind y) (item-past x z zs p) ∙ behind-past y z (insert_item x zs) q ∙ ap (λ (l : List Item). z ∷ l) r
+        ∙ sym (ap (insert_item x) (behind-past y z zs q) ∙ item-past x z (insert_behind y zs) p)
+    go r false true p q =
+        ap (insert_behind y) (item-here x z zs p) ∙ front x y (z ∷ zs) (item-here x z zs p) (behind-here y z zs q) ∙ ap (insert_item x) (sym (behind-here y z zs q))
+    go r false false p q =
+        ap (insert_behind y) (item-here x z zs p) ∙ behind-past y x (z ∷ zs) (item-not y z x q p) ∙ ap (λ (l : List Item). x ∷ l) (behind-past y z zs q)
+        ∙ sym (ap (insert_item x) (behind-past y z zs q) ∙ item-here x z (insert_behind y zs) p)
+
+-- ---- from the front as from the back
+
+items-late : (x : Item) (xs sorted : List Item) → insert_items xs (insert_item x sorted) ≡ insert_item x (insert_items xs sorted)
+unfolding insert_items
+items-late x [] sorted = refl
+items-late x (y ∷ ys) sorted = ap (insert_items ys) (behind-swap x (arranged_item y) sorted) ∙ items-late x ys (insert_behind (arranged_item y) sorted)
+
+pub all-items : (xs : List Item) → insert_items xs [] ≡ ordered_entities xs
+unfolding insert_items ordered_entities insert_behind insert_item arranged_item
+all-items [] = refl
+all-items (x ∷ xs) = items-late (arranged_item x) xs [] ∙ ap (insert_item (arranged_item x)) (all-items xs)
+
+pub behind-long : (x : Item) (ys : List Item) → length (insert_behind x ys) ≡ suc (length ys)
+unfolding insert_behind choose
+behind-long x [] = refl
+behind-long x (y ∷ ys) =
+    go (item_before x y) (behind-long x ys)
+  where
+    go : (b : Bool) → length (insert_behind x ys) ≡ suc (length ys) → length (choose b (x ∷ y ∷ ys) (y ∷ insert_behind x ys)) ≡ suc (suc (length ys))
+    go true r = refl
+    go false r = ap suc r
+
+-- ---- in order: none is before one that stands before it
+
+unfoldable pub Rises : List Item → Type 0
+Rises [] = Unit {0}
+Rises (y ∷ ys) = Every (λ z. item_before z y ≡ false) ys × Rises ys
+
+every-behind : (P : Item → Type 0) (x : Item) (ys : List Item) → P x → Every P ys → Every P (insert_behind x ys)
+unfolding insert_behind choose
+every-behind P x [] p e = (p, tt)
+every-behind P x (y ∷ ys) p e =
+    go (item_before x y) (every-behind P x ys p e.1)
+  where
+    go : (b : Bool) → Every P (insert_behind x ys) → Every P (choose b (x ∷ y ∷ ys) (y ∷ insert_behind x ys))
+    go true r = (p, e)
+    go false r = (e.0, r)
+
 item_self : (a : Item) → item_before a a ≡ false
 item_self a =
     go (item_before a a) refl
@@ -124,144 +208,15 @@ item-one a b h =
     go true e = false-true (sym (item_self a) ∙ item_trans a b a h e)
     go false e = e
 
--- ---- put before its equals
-
-pub item-past : (x y : Item) (ys : List Item) → item_before y x ≡ true → insert_item x (y ∷ ys) ≡ y ∷ insert_item x ys
-unfolding insert_item
-item-past x y ys h = yes _ h
-
-item-here : (x y : Item) (ys : List Item) → item_before y x ≡ false → insert_item x (y ∷ ys) ≡ x ∷ y ∷ ys
-unfolding insert_item
-item-here x y ys h = otherwise _ h refl
-
--- one before another may be put first or last
-item-swap : (x y : Item) (zs : List Item) → item_before y x ≡ true → insert_item y (insert_item x zs) ≡ insert_item x (insert_item y zs)
-unfolding insert_item
-item-swap x y [] h = item-here y x [] (item-one y x h) ∙ sym (item-past x y [] h)
-item-swap x y (z ∷ zs) h =
-    go (item-swap x y zs h) (item_before z x) (item_before z y) refl refl
+pub rises-behind : (x : Item) (ys : List Item) → Rises ys → Rises (insert_behind x ys)
+unfolding insert_behind Rises
+rises-behind x [] r = (tt, tt)
+rises-behind x (y ∷ ys) r =
+    go (item_before x y) refl (rises-behind x ys r.1)
   where
-    go : insert_item y (insert_item x zs) ≡ insert_item x (insert_item y zs) → (a b : Bool) → item_before z x ≡ a → item_before z y ≡ b → insert_item y (insert_item x (z ∷ zs)) ≡ insert_item x (insert_item y (z ∷ zs))
-    go r true true p q =
-        ap (insert_item y) (item-past x z zs p) ∙ item-past y z (insert_item x zs) q ∙ ap (λ (l : List Item). z ∷ l) r
-        ∙ sym (ap (insert_item x) (item-past y z zs q) ∙ item-past x z (insert_item y zs) p)
-    go r true false p q =
-        ap (insert_item y) (item-past x z zs p) ∙ item-here y z (insert_item x zs) q ∙ ap (λ (l : List Item). y ∷ l) (sym (item-past x z zs p))
-        ∙ sym (ap (insert_item x) (item-here y z zs q) ∙ item-past x y (z ∷ zs) h)
-    go r false true p q = false-true (sym p ∙ item_trans z y x q h)
-    go r false false p q =
-        ap (insert_item y) (item-here x z zs p) ∙ item-here y x (z ∷ zs) (item-one y x h) ∙ ap (λ (l : List Item). y ∷ l) (sym (item-here x z zs p))
-        ∙ sym (ap (insert_item x) (item-here y z zs q) ∙ item-past x y (z ∷ zs) h)
-
--- ---- merged
-
-merged_item : (x : Item) (xs ys : List Item) → merged_items (insert_item x xs) ys ≡ insert_item x (merged_items xs ys)
-unfolding merged_items insert_item
-merged_item x [] ys = refl
-merged_item x (y ∷ xs) ys =
-    go (merged_item x xs ys) (item_before y x) refl
-  where
-    go : merged_items (insert_item x xs) ys ≡ insert_item x (merged_items xs ys) → (b : Bool) → item_before y x ≡ b → merged_items (insert_item x (y ∷ xs)) ys ≡ insert_item x (insert_item y (merged_items xs ys))
-    go r true p = ap (λ (l : List Item). merged_items l ys) (item-past x y xs p) ∙ ap (insert_item y) r ∙ item-swap x y (merged_items xs ys) p
-    go r false p = ap (λ (l : List Item). merged_items l ys) (item-here x y xs p)
-
-pub merged_sorted : (xs ys : List Item) → merged_items (sorted_items xs) (sorted_items ys) ≡ sorted_items (xs ++ ys)
-unfolding merged_items sorted_items
-merged_sorted [] ys = refl
-merged_sorted (x ∷ xs) ys = merged_item x (sorted_items xs) (sorted_items ys) ∙ ap (insert_item x) (merged_sorted xs ys)
-
-pub all-items : (xs : List Item) → sorted_items (map arranged_item xs) ≡ ordered_entities xs
-unfolding sorted_items ordered_entities arranged_item
-all-items [] = refl
-all-items (x ∷ xs) = ap (insert_item (arranged_item x)) (all-items xs)
-
-item-long : (x : Item) (ys : List Item) → length (insert_item x ys) ≡ suc (length ys)
-unfolding insert_item choose
-item-long x [] = refl
-item-long x (y ∷ ys) =
-    go (item_before y x) (item-long x ys)
-  where
-    go : (b : Bool) → length (insert_item x ys) ≡ suc (length ys) → length (choose b (y ∷ insert_item x ys) (x ∷ y ∷ ys)) ≡ suc (suc (length ys))
-    go true r = ap suc r
-    go false r = refl
-
-pub sorted-long : (xs : List Item) → length (sorted_items xs) ≡ length xs
-unfolding sorted_items
-sorted-long [] = refl
-sorted-long (x ∷ xs) = item-long x (sorted_items xs) ∙ ap suc (sorted-long xs)
-
--- ---- in order: none is before one that stands before it
-
-unfoldable pub Rises : List Item → Type 0
-Rises [] = Unit {0}
-Rises (y ∷ ys) = Every (λ z. item_before z y ≡ false) ys × Rises ys
-
-every-item : (P : Item → Type 0) (x : Item) (ys : List Item) → P x → Every P ys → Every P (insert_item x ys)
-unfolding insert_item choose
-every-item P x [] p e = (p, tt)
-every-item P x (y ∷ ys) p e =
-    go (item_before y x) (every-item P x ys p e.1)
-  where
-    go : (b : Bool) → Every P (insert_item x ys) → Every P (choose b (y ∷ insert_item x ys) (x ∷ y ∷ ys))
-    go true r = (e.0, r)
-    go false r = (p, e)
-
-every_merged : (P : Item → Type 0) (xs ys : List Item) → Every P xs → Every P ys → Every P (merged_items xs ys)
-unfolding merged_items
-every_merged P [] ys d e = e
-every_merged P (x ∷ xs) ys d e = every-item P x (merged_items xs ys) d.0 (every_merged P xs ys d.1 e)
-
-rises-item : (x : Item) (ys : List Item) → Rises ys → Rises (insert_item x ys)
-unfolding insert_item Rises
-rises-item x [] r = (tt, tt)
-rises-item x (y ∷ ys) r =
-    go (item_before y x) refl (rises-item x ys r.1)
-  where
-    go : (b : Bool) → item_before y x ≡ b → Rises (insert_item x ys) → Rises (insert_item x (y ∷ ys))
-    go true e more = rw (item-past x y ys e) (every-item (λ z. item_before z y ≡ false) x ys (item-one y x e) r.0, more)
-    go false e more = rw (item-here x y ys e) ((e, every_map ys (λ z h. item-not z y x h e) r.0), r)
-
-pub rises_sorted : (xs : List Item) → Rises (sorted_items xs)
-unfolding sorted_items Rises
-rises_sorted [] = tt
-rises_sorted (x ∷ xs) = rises-item x (sorted_items xs) (rises_sorted xs)
-
--- ---- merged from the front on
-
--- one before all others is the first
-merged_first : (xs : List Item) (y : Item) (ys : List Item) → Every (λ z. item_before y z ≡ true) xs → merged_items xs (y ∷ ys) ≡ y ∷ merged_items xs ys
-unfolding merged_items
-merged_first [] y ys e = refl
-merged_first (x ∷ xs) y ys e = ap (insert_item x) (merged_first xs y ys e.1) ∙ item-past x y (merged_items xs ys) e.0
-
--- of two lists in order, the second's first where it is before the first's
-pub merged_upper : (x : Item) (xs : List Item) (y : Item) (ys : List Item) → Rises (x ∷ xs) → item_before y x ≡ true → merged_items (x ∷ xs) (y ∷ ys) ≡ y ∷ merged_items (x ∷ xs) ys
-unfolding Rises
-merged_upper x xs y ys r h = merged_first (x ∷ xs) y ys (h, every_map xs (λ z n. not-past z n) r.0)
-  where
-    not-past : (z : Item) → item_before z x ≡ false → item_before y z ≡ true
-    not-past z n =
-        go (item_before y z) refl
-      where
-        go : (b : Bool) → item_before y z ≡ b → item_before y z ≡ true
-        go true e = e
-        go false e = false-true (sym (item-not y z x e n) ∙ h)
-
--- none before it: it stays in front
-item-front : (x : Item) (ys : List Item) → Every (λ z. item_before z x ≡ false) ys → insert_item x ys ≡ x ∷ ys
-unfolding insert_item
-item-front x [] e = refl
-item-front x (y ∷ ys) e = item-here x y ys e.0
-
--- else the first's first
-pub merged_lower : (x : Item) (xs ys : List Item) → Rises (x ∷ xs) → Every (λ z. item_before z x ≡ false) ys → merged_items (x ∷ xs) ys ≡ x ∷ merged_items xs ys
-unfolding merged_items Rises
-merged_lower x xs ys r e = item-front x (merged_items xs ys) (every_merged (λ z. item_before z x ≡ false) xs ys r.0 e)
-
--- not before the first's first: so all that follow
-pub rest-behind : (x y : Item) (ys : List Item) → Rises (y ∷ ys) → item_before y x ≡ false → Every (λ z. item_before z x ≡ false) (y ∷ ys)
-unfolding Rises
-rest-behind x y ys r h = (h, every_map ys (λ z n. item-not z y x n h) r.0)
+    go : (b : Bool) → item_before x y ≡ b → Rises (insert_behind x ys) → Rises (insert_behind x (y ∷ ys))
+    go true e more = rw (behind-here x y ys e) ((item-one x y e, every_map ys (λ z h. item-not z y x h (item-one x y e)) r.0), r)
+    go false e more = rw (behind-past x y ys e) (every-behind (λ z. item_before z y ≡ false) x ys e r.0, more)
 
 -- ---- told by types and ids
 

@@ -1,11 +1,12 @@
 -- Entities in order, each in the cell of its place
-use Rattle.std.specs.Prelude.{◌≡◌, Bool, List, [], ◌∷◌, map, ℕ, suc, ◌+◌, ◌≤◌, length, drop, get_or}
+use Rattle.std.specs.Prelude.{◌≡◌, Bool, true, false, List, [], ◌∷◌, ℕ, suc, ◌+◌, ◌<◌, ◌≤◌, length, drop, get_or}
 use Rattle.jsontext.specs.Reading.{Read, got}
 use Rattle.jsontext.specs.Strings.{string}
 use Rattle.jsontext.specs.Events.{Item}
 use Rattle.jsontrace.specs.Order.{item_before, ordered_entities}
 use Rattle.jsonruns.specs.Good.{Good}
 use Rattle.jsoncount.specs.Sizes.{entity_read}
+use Rattle.jsonnames.specs.Sorted.{Inserted}
 use Rattle.jsontrace.specs.Trace.{entities_add}
 use Rattle.jsonroom.specs.declared.Bodies.{Bodies}
 use Rattle.jsonroom.specs.declared.Next.{Next}
@@ -13,7 +14,7 @@ use Rattle.jsonview.specs.Room.{numbers}
 use Rattle.jsonadds.specs.Place.{Spare}
 use Rattle.jsonentry.specs.Marks.{MarkReady, MarkAdds}
 use Rattle.jsonentry.specs.Entries.{named_entities}
-use Rattle.jsonentities.specs.declared.comparing.Pair.{Pair}
+use Rattle.jsonentities.specs.declared.sorting.Pair.{Pair}
 use Rattle.jsonentities.specs.Order.{arranged_item}
 use Rattle.jsonentities.specs.Put.{named_item}
 
@@ -42,6 +43,24 @@ pub record BeforeTold (line : List ℕ) (y x : ℕ) (r : Bool) : Type 0 where
 
 -- ---- cells
 
+-- up to the end, each cell is the place of an entity, and none is before one in a lower cell
+pub record InOrder (line names : List ℕ) (end : ℕ) : Type 0 where
+  pub within : end ≤ length names
+  pub good : (k : ℕ) → k < end → Good line (get_or names k 0) (entity_read (drop (get_or names k 0) line))
+  pub rising : (i j : ℕ) (a b : Item) → i < j → j < end → Stands line (get_or names i 0) a → Stands line (get_or names j 0) b → item_before b a ≡ false
+
+-- the entity at `at` is not before those below the cell, and before those from it on
+pub record CellTold (line names : List ℕ) (end at cell : ℕ) : Type 0 where
+  pub within : cell ≤ end
+  pub below : (x : Item) → Stands line at x → (k : ℕ) (a : Item) → k < cell → Stands line (get_or names k 0) a → item_before x a ≡ false
+  pub above : (x : Item) → Stands line at x → (k : ℕ) (a : Item) → cell ≤ k → k < end → Stands line (get_or names k 0) a → item_before x a ≡ true
+
+-- and stands in that cell
+pub record ItemPut (line names after : List ℕ) (end at : ℕ) : Type 0 where
+  pub cell : ℕ
+  pub told : CellTold line names end at cell
+  pub inserted : Inserted cell end at names after
+
 -- an entity at p, with its attributes in order
 pub record Stood (line : List ℕ) (p : ℕ) (y : Item) : Type 0 where
   pub item : Item
@@ -58,12 +77,6 @@ pub data ItemCells (line names : List ℕ) : ℕ → List Item → Type 0 where
 pub record SortDue (line : List ℕ) (at : ℕ) (m : Read (List Item)) (names : List ℕ) : Type 0 where
   pub good : Good line at m
   pub spare : Spare m names 0 named_entities
-
--- in the first cells, in the text's order
-pub record ListTold (line : List ℕ) (m : Read (List Item)) (names after : List ℕ) (count : ℕ) : Type 0 where
-  pub long : length after ≡ length names
-  pub many : (what : List Item) (rest : List ℕ) → m ≡ got what rest → count ≡ length what
-  pub cells : (what : List Item) (rest : List ℕ) → m ≡ got what rest → ItemCells line after 0 (map arranged_item what)
 
 pub record Sorted (line : List ℕ) (m : Read (List Item)) (names after : List ℕ) (count : ℕ) : Type 0 where
   pub long : length after ≡ length names

@@ -2,9 +2,7 @@
 
 #![tactic(auto)]
 
-pub mod comparing;
 pub mod entity;
 pub mod keys;
-pub mod merges;
 pub mod sorting;
 pub mod written;

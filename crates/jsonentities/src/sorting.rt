@@ -1,38 +1,84 @@
 // Entities in order of type and id, equal ones in the text's order.
-ghost use Rattle.std.specs.Prelude.{drop};
+ghost use Rattle.std.specs.Prelude.{◌<◌, length, drop};
 ghost use Rattle.jsontext.specs.Values.{array};
 ghost use Rattle.jsonruns.specs.Good.{Good, Ends};
 ghost use Rattle.jsoncount.specs.Sizes.{entity_read};
-ghost use Rattle.jsonentities.specs.Sort.{SortDue, ListTold, Sorted};
-ghost use Rattle.jsonentities.specs.Merges.{CellsDue, CellsTold, RestDue, RestTold};
+ghost use Rattle.jsonentities.specs.Sort.{PairTold, BeforeTold, InOrder, CellTold, ItemPut, SortDue, Sorted};
 
-use super::merges::merge;
 use jsoncount::entities::count_entity;
 use jsoncount::tallies::Tally;
-use jsonruns::{Part, first_part, part_after};
+use jsonnames::insert;
+use jsonread::bytes::skip_blanks;
+use jsonread::names::{Order, compare};
+use jsonruns::{Part, after_sign, first_part, part_after, string_end};
 
-// the entities of some cells put in order, by halves
-#[cycle(sort_cells_sort_rest)]
-fn sort_cells(line: &[u8], names: &mut [u64], low: usize, high: usize, spare: usize)
-    requires { CellsDue line.now names.old low high spare }
-    ensures { CellsTold line.now names.old names.new low high spare }
-{
-    if high - low < 2 {
-        return;
-    }
-    let mid = low + (high - low) / 2;
-    sort_cells(line, names, low, mid, spare);
-    sort_rest(line, names, low, mid, high, spare);
+// an entity's type and id, at their quotation marks
+#[derive(Clone, Copy)]
+pub struct Pair {
+    pub kind: usize,
+    pub id: usize,
 }
 
-// the upper half too, and both become one
-#[cycle(sort_cells_sort_rest)]
-fn sort_rest(line: &[u8], names: &mut [u64], low: usize, mid: usize, high: usize, spare: usize)
-    requires { RestDue line.now names.old low mid high spare }
-    ensures { RestTold line.now names.old names.new low mid high spare }
+// from its bracket on
+fn pair_of(line: &[u8], at: usize) -> Pair
+    requires { Good line.now at (entity_read (drop at line.now)) }
+    ensures { PairTold line.now at result }
 {
-    sort_cells(line, names, mid, high, spare);
-    merge(line, names, low, mid, high, spare);
+    let kind = skip_blanks(line, at + 1);
+    Pair {
+        kind,
+        id: after_sign(line, string_end(line, kind)),
+    }
+}
+
+// is the entity at y before that at x, by type and id?
+fn is_before(line: &[u8], y: usize, x: usize) -> bool
+    requires good { Good line.now y (entity_read (drop y line.now)) }
+    requires good_2 { Good line.now x (entity_read (drop x line.now)) }
+    ensures { BeforeTold line.now y x result }
+{
+    let a = pair_of(line, y);
+    let b = pair_of(line, x);
+    match compare(line, a.kind, b.kind) {
+        Order::Less => true,
+        Order::More => false,
+        Order::Same => match compare(line, a.id, b.id) {
+            Order::Less => true,
+            Order::Same => false,
+            Order::More => false,
+        },
+    }
+}
+
+// the cell before which an entity belongs, after those equal to it
+fn cell_of(line: &[u8], names: &[u64], end: usize, at: usize) -> usize
+    requires in_order { InOrder line.now names.now end }
+    requires good { Good line.now at (entity_read (drop at line.now)) }
+    ensures { CellTold line.now names.now end at result }
+{
+    let mut low = 0;
+    let mut high = end;
+    while low < high {
+        let middle = low + (high - low) / 2;
+        let other = names[middle] as usize;
+        if is_before(line, at, other) {
+            high = middle;
+        } else {
+            low = middle + 1;
+        }
+    }
+    low
+}
+
+// an entity put where it belongs
+fn keep_entity(line: &[u8], names: &mut [u64], end: usize, at: usize)
+    requires in_order { InOrder line.now names.old end }
+    requires good { Good line.now at (entity_read (drop at line.now)) }
+    requires end_in_bounds { end < length names.old }
+    ensures { ItemPut line.now names.old names.new end at }
+{
+    let cell = cell_of(line, names, end, at);
+    insert(names, cell, end, at);
 }
 
 // after an entity
@@ -52,10 +98,10 @@ fn entity_end(line: &[u8], at: usize) -> usize
     c.end
 }
 
-// the entities' places, after the bracket, in the text's order: how many
-fn list_entities(line: &[u8], at: usize, names: &mut [u64]) -> usize
+// the entities' places, after the bracket, sorted from the first cell on: how many
+pub fn sort_entities(line: &[u8], at: usize, names: &mut [u64]) -> usize
     requires { SortDue line.now at (array entity_read (drop at line.now)) names.old }
-    ensures { ListTold line.now (array entity_read (drop at line.now)) names.old names.new result }
+    ensures { Sorted line.now (array entity_read (drop at line.now)) names.old names.new result }
 {
     let mut count = 0;
     let mut i = at;
@@ -67,7 +113,7 @@ fn list_entities(line: &[u8], at: usize, names: &mut [u64]) -> usize
     }
     loop {
         let part = part_after(line, entity_end(line, i), 93);
-        names[count] = i as u64;
+        keep_entity(line, names, count, i);
         count += 1;
         match part {
             Part::Closed(_) => return count,
@@ -76,14 +122,4 @@ fn list_entities(line: &[u8], at: usize, names: &mut [u64]) -> usize
             }
         }
     }
-}
-
-// the entities' places, after the bracket, sorted from the first cell on: how many
-pub fn sort_entities(line: &[u8], at: usize, names: &mut [u64]) -> usize
-    requires { SortDue line.now at (array entity_read (drop at line.now)) names.old }
-    ensures { Sorted line.now (array entity_read (drop at line.now)) names.old names.new result }
-{
-    let count = list_entities(line, at, names);
-    sort_cells(line, names, 0, count, count);
-    count
 }

@@ -18,10 +18,10 @@ unwritten = record { string = 0; byte = 0; value = 0; member = 0; list = 0; poin
 
 -- ---- entities, after their bracket
 
--- cells for entities, two for each (its place, and one to merge by), and for the names inside them
+-- cells for entities, and for the names inside them
 unfoldable pub named_entities : List Item → ℕ
 named_entities [] = 0
-named_entities (i ∷ is) = suc (suc (named (Object i.attributes) + named_entities is))
+named_entities (i ∷ is) = suc (named (Object i.attributes) + named_entities is)
 
 pub record EntitiesDue (line : List ℕ) (at : ℕ) (m : Read (List Item)) (names file marks : List ℕ) (b : Bodies) (n : Next) : Type 0 where
   pub what : List Item

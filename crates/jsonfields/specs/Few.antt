@@ -210,9 +210,9 @@ few-fields levels s rest ps e =
 -- ---- entities
 
 abbrev weighs : Item → ℕ
-weighs i = 4 * suc (suc (named (Object i.attributes)))
+weighs i = 4 * suc (named (Object i.attributes))
 
--- brackets, braces, two strings and the commas behind them: two cells' bytes
+-- two strings and the commas behind them
 few-entity : (s rest : List ℕ) (i : Item) → entity_read s ≡ got i rest → weighs i + length rest ≤ length s
 few-entity s rest i e =
     let t = tripled s e in

@@ -1,7 +1,7 @@
-use Rattle.jsonentities.proofs.Pairing.{type-less, type-more, id-less, id_same, id-more}
+use Rattle.jsonentities.proofs.Comparing.{type-less, type-more, id-less, id_same, id-more}
 use borrow.Author.Rules.{rules}
-use Rattle.jsonentities.proofs.comparing.is_before.Statement.{statement}
-use Rattle.jsonentities.proofs.comparing.is_before.Tie as tie
+use Rattle.jsonentities.proofs.sorting.is_before.Statement.{statement}
+use Rattle.jsonentities.proofs.sorting.is_before.Tie as tie
 
 pair-of-requires : tie.Need-pair-of-requires
 pair-of-requires c κs = search rules

@@ -1,7 +1,7 @@
-use Rattle.jsonentities.proofs.Pairing.{pair-past, pair-type, pair-comma, pair-told}
+use Rattle.jsonentities.proofs.Comparing.{pair-past, pair-type, pair-comma, pair-told}
 use borrow.Author.Rules.{rules}
-use Rattle.jsonentities.proofs.comparing.pair_of.Statement.{statement}
-use Rattle.jsonentities.proofs.comparing.pair_of.Tie as tie
+use Rattle.jsonentities.proofs.sorting.pair_of.Statement.{statement}
+use Rattle.jsonentities.proofs.sorting.pair_of.Tie as tie
 
 add-skip-blanks : tie.Need-overflow-add-skip-blanks
 add-skip-blanks c = search rules

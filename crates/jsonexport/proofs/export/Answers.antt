@@ -1,0 +1,12 @@
+use Rattle.std.proofs.Common.{rules}
+use Rattle.jsonexport.specs.Call.{export_refused, export_passed, export_checked}
+use Rattle.jsonexport.proofs.export.Goals as goal
+
+pub export_checked-requires : goal.export_checked-requires
+export_checked-requires c = search (export_checked, rules)
+
+pub returns-in-Passes : goal.returns-in-Passes
+returns-in-Passes c = search (export_passed, rules)
+
+pub returns-in-Refused : goal.returns-in-Refused
+returns-in-Refused c = search (export_refused, rules)

@@ -14,27 +14,19 @@ use Rattle.jsonmarks.specs.Marks.{Below}
 use Rattle.jsonkeys.specs.Keys.{Passed}
 
 pub below_self : {line : List ℕ} {used : ℕ} {names : List ℕ} → Below line used names names
-below_self = record { long = refl; same = λ k h. refl; others = record { owner = λ f h o. o; start = λ f h o. refl; marks = λ f h o d m. m } }
+below_self = record { long = refl; same = λ k h. refl; owner = λ f h o. o; marks = λ f h o k l. refl }
 
 pub below_both : {line : List ℕ} {used : ℕ} {a b c : List ℕ} → Below line used a b → Below line used b c → Below line used a c
 below_both p q =
     record {
       long = q.long ∙ p.long;
       same = λ k h. q.same k h ∙ p.same k h;
-      others = record {
-        owner = λ f h o. p.others.owner f h (q.others.owner f h o);
-        start = λ f h o. q.others.start f h o ∙ p.others.start f h (q.others.owner f h o);
-        marks = λ f h o d m. q.others.marks f h o d (p.others.marks f h (q.others.owner f h o) d m);
-      };
+      owner = λ f h o. p.owner f h (q.owner f h o);
+      marks = λ f h o k l. q.marks f h o k (omega (arith, p.long)) ∙ p.marks f h (q.owner f h o) k l;
     }
 
 pub below_less : {line : List ℕ} {used more : ℕ} {a b : List ℕ} → used ≤ more → Below line more a b → Below line used a b
-below_less l p =
-    record {
-      long = p.long;
-      same = λ k h. p.same k (omega arith);
-      others = record { owner = λ f h. p.others.owner f (omega arith); start = λ f h. p.others.start f (omega arith); marks = λ f h. p.others.marks f (omega arith) };
-    }
+below_less l p = record { long = p.long; same = λ k h. p.same k (omega arith); owner = λ f h. p.owner f (omega arith); marks = λ f h. p.marks f (omega arith) }
 
 -- a table is its cells
 pub table_kept : {line names after : List ℕ} {first end : ℕ} {seen : List Name} → Below line end names after → Table line names first end seen → Table line after first end seen

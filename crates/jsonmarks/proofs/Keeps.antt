@@ -2,13 +2,12 @@
 use mathlib.Core.Path.{◌≡◌, refl, sym, ap, subst, ◌∙◌}
 use mathlib.Core.Bool.{Bool, true, false, not}
 use mathlib.Core.List.{List, ◌++◌}
-use Prim.Native.Nat.{ℕ, ◌+◌, ◌-◌, ◌/◌, ◌%◌, ◌<◌, ◌≤◌}
+use Prim.Native.Nat.{ℕ, ◌+◌, ◌-◌, ◌/◌, ◌%◌, ◌^◌, ◌<◌, ◌≤◌}
 use native.Mathlib.Omega.{arith}
+use native.Mathlib.Nat.{mod-lt}
 use lib.Dec.{eqb, ltb}
 use lib.ListN.{length, take, drop, get_or, set, length-set}
 use lib.Seq.{get_or-set_same, get_or-set_other}
-use mir.Syntax.{w64}
-use mir.Val.{Fits}
 use borrow.Author.Tests.{eqb-true, eqb-false, ltb-true, ltb-false, not-true}
 use Rattle.jsontext.specs.declared.Fault.{Fault}
 use Rattle.jsontext.specs.declared.Fault.TheVariants.{RepeatedName}
@@ -21,38 +20,29 @@ use Rattle.jsonnames.specs.declared.runs.Known.TheVariants.{There, New}
 use Rattle.jsonnames.specs.Sorted.{Spells, Named, Runs, over, even, odd, edge, Sorted}
 use Rattle.jsonnames.specs.Runs.{PutDue, new, old, Grown, Stored}
 use Rattle.jsonnames.proofs.Tables.{enter-unread, enter-again, enter-kept}
-use Rattle.jsonmarks.specs.Marks.{digest_from, DigestTold, table_from, size_of, number_at, start_of, Marks, HasMark, Owns, Marked, Filed, MarkDue, MarkTold, Wiped, MarkSet, AllDue, AllSet, NumberDue, StartTold, HasTold, BegunTold, Numbered, Signed, TakeDue, Taken, AbsentDue, AbsentTold, KeepDue, Kept, NoteDue, Noted, Held, Tended}
-use Rattle.jsonmarks.proofs.Uppers.{size-some, size_room, has-mark, marks-same, owns_back, start-same, owns-upper, start-upper, marks-upper, below-upper}
+use Rattle.jsonmarks.specs.Marks.{digest_from, DigestTold, table_from, Marks, Owns, Filed, MarkDue, MarkTold, Outside, MarkSet, AllDue, AllSet, SizeTold, RoomTold, OwnerTold, Signed, TakeDue, Taken, AbsentDue, AbsentTold, KeepDue, Kept, DueTold, NoteDue, Noted, Held, Tended}
+use Rattle.jsonmarks.proofs.Uppers.{owns_back, marks-there, below-upper}
 use Rattle.jsonmarks.proofs.Parts.{sorted-onto, part-long, part-cell, whole-upper, stored-long, stored-below, grown-more, stored-part, stored-whole}
 
--- ---- an object gets a number, and marks
+mod_below : (d size : ℕ) → 0 < size → d % size < size
+mod_below d size h = mod-lt d h
 
-pub begun-not : {line : List ℕ} {given : ℕ} → BegunTold line given false
-begun-not = record { live = λ q. absurd (let z : ◌≡◌ {A = ℕ} 0 1 = cc in omega arith); room = λ q. absurd (let z : ◌≡◌ {A = ℕ} 0 1 = cc in omega arith) }
+bits-same : {a b : ℕ} (d : ℕ) → a ≡ b → b / 2 ^ (d / 17179869184) % 2 ≡ 1 → a / 2 ^ (d / 17179869184) % 2 ≡ 1
+bits-same d e m = ap (λ (a : ℕ). a / 2 ^ (d / 17179869184) % 2) e ∙ m
 
-pub begun-is : {line : List ℕ} {given : ℕ} → given < 9223372036854775808 → BegunTold line given (ltb (length line) given)
-begun-is {line} {given} h = record { live = λ q. ltb-true (length line) given q; room = λ q. h }
+-- ---- the table becomes an object's
 
-pub next-room : {line : List ℕ} {given : ℕ} {x : Bool} → BegunTold line given x → x ≡ true → Fits w64 (given + 1)
-next-room t q = record { fits = omega (arith, t.room q) }
+pub room_most : (cells : ℕ) → 12 ≤ cells → RoomTold cells (cells / 4 - 2)
+room_most cells h = record { some = omega arith; most = omega arith }
 
-pub next-same : {line names : List ℕ} {x : Bool} → BegunTold line (get_or names (length names - 1) 0) x → x ≡ true → Numbered line names names
-next-same t q = record { long = refl; lower = λ k h. refl; same = λ k a b h. refl; live = λ k a b h. t.live q }
+pub room-half : (cells count : ℕ) → 256 ≤ count → count / 2 ≤ cells / 4 - 2 → RoomTold cells (count / 2)
+room-half cells count h l = record { some = omega arith; most = l }
 
-pub next_wiped : {line names after : List ℕ} → Wiped names after (length names - length names / 4) (length names / 4) → Numbered line names after
-next_wiped w =
-    record {
-      long = w.outside.long;
-      lower = w.outside.lower;
-      same = λ k a b h. absurd (omega (arith, w.clear k a (omega arith)));
-      live = λ k a b h. absurd (omega (arith, w.clear k a (omega arith)));
-    }
+pub owner-none : (bytes first : ℕ) → OwnerTold bytes first 0
+owner-none bytes first = record { is = λ q. absurd (omega arith) }
 
-pub sign-done : (names : List ℕ) (first number : ℕ) → Signed first number names (set (set names (length names - 2 - first / 256) number) (length names - 1) number)
-sign-done names first number = record { is = refl }
-
-pub sign-last : (names : List ℕ) (i x : ℕ) → 2 ≤ length names → length names - 1 < length (set names i x)
-sign-last names i x h = omega (arith, length-set names i x)
+pub owner-is : (bytes first : ℕ) → OwnerTold bytes first (bytes + 1 + first)
+owner-is bytes first = record { is = λ q. refl }
 
 module _ {names : List ℕ} {first end : ℕ} (u : TakeDue names first end) where
   pub take-order : first ≤ end
@@ -61,120 +51,127 @@ module _ {names : List ℕ} {first end : ℕ} (u : TakeDue names first end) wher
   pub take_cells : 12 ≤ length names
   take_cells = omega (arith, u.many, u.under)
 
-  take-first : first ≤ length names
-  take-first = omega (arith, u.many, u.under)
+  pub take-many : 256 ≤ end - first
+  take-many = u.many
 
-  module _ {line mid : List ℕ} (b : Numbered line names mid) where
-    pub take-sign : NumberDue mid first
-    take-sign = record { cells = omega (arith, b.long, take_cells); within = omega (arith, b.long, take-first) }
+  module _ {size : ℕ} (h : RoomTold (length names) size) where
+    pub take-wipe : table_from (length names) + size ≤ length names
+    take-wipe = omega (arith, h.most, take_cells)
 
-    module _ {number : ℕ} {two : List ℕ} (s : Signed first number mid two) where
-      abbrev own : ℕ
-      own = number_at (length mid) first
+    module _ {wiped : List ℕ} (o : Outside names wiped (table_from (length names)) size) where
+      pub take_all : AllDue wiped first end (table_from (length names)) size
+      take_all = record { some = h.some; room = omega (arith, o.long, take-wipe); order = take-order; under = u.under }
 
-      abbrev last : ℕ
-      last = length mid - 1
+      module _ {line marked : List ℕ} (s : AllSet line wiped marked first end (table_from (length names)) size) where
+        pub take_long : length marked ≡ length names
+        take_long = s.outside.long ∙ o.long
 
-      two-mid : length two ≡ length mid
-      two-mid = ap length s.is ∙ length-set (set mid own number) last number ∙ length-set mid own number
+        pub take-almost : length names - 2 < length marked
+        take-almost = omega (arith, take_long, take_cells)
 
-      two-long : length two ≡ length names
-      two-long = two-mid ∙ b.long
+        pub take_last : length names - 1 < length (set marked (length names - 2) size)
+        take_last = omega (arith, take_long, take_cells, length-set marked (length names - 2) size)
 
-      two-other : (k : ℕ) → (k ≡ own → ⊥) → (k ≡ last → ⊥) → get_or two k 0 ≡ get_or mid k 0
-      two-other k p q = ap (λ (l : List ℕ). get_or l k 0) s.is ∙ get_or-set_other (set mid own number) last k number 0 q ∙ get_or-set_other mid own k number 0 p
+        pub take-end : length names - 1 < length marked
+        take-end = omega (arith, take_long, take_cells)
 
-      two-own : get_or two own 0 ≡ number
-      two-own =
-          ap (λ (l : List ℕ). get_or l own 0) s.is ∙ get_or-set_other (set mid own number) last own number 0 (omega (arith, take-sign.cells))
-          ∙ get_or-set_same mid own number 0 (omega (arith, take-sign.cells))
+        pub take_same : (i j x y : ℕ) → length (set (set marked i x) j y) ≡ length names
+        take_same i j x y = length-set (set marked i x) j y ∙ length-set marked i x ∙ take_long
 
-      two-lower : (k : ℕ) → k < table_from (length mid) + size_of (length mid) → get_or two k 0 ≡ get_or mid k 0
-      two-lower k h = two-other k (omega (arith, take-sign.cells, take-sign.within)) (omega (arith, take-sign.cells))
+        module _ {v : ℕ} (e : OwnerTold (length line) first v) where
+          abbrev sized : List ℕ
+          sized = set marked (length names - 2) size
 
-      pub take_all : AllDue two first end (table_from (length names)) (size_of (length names))
-      take_all = record { some = size-some (length names) take_cells; room = omega (arith, two-long, size_room (length names) take_cells); order = take-order; under = u.under }
+          abbrev owned : List ℕ
+          owned = set (set marked (length names - 2) size) (length names - 1) v
 
-      module _ {after : List ℕ} (a : AllSet line two after first end (table_from (length names)) (size_of (length names)) (number % 1099511627776)) where
-        after-long : length after ≡ length names
-        after-long = a.outside.long ∙ two-long
+          long-owned : length owned ≡ length names
+          long-owned = length-set sized (length names - 1) v ∙ length-set marked (length names - 2) size ∙ take_long
 
-        after_lower : (k : ℕ) → k < table_from (length names) → get_or after k 0 ≡ get_or two k 0
-        after_lower = a.outside.lower
+          lower-owned : (k : ℕ) → k < length names - 2 → get_or owned k 0 ≡ get_or marked k 0
+          lower-owned k q = get_or-set_other sized (length names - 1) k v 0 (omega arith) ∙ get_or-set_other marked (length names - 2) k size 0 (omega arith)
 
-        lower-there : (k : ℕ) → k < table_from (length names) → get_or after k 0 ≡ get_or names k 0
-        lower-there k h = a.outside.lower k h ∙ two-lower k (omega (arith, b.long)) ∙ b.lower k h
+          size-owned : get_or owned (length owned - 2) 0 ≡ size
+          size-owned =
+              let z : length owned - 2 ≡ length names - 2 = omega (arith, long-owned) in
+              ap (λ (j : ℕ). get_or owned j 0) z ∙ get_or-set_other sized (length names - 1) (length names - 2) v 0 (omega (arith, take_cells))
+              ∙ get_or-set_same marked (length names - 2) size 0 take-almost
 
-        number-upper : (f : ℕ) → f ≤ length names → get_or after (number_at (length after) f) 0 ≡ get_or two (number_at (length mid) f) 0
-        number-upper f h =
-            ap (λ (n : ℕ). get_or after (number_at n f) 0) after-long ∙ a.outside.upper (number_at (length names) f) (omega (arith, take_cells))
-            ∙ ap (λ (n : ℕ). get_or two (number_at n f) 0) (sym b.long)
+          last-owned : get_or owned (length owned - 1) 0 ≡ v
+          last-owned =
+              let z : length owned - 1 ≡ length names - 1 = omega (arith, long-owned) in
+              ap (λ (j : ℕ). get_or owned j 0) z ∙ get_or-set_same sized (length names - 1) v 0 take_last
 
-        start-there : start_of after first ≡ number % 1099511627776
-        start-there = ap (λ (x : ℕ). x % 1099511627776) (number-upper first take-first ∙ two-own)
+          marks-owned : (d : ℕ) → Marks marked (table_from (length names)) size d → Marks owned (table_from (length owned)) (get_or owned (length owned - 2) 0) d
+          marks-owned d m =
+              let z : table_from (length owned) + d % get_or owned (length owned - 2) 0 ≡ table_from (length names) + d % size =
+              ap (λ (s : ℕ). table_from (length owned) + d % s) size-owned ∙ ap (λ (n : ℕ). table_from n + d % size) long-owned
+              in
+              bits-same d (ap (λ (j : ℕ). get_or owned j 0) z ∙ lower-owned (table_from (length names) + d % size) (omega (arith, h.most, mod_below d size h.some, take_cells))) m
 
-        marked-there : Marked line after first end
-        marked-there =
-            record {
-              all =
-                  λ c o k f q n p.
-                  subst (λ (x : ℕ). HasMark after (digest_from x n)) (sym start-there)
-                  (has-mark after (length names) (digest_from (number % 1099511627776) n) after-long (a.all k f q n (subst (λ (p : ℕ). Spells line p n) (after_lower k (omega (arith, u.under))) p)));
-            }
+          not-owned : (f : ℕ) → f < first → Owns line owned f → ⊥
+          not-owned f q w =
+              let x : v ≡ length line + 1 + f = sym last-owned ∙ w.owner in
+              let y : v ≡ length line + 1 + first = e.is (omega arith) in
+              omega arith
 
-        module _ (f : ℕ) (h : f + 256 ≤ first) (o : Owns line after f) where
-          number-mid : get_or after (number_at (length after) f) 0 ≡ get_or mid (number_at (length mid) f) 0
-          number-mid =
-              number-upper f (omega (arith, take-first))
-              ∙ two-other (number_at (length mid) f) (omega (arith, take-sign.cells, take-sign.within)) (omega (arith, take-sign.cells))
-
-          some-mid : 0 < get_or mid (number_at (length names) f) 0
-          some-mid =
-              let z : get_or mid (number_at (length mid) f) 0 ≡ get_or mid (number_at (length names) f) 0 = ap (λ (n : ℕ). get_or mid (number_at n f) 0) b.long in
-              omega (arith, number-mid, z, o.some)
-
-          mid-same : mid ≡ names
-          mid-same = b.same (number_at (length names) f) (omega (arith, take_cells, take-first)) (omega (arith, take_cells)) some-mid
-
-          owner-there : Owns line names f
-          owner-there =
+          pub taken-owned : Taken line names (set (set marked (length names - 2) size) (length names - 1) v) first end
+          taken-owned =
               record {
-                cells = take_cells;
-                within = omega (arith, take-first);
-                live = b.live (number_at (length names) f) (omega (arith, take_cells, take-first)) (omega (arith, take_cells)) some-mid;
-                some = subst (λ (m : List ℕ). 0 < get_or m (number_at (length names) f) 0) mid-same some-mid;
+                long = long-owned;
+                lower = λ k q. lower-owned k (omega (arith, take_cells)) ∙ s.outside.lower k q ∙ o.lower k q;
+                marked = record {
+                  all = λ c w k a q n sp.
+                      marks-owned (digest_from 0 n) (s.all k a q n (subst (λ (p : ℕ). Spells line p n) (lower-owned k (omega (arith, u.under, take_cells)) ∙ s.outside.lower k (omega (arith, u.under))) sp));
+                };
+                others = not-owned;
               }
 
-          start_back : start_of after f ≡ start_of names f
-          start_back = ap (λ (x : ℕ). x % 1099511627776) (number-mid ∙ ap (λ (m : List ℕ). get_or m (number_at (length m) f) 0) mid-same)
+          pub taken-signed : {after : List ℕ} → Signed size v marked after → Taken line names after first end
+          taken-signed {after} w =
+              let z : after ≡ set (set marked (length names - 2) size) (length names - 1) v = w.is ∙ ap (λ (n : ℕ). set (set marked (n - 2) size) (n - 1) v) take_long in
+              subst (λ (l : List ℕ). Taken line names l first end) (sym z) taken-owned
 
-          marks-on : (d : ℕ) → HasMark names d → HasMark after d
-          marks-on d m =
-              let two-has : HasMark two d = marks-same mid two two-mid take-sign.cells (λ k p q. two-lower k q) d (subst (λ (m : List ℕ). HasMark m d) (sym mid-same) m) in
-              has-mark after (length names) d after-long (a.kept d (subst (λ (n : ℕ). Marks two (table_from n) (size_of n) d) two-long two-has))
+        pub take-two : 2 ≤ length marked
+        take-two = omega (arith, take_long, take_cells)
 
-        pub taken : Taken line names after first end
-        taken = record { long = after-long; lower = lower-there; marked = marked-there; others = record { owner = owner-there; start = start_back; marks = marks-on } }
+        pub signed-long : {v : ℕ} {after : List ℕ} → Signed size v marked after → length after ≡ length names
+        signed-long {v} w = ap length w.is ∙ take_same (length marked - 2) (length marked - 1) size v
+
+pub sign-last : (names : List ℕ) (i x : ℕ) → 2 ≤ length names → length names - 1 < length (set names i x)
+sign-last names i x h = omega (arith, length-set names i x)
+
+pub sign-done : (names : List ℕ) (size owner : ℕ) → Signed size owner names (set (set names (length names - 2) size) (length names - 1) owner)
+sign-done names size owner = record { is = refl }
 
 -- ---- a name that is not there by its mark
 
 pub absent-no : {line names : List ℕ} {first end d : ℕ} → AbsentTold line names first end d false
 absent-no = record { lacks = λ q. absurd (let z : ◌≡◌ {A = ℕ} 0 1 = cc in omega arith) }
 
+pub size-cells : {line names : List ℕ} {first end d : ℕ} → AbsentDue line names first end d → 256 ≤ end - first → 8 ≤ length names
+size-cells u h = omega (arith, u.filed.sorted.within)
+
 pub absent-order : {line names : List ℕ} {first end d : ℕ} → AbsentDue line names first end d → first ≤ end
 absent-order u = u.filed.sorted.from
 
-module _ {line names : List ℕ} {first end d : ℕ} (u : AbsentDue line names first end d) (c : 256 ≤ end - first) where
-  pub absent-number : NumberDue names first
-  absent-number = record { cells = omega (arith, u.filed.sorted.within); within = omega (arith, u.filed.sorted.within) }
+module _ {line names : List ℕ} {first end d size : ℕ} (u : AbsentDue line names first end d) (t : SizeTold line names first size) (z : size ≡ 0 → ⊥) where
+  some_size : 0 < size
+  some_size = go size z
+    where
+      go : (s : ℕ) → (s ≡ 0 → ⊥) → 0 < s
+      go s n = omega arith
 
-  pub absent-due : MarkDue names (table_from (length names)) (size_of (length names)) d
-  absent-due = record { some = size-some (length names) absent-number.cells; room = omega (arith, size_room (length names) absent-number.cells); below = u.below }
+  pub absent-due : MarkDue names (table_from (length names)) size d
+  absent-due = let o = t.owns some_size in record { some = some_size; room = omega (arith, o.room, t.is some_size); below = u.below }
 
-  pub absent-yes : {y x : Bool} → HasTold line names first y → y ≡ true → MarkTold names (table_from (length names)) (size_of (length names)) d x → AbsentTold line names first end d (not x)
-  absent-yes {y} {x} t z m =
+  pub absent-yes : {x : Bool} → 256 ≤ end - first → MarkTold names (table_from (length names)) size d x → AbsentTold line names first end d (not x)
+  absent-yes {x} c m =
       record {
-        lacks = λ q n e k a h s. m.clear (not-true x q) (subst (λ (g : ℕ). HasMark names g) (sym e) (u.filed.marked.all c (t.owns z) k a h n s));
+        lacks = λ q n e k a h s.
+            let v = u.filed.marked.all c (t.owns some_size) k a h n s in
+            let w = subst (λ (g : ℕ). Marks names (table_from (length names)) g (digest_from 0 n)) (sym (t.is some_size)) v in
+            m.clear (not-true x q) (subst (λ (g : ℕ). Marks names (table_from (length names)) size g) (sym e) w);
       }
 
 -- ---- a name kept in the lower cells
@@ -198,7 +195,7 @@ module _ {line names : List ℕ} {first end at : ℕ} (u : KeepDue line names fi
   pub keep-absent : {d : ℕ} → d < 1099511627776 → AbsentDue line names first end d
   keep-absent h = record { filed = u.filed; below = h }
 
-  pub keep-put : {d : ℕ} {x : Bool} → DigestTold line at (start_of names first) d → AbsentTold line names first end d x → x ≡ true → PutDue line (take (table_from (length names)) names) first (edge first end) end at
+  pub keep-put : {d : ℕ} {x : Bool} → DigestTold line at d → AbsentTold line names first end d x → x ≡ true → PutDue line (take (table_from (length names)) names) first (edge first end) end at
   keep-put t a q =
       record {
         sorted = keep-sorted;
@@ -208,114 +205,110 @@ module _ {line names : List ℕ} {first end at : ℕ} (u : KeepDue line names fi
         lacks = λ n s k f h v. a.lacks q n (t.is n s.rest s.is) k f (omega arith) (subst (λ (p : ℕ). Spells line p n) (part-cell names keep-within k (omega (arith, u.under))) v);
       }
 
-  module _ {part : List ℕ} {r : Known} (s : Stored line (take (table_from (length names)) names) part first end at r) where
-    abbrev whole : List ℕ
-    whole = part ++ drop (table_from (length names)) names
-
-    keep-stored : Stored line names (part ++ drop (table_from (length names)) names) first end at r
-    keep-stored = stored-whole names keep-within u.under s
-
-    keep-upper : (k : ℕ) → table_from (length names) ≤ k → get_or (part ++ drop (table_from (length names)) names) k 0 ≡ get_or names k 0
-    keep-upper = whole-upper names keep-within part (stored-part names keep-within u.under s)
-
-    keep-long : length (part ++ drop (table_from (length names)) names) ≡ length names
-    keep-long = stored-long keep-stored
-
-    pub keep-kept : {d : ℕ} → DigestTold line at (start_of names first) d → Kept line names (part ++ drop (table_from (length names)) names) first end at d r
-    keep-kept {d} t =
-        record {
-          stored = keep-stored;
-          upper = keep-upper;
-          due = λ q many. record {
-            order = u.filed.sorted.from;
-            many = many;
-            under = omega (arith, keep-long, u.under);
-            below = t.below;
-            nearly = λ c o j a b n v x.
-                let e = start-upper line names whole keep-long keep-upper o in
-                subst (λ (y : ℕ). HasMark whole (digest_from y n)) (sym e)
-                (marks-upper line names whole keep-long keep-upper o (digest_from (start_of names first) n)
-                (elim ((keep-stored.new q).came j a b) [
-                  | new i ↦ absurd (let w = subst (λ (p : ℕ). Spells line p n) i v in x (t.is n w.rest w.is ∙ ap (λ (y : ℕ). digest_from y n) (sym e)))
-                  | old w ↦ u.filed.marked.all c (owns-upper line names whole keep-long keep-upper o) w.cell w.from w.below n (subst (λ (p : ℕ). Spells line p n) (sym w.is) v)
-                ]));
-          };
-        }
+  pub keep-kept : {part : List ℕ} {r : Known} → Stored line (take (table_from (length names)) names) part first end at r → Kept line names (part ++ drop (table_from (length names)) names) first end at r
+  keep-kept {part} s = record { stored = stored-whole names keep-within u.under s; upper = whole-upper names keep-within part (stored-part names keep-within u.under s) }
 
   pub keep-place : at ≤ length line
   keep-place = u.named.spells.within
 
-  pub keep-number : 255 ≤ end - first → NumberDue names first
-  keep-number h = record { cells = omega (arith, u.under); within = omega (arith, u.under) }
-
-pub digest_started : {line names : List ℕ} {first at start d : ℕ} → StartTold names first start → DigestTold line at start d → DigestTold line at (start_of names first) d
-digest_started {line} {names} {first} {at} {start} {d} t g = subst (λ (x : ℕ). DigestTold line at x d) t.is g
-
-pub digest_below : {line : List ℕ} {at start d : ℕ} → DigestTold line at start d → d < 1099511627776
+pub digest_below : {line : List ℕ} {at d : ℕ} → DigestTold line at d → d < 1099511627776
 digest_below t = t.below
 
 -- ---- the mark of a name that was kept
+
+pub due-first : (count : ℕ) → count ≡ 256 → DueTold count true
+due-first count e = record { first = λ q. refl }
+
+pub due-other : {count : ℕ} {x : Bool} → (count ≡ 256 → ⊥) → DueTold count x
+due-other n = record { first = λ q. absurd (n q) }
 
 module _ {line names : List ℕ} {first end d : ℕ} (u : NoteDue line names first end d) where
   pub note_order : first ≤ end
   note_order = u.order
 
-  pub note_number : NumberDue names first
-  note_number = record { cells = omega (arith, u.many, u.under); within = omega (arith, u.order, u.under) }
+  pub note-count : 0 < end + 1 - first
+  note-count = omega (arith, u.order)
 
-  pub note_take : TakeDue names first (end + 1)
-  note_take = record { many = omega (arith, u.many, u.order); under = omega (arith, u.under) }
+  pub note-cells : 8 ≤ length names
+  note-cells = omega (arith, u.many, u.under)
+
+  pub note_take : {x : Bool} → DueTold (end + 1 - first) x → TakeDue names first (end + 1)
+  note_take t = record { many = omega (arith, u.many, u.order); under = omega (arith, u.under) }
 
   pub noted-taken : {after : List ℕ} → Taken line names after first (end + 1) → Noted line names after first end
-  noted-taken t = record { long = t.long; lower = t.lower; marked = t.marked; others = t.others }
+  noted-taken t = record { long = t.long; lower = t.lower; marked = t.marked; owner = λ f h o. absurd (t.others f h o); marks = λ f h o. absurd (t.others f h o) }
 
-  module _ {x : Bool} (t : HasTold line names first x) where
-    pub noted-none : x ≡ false → Noted line names names first end
-    noted-none q =
-        record {
-          long = refl;
-          lower = λ k l. refl;
-          marked = record { all = λ c o. absurd (t.none q o) };
-          others = record { owner = λ f h o. o; start = λ f h o. refl; marks = λ f h o e m. m };
-        }
+  module _ {x : Bool} (t : DueTold (end + 1 - first) x) (q : x ≡ false) where
+    large : 256 ≤ end - first
+    large =
+        go (eqb (end + 1 - first) 256) refl
+      where
+        go : (y : Bool) → eqb (end + 1 - first) 256 ≡ y → 256 ≤ end - first
+        go true e = absurd (let z : true ≡ false = sym (t.first (eqb-true (end + 1 - first) 256 e)) ∙ q in let w : ◌≡◌ {A = ℕ} 0 1 = cc in omega arith)
+        go false e = let n = eqb-false (end + 1 - first) 256 e in over-large n
+          where
+            over-large : (end + 1 - first ≡ 256 → ⊥) → 256 ≤ end - first
+            over-large n = omega (arith, u.many, u.order)
 
-    pub note_mark : MarkDue names (table_from (length names)) (size_of (length names)) d
-    note_mark = record { some = size-some (length names) note_number.cells; room = omega (arith, size_room (length names) note_number.cells); below = u.below }
-
-    module _ (y : x ≡ true) (z : end - first ≡ 255 → ⊥) {after : List ℕ} (m : MarkSet names after (table_from (length names)) (size_of (length names)) d) where
-      long : length after ≡ length names
-      long = m.outside.long
-
-      large : 256 ≤ end - first
-      large = omega (arith, u.many)
-
-      all_there : (k : ℕ) → first ≤ k → k < end + 1 → (n : List ℕ) → Spells line (get_or after k 0) n → (y : Bool) → eqb d (digest_from (start_of names first) n) ≡ y → Marks after (table_from (length names)) (size_of (length names)) (digest_from (start_of names first) n)
-      all_there k a b n p true e = subst (λ (g : ℕ). Marks after (table_from (length names)) (size_of (length names)) g) (eqb-true d (digest_from (start_of names first) n) e) m.is
-      all_there k a b n p false e =
-          m.kept (digest_from (start_of names first) n)
-          (u.nearly large (t.owns y) k a b n (subst (λ (p : ℕ). Spells line p n) (m.outside.lower k (omega (arith, u.under))) p) (eqb-false d (digest_from (start_of names first) n) e))
-
-      pub noted-marked : Noted line names after first end
-      noted-marked =
+    module _ {size : ℕ} (s : SizeTold line names first size) where
+      pub noted-none : size ≤ 0 → Noted line names names first end
+      noted-none h =
           record {
-            long = long;
-            lower = m.outside.lower;
-            marked = record {
-              all = λ c o k a b n p. subst (λ (x : ℕ). HasMark after (digest_from x n)) (sym (start-same line names after long m.outside.upper o)) (has-mark after (length names) (digest_from (start_of names first) n) long (all_there k a b n p (eqb d (digest_from (start_of names first) n)) refl));
-            };
-            others = record {
-              owner = λ f l o. owns_back line names after long m.outside.upper o;
-              start = λ f l o. start-same line names after long m.outside.upper o;
-              marks = λ f l o e v. has-mark after (length names) e long (m.kept e v);
-            };
+            long = refl;
+            lower = λ k l. refl;
+            marked = record { all = λ c o. absurd (s.none (omega arith) o) };
+            owner = λ f h o. o;
+            marks = λ f h o k l. refl;
           }
+
+      module _ (h : 0 < size) where
+        owns : Owns line names first
+        owns = s.owns h
+
+        pub note_mark : MarkDue names (table_from (length names)) size d
+        note_mark = record { some = h; room = omega (arith, owns.room, s.is h); below = u.below }
+
+        module _ {after : List ℕ} (m : MarkSet names after (table_from (length names)) size d) where
+          long : length after ≡ length names
+          long = m.outside.long
+
+          size-there : get_or after (length after - 2) 0 ≡ size
+          size-there =
+              let z : length after - 2 ≡ length names - 2 = omega (arith, long) in
+              ap (λ (j : ℕ). get_or after j 0) z ∙ m.outside.upper (length names - 2) (omega (arith, owns.room, s.is h)) ∙ sym (s.is h)
+
+          owner-there : get_or after (length after - 1) 0 ≡ length line + 1 + first
+          owner-there =
+              let z : length after - 1 ≡ length names - 1 = omega (arith, long) in
+              ap (λ (j : ℕ). get_or after j 0) z ∙ m.outside.upper (length names - 1) (omega (arith, owns.room, s.is h)) ∙ owns.owner
+
+          not-others : (f : ℕ) → f < first → Owns line after f → ⊥
+          not-others f l o = let x : length line + 1 + first ≡ length line + 1 + f = sym owner-there ∙ o.owner in omega arith
+
+          marks-size : (e : ℕ) → Marks names (table_from (length names)) (get_or names (length names - 2) 0) e → Marks names (table_from (length names)) size e
+          marks-size e = subst (λ (g : ℕ). Marks names (table_from (length names)) g e) (sym (s.is h))
+
+          marks-after : (e : ℕ) → Marks after (table_from (length names)) size e → Marks after (table_from (length after)) (get_or after (length after - 2) 0) e
+          marks-after e w = bits-same e (ap (λ (j : ℕ). get_or after j 0) (ap (λ (g : ℕ). table_from (length after) + e % g) size-there ∙ ap (λ (n : ℕ). table_from n + e % size) long)) w
+
+          all_there : (k : ℕ) → first ≤ k → k < end + 1 → (n : List ℕ) → Spells line (get_or after k 0) n → (y : Bool) → eqb d (digest_from 0 n) ≡ y → Marks after (table_from (length names)) size (digest_from 0 n)
+          all_there k a b n p true e = subst (λ (g : ℕ). Marks after (table_from (length names)) size g) (eqb-true d (digest_from 0 n) e) m.is
+          all_there k a b n p false e =
+              m.kept (digest_from 0 n) (marks-size (digest_from 0 n) (u.nearly large owns k a b n (subst (λ (p : ℕ). Spells line p n) (m.outside.lower k (omega (arith, u.under))) p) (eqb-false d (digest_from 0 n) e)))
+
+          pub noted-marked : Noted line names after first end
+          noted-marked =
+              record {
+                long = long;
+                lower = m.outside.lower;
+                marked = record { all = λ c o k a b n p. marks-after (digest_from 0 n) (all_there k a b n p (eqb d (digest_from 0 n)) refl) };
+                owner = λ f l o. absurd (not-others f l o);
+                marks = λ f l o. absurd (not-others f l o);
+              }
 
 -- ---- a name of a large object
 
-pub held_note : {line names mid : List ℕ} {first end at d : ℕ} {r : Known} → Kept line names mid first end at d r → r ≡ New → 255 ≤ end - first → NoteDue line mid first end d
-held_note k q many = k.due q many
-
-module _ {line names : List ℕ} {first end at : ℕ} (u : KeepDue line names first end at) {d : ℕ} {mid : List ℕ} {r : Known} (k : Kept line names mid first end at d r) where
+module _ {line names : List ℕ} {first end at : ℕ} (u : KeepDue line names first end at) {d : ℕ} (t : DigestTold line at d) {mid : List ℕ} {r : Known} (k : Kept line names mid first end at r) where
   mid-long : length mid ≡ length names
   mid-long = stored-long k.stored
 
@@ -331,6 +324,21 @@ module _ {line names : List ℕ} {first end at : ℕ} (u : KeepDue line names fi
     grown : Grown line names mid first end at
     grown = k.stored.new q
 
+    pub held_note : NoteDue line mid first end d
+    held_note =
+        record {
+          order = u.filed.sorted.from;
+          many = many;
+          under = omega (arith, mid-long, u.under);
+          below = t.below;
+          nearly = λ c o j a b n s x.
+              marks-there line names mid mid-long k.upper o (digest_from 0 n)
+              (elim (grown.came j a b) [
+                | new e ↦ absurd (let v = subst (λ (p : ℕ). Spells line p n) e s in x (t.is n v.rest v.is))
+                | old w ↦ u.filed.marked.all c (owns_back line names mid mid-long k.upper o) w.cell w.from w.below n (subst (λ (p : ℕ). Spells line p n) (sym w.is) s)
+              ]);
+        }
+
     pub held_new : {after : List ℕ} → Noted line mid after first end → Held line names after first end at New
     held_new {after} m =
         record {
@@ -342,11 +350,8 @@ module _ {line names : List ℕ} {first end at : ℕ} (u : KeepDue line names fi
           below = record {
             long = m.long ∙ mid-long;
             same = λ j h. m.lower j (omega (arith, mid-long, u.under, u.filed.sorted.from)) ∙ grown.below j h;
-            others = record {
-              owner = λ f h o. owns-upper line names mid mid-long k.upper (m.others.owner f h o);
-              start = λ f h o. m.others.start f h o ∙ start-upper line names mid mid-long k.upper (m.others.owner f h o);
-              marks = λ f h o e v. m.others.marks f h o e (marks-upper line names mid mid-long k.upper (m.others.owner f h o) e v);
-            };
+            owner = λ f h o. owns_back line names mid mid-long k.upper (m.owner f h o);
+            marks = λ f h o j l. m.marks f h o j (omega (arith, mid-long)) ∙ k.upper j l;
           };
           marked = λ z. m.marked;
         }
@@ -369,7 +374,7 @@ runs-places (odd half low c h s r) k a b = split k low (λ q. runs-places r k a 
 pub sorted-places : {line names : List ℕ} {first end : ℕ} → Sorted line names first end → (k : ℕ) → first ≤ k → k < end → get_or names k 0 ≤ length line
 sorted-places {line} {names} {first} {end} s k a b = split k (edge first end) (λ q. runs-places s.runs k a q) (λ q. (s.last.named k q b).spells.within)
 
--- where the last cell has a place or 0, no object has a number
+-- where its last cell has a place or 0, the table is no one's
 held-no-one : {line names after : List ℕ} {first end at : ℕ} → Grown line names after first end at → ((f : ℕ) → Owns line after f → ⊥) → Held line names after first end at New
 held-no-one g n =
     record {
@@ -378,7 +383,7 @@ held-no-one g n =
         same = λ p z. absurd (let z : ◌≡◌ {A = ℕ} 0 1 = cc in omega arith);
         new = λ z. g;
       };
-      below = record { long = g.long; same = g.below; others = record { owner = λ f h o. absurd (n f o); start = λ f h o. absurd (n f o); marks = λ f h o. absurd (n f o) } };
+      below = record { long = g.long; same = g.below; owner = λ f h o. absurd (n f o); marks = λ f h o. absurd (n f o) };
       marked = λ z. record { all = λ c o. absurd (n _ o) };
     }
 
@@ -401,13 +406,13 @@ module _ {line names : List ℕ} {first end at : ℕ} (l : end < length names) {
         held-no-one (grown-more (length-set mid (length mid - 1) 0) (λ k b. get_or-set_other mid (length mid - 1) k 0 0 (omega arith)) (s.new q))
         (λ f o.
         let z : length (set mid (length mid - 1) 0) - 1 ≡ length mid - 1 = omega (arith, length-set mid (length mid - 1) 0) in
-        let y : get_or (set mid (length mid - 1) 0) (length (set mid (length mid - 1) 0) - 1) 0 ≡ 0 = ap (λ (j : ℕ). get_or (set mid (length mid - 1) 0) j 0) z ∙ get_or-set_same mid (length mid - 1) 0 0 (omega arith) in
-        omega (arith, o.live))
+        let y : 0 ≡ length line + 1 + f = sym (get_or-set_same mid (length mid - 1) 0 0 (omega arith)) ∙ ap (λ (j : ℕ). get_or (set mid (length mid - 1) 0) j 0) (sym z) ∙ o.owner in
+        omega arith)
 
     pub crowd_full : length mid - 1 ≤ end → Held line names mid first end at New
     crowd_full h =
         let g = s.new q in
-        held-no-one g (λ f o. omega (arith, sorted-places g.sorted (length mid - 1) (omega (arith, g.sorted.from, stored-long s, g.added.from, g.added.below)) (omega (arith, stored-long s)), o.live))
+        held-no-one g (λ f o. omega (arith, sorted-places g.sorted (length mid - 1) (omega (arith, g.sorted.from, stored-long s, g.added.from, g.added.below)) (omega (arith, stored-long s)), o.owner))
 
 -- ---- a name of a small object
 
@@ -426,9 +431,10 @@ module _ {line names : List ℕ} {first end at : ℕ} (f : Filed line names firs
 
   pub hold_few : {part : List ℕ} {r : Known} → end - first < 255 → Stored line (take (table_from (length names)) names) part first end at r → Held line names (part ++ drop (table_from (length names)) names) first end at r
   hold_few l s =
+      let k = keep-kept hold_due s in
       record {
-        stored = keep-stored hold_due s;
-        below = below-upper line names _ (keep-long hold_due s) (keep-upper hold_due s) (stored-below (keep-stored hold_due s));
+        stored = k.stored;
+        below = below-upper line names _ (stored-long k.stored) k.upper (stored-below k.stored);
         marked = λ z. record { all = λ c. absurd (omega (arith, f.sorted.from)) };
       }
 
@@ -442,7 +448,7 @@ module _ {line : List ℕ} {at : ℕ} {x : Step} (t : Told line at x (string (dr
   tended_unread e =
       record {
         entered = enter-unread t h e;
-        below = record { long = refl; same = λ k h. refl; others = record { owner = λ f h o. o; start = λ f h o. refl; marks = λ f h o e m. m } };
+        below = record { long = refl; same = λ k h. refl; owner = λ f h o. o; marks = λ f h o k l. refl };
         marked = λ k z. absurd (let z : ◌≡◌ {A = ℕ} 0 1 = cc in omega arith);
       }
 

@@ -14,7 +14,7 @@ use borrow.Author.Tests.{eqb-true, eqb-false, ltb-true, ltb-false}
 use Rattle.jsontext.specs.Strings.{string}
 use Rattle.jsonread.proofs.Spelling.{string-none}
 use Rattle.jsonnames.specs.Sorted.{Spells}
-use Rattle.jsonmarks.specs.Marks.{digest_from, DigestTold, Marks, SlotTold, MarkDue, MarkTold, Outside, Wiped, MarkSet, AllDue, AllSet, NumberDue, HasTold}
+use Rattle.jsonmarks.specs.Marks.{digest_from, DigestTold, Marks, SlotTold, MarkDue, MarkTold, Outside, MarkSet, AllDue, AllSet, SizeTold}
 
 -- ---- bits
 
@@ -112,10 +112,9 @@ module _ {names : List ℕ} {from size d : ℕ} (u : MarkDue names from size d) 
 pub record Wiping (names after : List ℕ) (from size i : ℕ) : Type 0 where
   pub outside : Outside names after from size
   pub room : from + size ≤ length names
-  pub clear : (k : ℕ) → from ≤ k → k < from + i → get_or after k 0 ≡ 0
 
 pub wipe_start : {names : List ℕ} {from size : ℕ} → from + size ≤ length names → Wiping names names from size 0
-wipe_start h = record { outside = record { long = refl; lower = λ k l. refl; upper = λ k l. refl }; room = h; clear = λ k a b. absurd (omega arith) }
+wipe_start h = record { outside = record { long = refl; lower = λ k l. refl; upper = λ k l. refl }; room = h }
 
 module _ {names after : List ℕ} {from size i : ℕ} (g : Wiping names after from size i) where
   pub wipe_cell : i < size → from + i < length after
@@ -130,18 +129,10 @@ module _ {names after : List ℕ} {from size i : ℕ} (g : Wiping names after fr
           upper = λ k l. get_or-set_other after (from + i) k 0 0 (omega arith) ∙ g.outside.upper k l;
         };
         room = g.room;
-        clear = λ k a b. go k a b (eqb k (from + i)) refl;
       }
-    where
-      go : (k : ℕ) → from ≤ k → k < from + (i + 1) → (x : Bool) → eqb k (from + i) ≡ x → get_or (set after (from + i) 0) k 0 ≡ 0
-      go k a b true q = ap (λ (j : ℕ). get_or (set after (from + i) 0) j 0) (eqb-true k (from + i) q) ∙ get_or-set_same after (from + i) 0 0 (wipe_cell h)
-      go k a b false q = get_or-set_other after (from + i) k 0 0 (eqb-false k (from + i) q) ∙ g.clear k a (still (eqb-false k (from + i) q))
-        where
-          still : (k ≡ from + i → ⊥) → k < from + i
-          still n = omega arith
 
-  pub wipe_done : size ≤ i → Wiped names after from size
-  wipe_done h = record { outside = g.outside; clear = λ k a b. g.clear k a (omega arith) }
+  pub wipe_done : Outside names after from size
+  wipe_done = g.outside
 
 -- ---- the marks of all names
 
@@ -153,28 +144,27 @@ spells-below {line} {p} s =
     go true q = ltb-true p (length line) q
     go false q = absurd (string-none (sym (ap string (drop_of_length-le line (ltb-false p (length line) q))) ∙ s.is))
 
-pub record Marking (line names after : List ℕ) (first end from size start k : ℕ) : Type 0 where
+pub record Marking (line names after : List ℕ) (first end from size k : ℕ) : Type 0 where
   pub due : AllDue names first end from size
   pub from_first : first ≤ k
   pub within : k ≤ end
   pub outside : Outside names after from size
-  pub kept : (e : ℕ) → Marks names from size e → Marks after from size e
-  pub all : (j : ℕ) → first ≤ j → j < k → (n : List ℕ) → Spells line (get_or names j 0) n → Marks after from size (digest_from start n)
+  pub all : (j : ℕ) → first ≤ j → j < k → (n : List ℕ) → Spells line (get_or names j 0) n → Marks after from size (digest_from 0 n)
 
-pub all_start : (line : List ℕ) {names : List ℕ} {first end from size start : ℕ} → AllDue names first end from size → Marking line names names first end from size start first
-all_start line u = record { due = u; from_first = omega arith; within = u.order; outside = record { long = refl; lower = λ k l. refl; upper = λ k l. refl }; kept = λ e m. m; all = λ j a h n s. absurd (omega arith) }
+pub all_start : (line : List ℕ) {names : List ℕ} {first end from size : ℕ} → AllDue names first end from size → Marking line names names first end from size first
+all_start line u = record { due = u; from_first = omega arith; within = u.order; outside = record { long = refl; lower = λ k l. refl; upper = λ k l. refl }; all = λ j a h n s. absurd (omega arith) }
 
-module _ {line names after : List ℕ} {first end from size start k : ℕ} (g : Marking line names after first end from size start k) (l : k < end) where
+module _ {line names after : List ℕ} {first end from size k : ℕ} (g : Marking line names after first end from size k) (l : k < end) where
   pub all-cell : k < length after
   all-cell = omega (arith, g.due.under, g.due.room, g.outside.long)
 
   same-cell : get_or after k 0 ≡ get_or names k 0
   same-cell = g.outside.lower k (omega (arith, g.due.under))
 
-  pub all-due : {d : ℕ} → DigestTold line (get_or after k 0) start d → MarkDue after from size d
+  pub all-due : {d : ℕ} → DigestTold line (get_or after k 0) d → MarkDue after from size d
   all-due t = record { some = g.due.some; room = omega (arith, g.due.room, g.outside.long); below = t.below }
 
-  pub all-on : {d : ℕ} {next : List ℕ} → DigestTold line (get_or after k 0) start d → MarkSet after next from size d → Marking line names next first end from size start (k + 1)
+  pub all-on : {d : ℕ} {next : List ℕ} → DigestTold line (get_or after k 0) d → MarkSet after next from size d → Marking line names next first end from size (k + 1)
   all-on {d} {next} t m =
       record {
         due = g.due;
@@ -185,51 +175,53 @@ module _ {line names after : List ℕ} {first end from size start k : ℕ} (g : 
           lower = λ j h. m.outside.lower j h ∙ g.outside.lower j h;
           upper = λ j h. m.outside.upper j h ∙ g.outside.upper j h;
         };
-        kept = λ e v. m.kept e (g.kept e v);
         all = λ j a h n s. go j a h n s (ltb j k) refl;
       }
     where
-      go : (j : ℕ) → first ≤ j → j < k + 1 → (n : List ℕ) → Spells line (get_or names j 0) n → (x : Bool) → ltb j k ≡ x → Marks next from size (digest_from start n)
-      go j a h n s true q = m.kept (digest_from start n) (g.all j a (ltb-true j k q) n s)
+      go : (j : ℕ) → first ≤ j → j < k + 1 → (n : List ℕ) → Spells line (get_or names j 0) n → (x : Bool) → ltb j k ≡ x → Marks next from size (digest_from 0 n)
+      go j a h n s true q = m.kept (digest_from 0 n) (g.all j a (ltb-true j k q) n s)
       go j a h n s false q =
           let z : j ≡ k = omega (arith, ltb-false j k q) in
           let y : get_or names j 0 ≡ get_or after k 0 = ap (λ (i : ℕ). get_or names i 0) z ∙ sym same-cell in
           let v = subst (λ (p : ℕ). Spells line p n) y s in
           subst (λ (e : ℕ). Marks next from size e) (t.is n v.rest v.is) m.is
 
-  pub all_past : length line ≤ get_or after k 0 → Marking line names after first end from size start (k + 1)
+  pub all_past : length line ≤ get_or after k 0 → Marking line names after first end from size (k + 1)
   all_past h =
       record {
         due = g.due;
         from_first = omega (arith, g.from_first);
         within = omega arith;
         outside = g.outside;
-        kept = g.kept;
         all = λ j a i n s. go j a i n s (ltb j k) refl;
       }
     where
-      go : (j : ℕ) → first ≤ j → j < k + 1 → (n : List ℕ) → Spells line (get_or names j 0) n → (x : Bool) → ltb j k ≡ x → Marks after from size (digest_from start n)
+      go : (j : ℕ) → first ≤ j → j < k + 1 → (n : List ℕ) → Spells line (get_or names j 0) n → (x : Bool) → ltb j k ≡ x → Marks after from size (digest_from 0 n)
       go j a i n s true q = g.all j a (ltb-true j k q) n s
       go j a i n s false q =
           let z : j ≡ k = omega (arith, ltb-false j k q) in
           let y : get_or names j 0 ≡ get_or after k 0 = ap (λ (i : ℕ). get_or names i 0) z ∙ sym same-cell in
           absurd (omega (arith, y, spells-below s))
 
-pub all_done : {line names after : List ℕ} {first end from size start k : ℕ} → Marking line names after first end from size start k → end ≤ k → AllSet line names after first end from size start
-all_done g h = record { outside = g.outside; kept = g.kept; all = λ j a l n s. g.all j a (omega arith) n s }
+pub all_done : {line names after : List ℕ} {first end from size k : ℕ} → Marking line names after first end from size k → end ≤ k → AllSet line names after first end from size
+all_done g h = record { outside = g.outside; all = λ j a l n s. g.all j a (omega arith) n s }
 
--- ---- an object's number
+-- ---- whose the table is
 
-module _ {names : List ℕ} {first : ℕ} (u : NumberDue names first) where
-  pub number-cells : 2 ≤ length names
-  number-cells = omega (arith, u.cells)
+module _ {line names : List ℕ} {first : ℕ} where
+  pub size-lower : get_or names (length names - 1) 0 ≤ length line → SizeTold line names first 0
+  size-lower h = record { none = λ q o. omega (arith, o.owner); owns = λ q. absurd (omega arith); is = λ q. absurd (omega arith) }
 
-  pub has-none : {line : List ℕ} → get_or names (length names - 1) 0 ≤ length line → HasTold line names first false
-  has-none h = record { owns = λ q. absurd (let z : ◌≡◌ {A = ℕ} 0 1 = cc in omega arith); none = λ q o. omega (arith, o.live) }
+  pub size-other : (get_or names (length names - 1) 0 - length line - 1 ≡ first → ⊥) → SizeTold line names first 0
+  size-other n = record { none = λ q o. n (omega (arith, o.owner)); owns = λ q. absurd (omega arith); is = λ q. absurd (omega arith) }
 
-  pub has_one : {line : List ℕ} → length line < get_or names (length names - 1) 0 → HasTold line names first (ltb 0 (get_or names (length names - 2 - first / 256) 0))
-  has_one h =
+  pub size-large : length names / 4 - 2 < get_or names (length names - 2) 0 → SizeTold line names first 0
+  size-large h = record { none = λ q o. omega (arith, o.room); owns = λ q. absurd (omega arith); is = λ q. absurd (omega arith) }
+
+  pub size_is : 8 ≤ length names → length line < get_or names (length names - 1) 0 → get_or names (length names - 1) 0 - length line - 1 ≡ first → get_or names (length names - 2) 0 ≤ length names / 4 - 2 → SizeTold line names first (get_or names (length names - 2) 0)
+  size_is m l e h =
       record {
-        owns = λ q. record { cells = u.cells; within = u.within; live = h; some = ltb-true 0 (get_or names (length names - 2 - first / 256) 0) q };
-        none = λ q o. omega (arith, o.some, ltb-false 0 (get_or names (length names - 2 - first / 256) 0) q);
+        none = λ q o. omega (arith, o.some);
+        owns = λ q. record { owner = omega arith; some = q; room = omega arith };
+        is = λ q. refl;
       }

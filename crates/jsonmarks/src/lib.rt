@@ -6,63 +6,63 @@ pub mod table;
 
 ghost use Rattle.std.specs.Prelude.{◌-◌, ◌≤◌, ◌<◌, length};
 ghost use Rattle.jsonnames.specs.Sorted.{Named};
-ghost use Rattle.jsonmarks.specs.Marks.{start_of, DigestTold, Filed, NumberDue, BegunTold, Numbered, Signed, TakeDue, Taken, AbsentDue, AbsentTold, KeepDue, Kept, NoteDue, Noted, Held, Tended};
+ghost use Rattle.jsonmarks.specs.Marks.{DigestTold, Filed, RoomTold, OwnerTold, Signed, TakeDue, Taken, AbsentDue, AbsentTold, KeepDue, Kept, DueTold, NoteDue, Noted, Held, Tended};
 
-use self::table::{digest, has_number, is_marked, mark, mark_all, start_of, wipe};
+use self::table::{digest, is_marked, mark, mark_all, size_of, wipe};
 use jsonnames::runs::{Known, put_last, store};
 use jsonread::strings::string_at;
 use jsontext::{Fault, Step};
 
-// was the table wiped for this text? Then its last cell has the last number that was given
-fn is_begun(line: &[u8], given: u64) -> bool
-    ensures { BegunTold line.now given result }
+// how many cells have marks: one for two names, if there are as many
+fn size_for(count: usize, cells: usize) -> usize
+    requires le_count { 256 ≤ count }
+    requires le_cells { 12 ≤ cells }
+    ensures { RoomTold cells result }
 {
-    if given < 4611686018427387904 {
-        return false;
+    let most = cells / 4 - 2;
+    if most < count / 2 {
+        return most;
     }
-    if 9223372036854775808 <= given {
-        return false;
-    }
-    line.len() < given as usize
+    count / 2
 }
 
-// a number that no object had; at first the table is wiped, so that no marks are left over
-fn next_number(line: &[u8], names: &mut [u64]) -> u64
-    requires { 12 ≤ length names.old }
-    ensures { Numbered line.now names.old names.new }
+// whose the table is, for the last cell; 0 where the number is too large
+fn owner_of(bytes: usize, first: usize) -> usize
+    ensures { OwnerTold bytes first result }
 {
-    let cells = names.len();
-    let given = names[cells - 1];
-    if is_begun(line, given) {
-        return given + 1;
+    if 4611686018427387904 <= bytes {
+        return 0;
     }
-    wipe(names, cells - cells / 4, cells / 4);
-    4611686018427387904
+    if 4611686018427387904 <= first {
+        return 0;
+    }
+    bytes + 1 + first
 }
 
-// the object's number, and the last one given
-fn sign(names: &mut [u64], first: usize, number: u64)
-    requires { NumberDue names.old first }
-    ensures { Signed first number names.old names.new }
+// the last two cells: how many have marks, and whose they are
+fn sign(names: &mut [u64], size: usize, owner: usize)
+    requires { 2 ≤ length names.old }
+    ensures { Signed size owner names.old names.new }
 {
     let cells = names.len();
-    let own = cells - 2 - first / 256;
-    names[own] = number;
+    let almost = cells - 2;
+    names[almost] = size as u64;
     let last = cells - 1;
-    names[last] = number;
+    names[last] = owner as u64;
 }
 
-// the object gets a number, and all its names their marks
-fn begin(line: &[u8], names: &mut [u64], first: usize, end: usize)
+// the table becomes the object's, with the marks of all its names
+fn take_over(line: &[u8], names: &mut [u64], first: usize, end: usize)
     requires { TakeDue names.old first end }
     ensures { Taken line.now names.old names.new first end }
 {
     let cells = names.len();
     let from = cells - cells / 4;
-    let size = cells / 4 - cells / 256 - 2;
-    let number = next_number(line, names);
-    sign(names, first, number);
-    mark_all(line, names, first, end, from, size, number % 1099511627776);
+    let size = size_for(end - first, cells);
+    let owner = owner_of(line.len(), first);
+    wipe(names, from, size);
+    mark_all(line, names, first, end, from, size);
+    sign(names, size, owner);
 }
 
 // is a name of this digest in none of the cells?
@@ -73,18 +73,19 @@ fn absent(line: &[u8], names: &[u64], first: usize, end: usize, d: u64) -> bool
     if end - first < 256 {
         return false;
     }
-    if has_number(line, names, first) {
-        let cells = names.len();
-        return !is_marked(names, cells - cells / 4, cells / 4 - cells / 256 - 2, d);
+    let size = size_of(line, names, first);
+    if size == 0 {
+        return false;
     }
-    false
+    let cells = names.len();
+    !is_marked(names, cells - cells / 4, size, d)
 }
 
 // a name whose mark is not set is new; another one is looked for
 fn keep(line: &[u8], names: &mut [u64], first: usize, end: usize, at: usize, d: u64) -> Known
     requires keep_due { KeepDue line.now names.old first end at }
-    requires digest_told { DigestTold line.now at (start_of names.old first) d }
-    ensures { Kept line.now names.old names.new first end at d result }
+    requires digest_told { DigestTold line.now at d }
+    ensures { Kept line.now names.old names.new first end at result }
 {
     let cells = names.len();
     let from = cells - cells / 4;
@@ -95,43 +96,30 @@ fn keep(line: &[u8], names: &mut [u64], first: usize, end: usize, at: usize, d: 
     store(line, &mut names[..from], first, end, at)
 }
 
+// is the table made anew? At 256 names, and at twice as many
+fn is_due(count: usize) -> bool
+    requires { 0 < count }
+    ensures { DueTold count result }
+{
+    if count == 256 {
+        return true;
+    }
+    count & (count - 1) == 0
+}
+
 // a name that was kept gets its mark
 fn note(line: &[u8], names: &mut [u64], first: usize, end: usize, d: u64)
     requires { NoteDue line.now names.old first end d }
     ensures { Noted line.now names.old names.new first end }
 {
-    if end - first == 255 {
-        begin(line, names, first, end + 1);
+    if is_due(end + 1 - first) {
+        take_over(line, names, first, end + 1);
         return;
     }
-    if has_number(line, names, first) {
+    let size = size_of(line, names, first);
+    if 0 < size {
         let cells = names.len();
-        mark(names, cells - cells / 4, cells / 4 - cells / 256 - 2, d);
-    }
-}
-
-// the digest of a name, as one of the object whose first cell this is
-fn digest_of(line: &[u8], names: &[u64], first: usize, at: usize) -> u64
-    requires number_due { NumberDue names.now first }
-    requires at_in_bounds { at ≤ length line.now }
-    ensures { DigestTold line.now at (start_of names.now first) result }
-{
-    digest(line, at, start_of(names, first))
-}
-
-// a name of this digest is kept and gets its mark, if it is not there
-fn hold_one(line: &[u8], names: &mut [u64], first: usize, end: usize, at: usize, d: u64) -> Known
-    requires keep_due { KeepDue line.now names.old first end at }
-    requires bound { 255 ≤ end - first }
-    requires digest_told { DigestTold line.now at (start_of names.old first) d }
-    ensures { Held line.now names.old names.new first end at result }
-{
-    match keep(line, names, first, end, at, d) {
-        Known::There(p) => Known::There(p),
-        Known::New => {
-            note(line, names, first, end, d);
-            Known::New
-        }
+        mark(names, cells - cells / 4, size, d);
     }
 }
 
@@ -141,11 +129,17 @@ fn hold_many(line: &[u8], names: &mut [u64], first: usize, end: usize, at: usize
     requires bound { 255 ≤ end - first }
     ensures { Held line.now names.old names.new first end at result }
 {
-    let d = digest_of(line, names, first, at);
-    hold_one(line, names, first, end, at, d)
+    let d = digest(line, at);
+    match keep(line, names, first, end, at, d) {
+        Known::There(p) => Known::There(p),
+        Known::New => {
+            note(line, names, first, end, d);
+            Known::New
+        }
+    }
 }
 
-// names reach into the table: no object has a number
+// names reach into the table: it is no one's
 fn hold_crowded(line: &[u8], names: &mut [u64], first: usize, end: usize, at: usize) -> Known
     requires filed { Filed line.now names.old first end }
     requires end_in_bounds { end < length names.old }

@@ -1,26 +1,25 @@
 // Marks of names, in cells: the mark of a name that was kept is set.
 ghost use Rattle.std.specs.Prelude.{◌≡◌, ◌+◌, ◌^◌, ◌/◌, ◌≤◌, ◌<◌, length};
-ghost use Rattle.jsonmarks.specs.Marks.{DigestTold, SlotTold, MarkDue, MarkTold, MarkSet, Wiped, AllDue, AllSet, NumberDue, StartTold, HasTold};
+ghost use Rattle.jsonmarks.specs.Marks.{DigestTold, SlotTold, MarkDue, MarkTold, MarkSet, Outside, AllDue, AllSet, SizeTold};
 
 use jsonread::names::{Cursor, Out, next_byte};
 
-// a number of the bytes that a string stands for, from a start on; by this factor few names share a mark, whatever the number of cells
-pub fn digest(line: &[u8], at: usize, start: u64) -> u64
-    requires at_in_bounds { at ≤ length line.now }
-    requires start_bound { start < 1099511627776 }
-    ensures { DigestTold line.now at start result }
+// a number of the bytes that a string stands for
+pub fn digest(line: &[u8], at: usize) -> u64
+    requires { at ≤ length line.now }
+    ensures { DigestTold line.now at result }
 {
     let mut x = Cursor {
         at: at + 1,
         character: 0,
         left: 0,
     };
-    let mut sum = start;
+    let mut sum: u64 = 0;
     loop {
         match next_byte(line, x) {
             Out::Ended => return sum,
             Out::Byte(b, n) => {
-                sum = (sum * 11444835 + b as u64) % 1099511627776;
+                sum = (sum * 1000003 + b as u64) % 1099511627776;
                 x = n;
             }
         }
@@ -62,10 +61,10 @@ pub fn mark(names: &mut [u64], from: usize, size: usize, d: u64)
     names[k] = names[k] | bit;
 }
 
-// cells become 0
+// no marks; that marks are left would do no harm
 pub fn wipe(names: &mut [u64], from: usize, size: usize)
     requires { from + size ≤ length names.old }
-    ensures { Wiped names.old names.new from size }
+    ensures { Outside names.old names.new from size }
 {
     let mut i = 0;
     while i < size {
@@ -75,24 +74,15 @@ pub fn wipe(names: &mut [u64], from: usize, size: usize)
 }
 
 // the marks of all names in these cells
-pub fn mark_all(
-    line: &[u8],
-    names: &mut [u64],
-    first: usize,
-    end: usize,
-    from: usize,
-    size: usize,
-    start: u64,
-)
-    requires all_due { AllDue names.old first end from size }
-    requires start_bound { start < 1099511627776 }
-    ensures { AllSet line.now names.old names.new first end from size start }
+pub fn mark_all(line: &[u8], names: &mut [u64], first: usize, end: usize, from: usize, size: usize)
+    requires { AllDue names.old first end from size }
+    ensures { AllSet line.now names.old names.new first end from size }
 {
     let mut k = first;
     while k < end {
         let at = names[k] as usize;
         if at < line.len() {
-            let d = digest(line, at, start);
+            let d = digest(line, at);
             mark(names, from, size, d);
             k += 1;
         } else {
@@ -101,23 +91,22 @@ pub fn mark_all(
     }
 }
 
-// where the digests of an object's names start: what its number says
-pub fn start_of(names: &[u64], first: usize) -> u64
-    requires { NumberDue names.now first }
-    ensures { StartTold names.now first result }
+// how many cells have marks, if they are those of the object whose first cell this is; else 0
+pub fn size_of(line: &[u8], names: &[u64], first: usize) -> usize
+    requires { 8 ≤ length names.now }
+    ensures { SizeTold line.now names.now first result }
 {
     let cells = names.len();
-    names[cells - 2 - first / 256] % 1099511627776
-}
-
-// has the object whose first cell this is a number?
-pub fn has_number(line: &[u8], names: &[u64], first: usize) -> bool
-    requires { NumberDue names.now first }
-    ensures { HasTold line.now names.now first result }
-{
-    let cells = names.len();
-    if names[cells - 1] as usize <= line.len() {
-        return false;
+    let owner = names[cells - 1] as usize;
+    let size = names[cells - 2] as usize;
+    if owner <= line.len() {
+        return 0;
     }
-    0 < names[cells - 2 - first / 256]
+    if owner - line.len() - 1 != first {
+        return 0;
+    }
+    if cells / 4 - 2 < size {
+        return 0;
+    }
+    size
 }

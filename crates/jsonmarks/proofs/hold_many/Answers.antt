@@ -1,6 +1,15 @@
 use Rattle.std.proofs.Common.{rules}
-use Rattle.jsonmarks.proofs.Keeps.{keep-place, keep-number}
+use Rattle.jsonmarks.proofs.Keeps.{keep-place, held-there, held_note, held_new}
 use Rattle.jsonmarks.proofs.hold_many.Goals as goal
 
-pub digest_of-d-requires : goal.digest_of-d-requires
-digest_of-d-requires c = search (keep-number, keep-place, rules)
+pub digest-d-requires : goal.digest-d-requires
+digest-d-requires c = search (keep-place, rules)
+
+pub note-requires : goal.note-requires
+note-requires c = search (held_note, rules)
+
+pub returns-in-There : goal.returns-in-There
+returns-in-There c = search (held-there, rules)
+
+pub returns-in-New : goal.returns-in-New
+returns-in-New c = search (held_new, rules)

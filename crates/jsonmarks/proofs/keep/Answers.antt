@@ -1,9 +1,9 @@
 use Rattle.std.proofs.Common.{rules}
-use Rattle.jsonmarks.proofs.Keeps.{keep-order, keep-part, keep-sorted, keep-room, keep-absent, keep-put, keep-kept}
+use Rattle.jsonmarks.proofs.Keeps.{keep-order, keep-part, keep-sorted, keep-room, keep-absent, keep-put, keep-kept, digest_below}
 use Rattle.jsonmarks.proofs.keep.Goals as goal
 
 pub absent-requires : goal.absent-requires
-absent-requires c = search (keep-absent, rules)
+absent-requires c = search (keep-absent, digest_below, rules)
 
 pub overflow_sub-edge : goal.overflow_sub-edge
 overflow_sub-edge c = search (keep-order, rules)

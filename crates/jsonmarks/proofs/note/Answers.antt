@@ -1,21 +1,24 @@
 use Rattle.std.proofs.Common.{rules}
-use Rattle.jsonmarks.proofs.Keeps.{note_number, note_take, noted-taken, noted-none, note_mark, noted-marked}
+use Rattle.jsonmarks.proofs.Keeps.{note-count, note-cells, note_take, noted-taken, noted-none, note_mark, noted-marked}
 use Rattle.jsonmarks.proofs.note.Goals as goal
 
-pub begin-requires : goal.begin-requires
-begin-requires c = search (note_take, rules)
+pub is_due-requires : goal.is_due-requires
+is_due-requires c = search (note-count, rules)
 
-pub returns-then-end-first-eq255 : goal.returns-then-end-first-eq255
-returns-then-end-first-eq255 c = search (noted-taken, rules)
+pub take_over-requires : goal.take_over-requires
+take_over-requires c = search (note_take, rules)
 
-pub has_number-requires : goal.has_number-requires
-has_number-requires c = search (note_number, rules)
+pub returns-then-is_due : goal.returns-then-is_due
+returns-then-is_due c = search (noted-taken, rules)
+
+pub size_of-size-requires : goal.size_of-size-requires
+size_of-size-requires c = search (note-cells, rules)
 
 pub mark-requires : goal.mark-requires
 mark-requires c = search (note_mark, rules)
 
-pub returns-then-has_number : goal.returns-then-has_number
-returns-then-has_number c = search (noted-marked, rules)
+pub returns-then-size-gt0 : goal.returns-then-size-gt0
+returns-then-size-gt0 c = search (noted-marked, rules)
 
-pub returns-else-has_number : goal.returns-else-has_number
-returns-else-has_number c = search (noted-none, rules)
+pub returns-else-size-gt0 : goal.returns-else-size-gt0
+returns-else-size-gt0 c = search (noted-none, rules)

@@ -1,0 +1,9 @@
+use Rattle.std.proofs.Common.{rules}
+use Rattle.jsontotal.proofs.Valued.{time-read, time-good}
+use Rattle.jsontotal.proofs.fields.count_time.Goals as goal
+
+pub returns-in-Bad : goal.returns-in-Bad
+returns-in-Bad c = search (time-good, rules)
+
+pub returns-in-At : goal.returns-in-At
+returns-in-At c = search (time-read, rules)

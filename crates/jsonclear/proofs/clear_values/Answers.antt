@@ -1,17 +1,14 @@
 use Rattle.std.proofs.Common.{rules}
 use Rattle.jsonclear.specs.Laws.Values.{checked-mosts, marking_none, marking_runs, marking_kept, marking_more, marking_all}
 use Rattle.valuecheck.specs.Laws.{marked-none}
-use Rattle.stringcheck.specs.Tables.{replicate-same}
 use Rattle.laws.specs.Checked.{checked-bodies}
-use Rattle.valuecheck.specs.Laws.{marked-none}
-use Rattle.stringcheck.specs.Tables.{replicate-same}
 use Rattle.jsonclear.proofs.clear_values.Goals as goal
 
 pub value_count-n-requires : goal.value_count-n-requires
 value_count-n-requires c = search (checked-bodies, rules)
 
 pub loop-v-init : goal.loop-v-init
-loop-v-init c = search (marking_none, marked-none, replicate-same, rules)
+loop-v-init c = search (marking_none, marked-none, rules)
 
 pub parts_marked-parts-requires-clause-s_value : goal.parts_marked-parts-requires-clause-s_value
 parts_marked-parts-requires-clause-s_value c = search (checked-bodies, rules)

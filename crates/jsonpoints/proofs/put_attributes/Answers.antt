@@ -1,8 +1,6 @@
 use Rattle.std.proofs.Common.{rules}
 use Rattle.jsonpoints.specs.Laws.{attributes-first, attributes-second, attributes-put}
 use Rattle.laws.specs.Checked.{checked-bodies}
-use Rattle.jsonpoints.specs.Laws.{attributes-first, attributes-second, attributes-put}
-use Rattle.jsonpoints.specs.Laws.{attributes-first, attributes-second, attributes-put}
 use Rattle.jsonpoints.proofs.put_attributes.Goals as goal
 
 pub list_at-requires : goal.list_at-requires

@@ -1,7 +1,5 @@
 use Rattle.std.proofs.Common.{rules}
 use Rattle.jsonpoints.specs.Laws.{putting_none, entities-room, entities-more, putting_all}
-use Rattle.jsonpoints.specs.Laws.{putting_none, entities-room, entities-more, putting_all}
-use Rattle.jsonpoints.specs.Laws.{putting_none, putting_all}
 use Rattle.jsonpoints.proofs.put_entities.Goals as goal
 
 pub loop-i-init : goal.loop-i-init

@@ -1,7 +1,5 @@
 use Rattle.std.proofs.Common.{rules}
 use Rattle.jsonpoints.specs.Laws.{entity-first, entity-second, entity-put}
-use Rattle.jsonpoints.specs.Laws.{entity-first, entity-second, entity-put}
-use Rattle.jsonpoints.specs.Laws.{entity-first, entity-second, entity-put}
 use Rattle.jsonpoints.proofs.put_entity.Goals as goal
 
 pub put_identity-next-requires-clause-m_in_bounds : goal.put_identity-next-requires-clause-m_in_bounds

@@ -1,8 +1,6 @@
 use Rattle.std.proofs.Common.{rules}
 use Rattle.jsonpoints.specs.Laws.{first-room, second-room, second-put, id_same}
 use Rattle.laws.specs.Checked.{checked-bodies}
-use Rattle.jsonpoints.specs.Laws.{first-room, second-room, second-put, id_same}
-use Rattle.jsonpoints.specs.Laws.{first-room, second-room, second-put, id_same}
 use Rattle.jsonpoints.proofs.put_identity.Goals as goal
 
 pub put_type-next-requires-clause-m_in_bounds : goal.put_type-next-requires-clause-m_in_bounds

@@ -1,8 +1,6 @@
 use Rattle.std.proofs.Common.{rules}
 use Rattle.jsonpoints.specs.Laws.{maybe-none, maybe-room, maybe-put}
 use Rattle.laws.specs.Checked.{checked-bodies}
-use Rattle.jsonpoints.specs.Laws.{maybe-none, maybe-room, maybe-put}
-use Rattle.jsonpoints.specs.Laws.{maybe-none, maybe-room, maybe-put}
 use Rattle.jsonpoints.proofs.put_maybe_field.Goals as goal
 
 pub point_word-requires : goal.point_word-requires

@@ -1,7 +1,5 @@
 use Rattle.std.proofs.Common.{rules}
 use Rattle.jsonpoints.specs.Laws.{records-first, records-second, records-put}
-use Rattle.jsonpoints.specs.Laws.{records-first, records-second, records-put}
-use Rattle.jsonpoints.specs.Laws.{records-first, records-second, records-put}
 use Rattle.jsonpoints.proofs.put_records.Goals as goal
 
 pub put_value_field-next-requires-clause-j_in_bounds : goal.put_value_field-next-requires-clause-j_in_bounds

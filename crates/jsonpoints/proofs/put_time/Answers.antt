@@ -1,8 +1,6 @@
 use Rattle.std.proofs.Common.{rules}
 use Rattle.jsonpoints.specs.Laws.{time-first, time-second, time-put}
 use Rattle.laws.specs.Checked.{checked-bodies}
-use Rattle.jsonpoints.specs.Laws.{time-first, time-second, time-put}
-use Rattle.jsonpoints.specs.Laws.{time-first, time-second, time-put}
 use Rattle.jsonpoints.proofs.put_time.Goals as goal
 
 pub put_piece-next-requires : goal.put_piece-next-requires

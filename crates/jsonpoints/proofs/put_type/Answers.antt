@@ -1,8 +1,6 @@
 use Rattle.std.proofs.Common.{rules}
 use Rattle.jsonpoints.specs.Laws.{first-room, second-room, second-put, type-same}
 use Rattle.laws.specs.Checked.{checked-bodies}
-use Rattle.jsonpoints.specs.Laws.{first-room, second-room, second-put, type-same}
-use Rattle.jsonpoints.specs.Laws.{first-room, second-room, second-put, type-same}
 use Rattle.jsonpoints.proofs.put_type.Goals as goal
 
 pub put_comma-next-requires : goal.put_comma-next-requires

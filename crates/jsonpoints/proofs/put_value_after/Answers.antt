@@ -1,7 +1,5 @@
 use Rattle.std.proofs.Common.{rules}
 use Rattle.jsonpoints.specs.Laws.{first-room, second-room, second-put}
-use Rattle.jsonpoints.specs.Laws.{first-room, second-room, second-put}
-use Rattle.jsonpoints.specs.Laws.{first-room, second-room, second-put}
 use Rattle.jsonpoints.proofs.put_value_after.Goals as goal
 
 pub put_piece-next-requires : goal.put_piece-next-requires

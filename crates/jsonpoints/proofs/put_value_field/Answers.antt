@@ -1,8 +1,6 @@
 use Rattle.std.proofs.Common.{rules}
 use Rattle.jsonpoints.specs.Laws.{other-room, other-put, value_same}
 use Rattle.laws.specs.Checked.{checked-bodies}
-use Rattle.jsonpoints.specs.Laws.{other-room, other-put, value_same}
-use Rattle.jsonpoints.specs.Laws.{other-room, other-put, value_same}
 use Rattle.jsonpoints.proofs.put_value_field.Goals as goal
 
 pub point_word-requires : goal.point_word-requires

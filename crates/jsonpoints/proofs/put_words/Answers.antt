@@ -1,7 +1,5 @@
 use Rattle.std.proofs.Common.{rules}
 use Rattle.jsonpoints.specs.Laws.{putting_none, words-room, words_more, putting_all}
-use Rattle.jsonpoints.specs.Laws.{putting_none, words-room, words_more, putting_all}
-use Rattle.jsonpoints.specs.Laws.{putting_none, putting_all}
 use Rattle.jsonpoints.proofs.put_words.Goals as goal
 
 pub loop-i-init : goal.loop-i-init

@@ -1,10 +1,6 @@
 use Rattle.jsonpoints.specs.Laws.{Putting}
 use Rattle.jsonpoints.specs.Lines.{word_text}
 use Prim.Native.Nat.{◌-◌}
-use Rattle.jsonpoints.specs.Laws.{Putting}
-use Rattle.jsonpoints.specs.Lines.{word_text}
-use Rattle.jsonpoints.specs.Laws.{Putting}
-use Rattle.jsonpoints.specs.Lines.{word_text}
 use Rattle.jsonpoints.proofs.put_words.Given as goal
 
 abbrev pub invariant-loop-i : goal.invariant-loop-i

@@ -1,10 +1,9 @@
-use Rattle.std.proofs.Common.{rules}
-use Rattle.jsonput.specs.Laws.Values.{leaf_room, leaf-put, open_room, holding-none, lead_room, held-checked, held-falls, held-room, item-put, item_room, holding-more, close-room, value-put}
-use Rattle.std.proofs.Common.{◌≡◌, List, ℕ, ◌+◌, ◌*◌, ◌<◌, arith}
+use Rattle.jsonput.specs.Laws.Values.{Holding, leaf_room, leaf-put, open_room, holding-none, lead_room, held-checked, held-falls, held-room, item-put, item_room, holding-more, close-room, value-put}
+use Rattle.std.proofs.Common.{◌≡◌, List, ℕ, ◌+◌, ◌*◌, ◌<◌, arith, rules}
 use Rattle.meaning.specs.Case.{member_word}
-use Rattle.jsonput.specs.Laws.Values.{Holding}
 use Rattle.jsonput.proofs.+put_item_put_value.Goals as goal
 
+-- t is twice the number of the value whose items are put
 below : {s d w : List ℕ} {t z k a b from i next : ℕ} (m : ℕ) → Holding s t k a b d w from i next → i < b → m ≡ member_word s (a + i) 1 → t ≡ z → 2 * m + 1 < z
 below m g l e q = omega (arith, held-falls m g l e)
 

@@ -1,0 +1,9 @@
+use Rattle.std.proofs.Common.{rules}
+use Rattle.jsonfields.proofs.Valued.{levels-few, levels-more}
+use Rattle.jsonfields.proofs.ends.levels_of.Goals as goal
+
+pub returns-then-field-lt8 : goal.returns-then-field-lt8
+returns-then-field-lt8 c = search (levels-few, rules)
+
+pub returns : goal.returns
+returns c = search (levels-more, rules)

@@ -1,0 +1,9 @@
+use Rattle.std.proofs.Common.{rules}
+use Rattle.jsonfields.proofs.Members.{place-new, place-old}
+use Rattle.jsonfields.proofs.places.first_place.Goals as goal
+
+pub returns-then-old-eq0 : goal.returns-then-old-eq0
+returns-then-old-eq0 c = search (place-new, rules)
+
+pub returns : goal.returns
+returns c = search (place-old, rules)

@@ -26,7 +26,7 @@ fn read_all<R: Read>(file: &mut R, buf: &mut [u8]) -> Input
 fn room() -> [u8; 65537]
     ensures { 65537 ≡ length result }
 {
-    [0; 65537]
+    intake::zeros()
 }
 
 // prints the table of the case that a file holds, or says that it cannot be read

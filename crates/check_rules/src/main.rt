@@ -76,7 +76,7 @@ fn check_all(rt: &impl Print, list: &[u8]) -> io::Result<()> {
 fn room() -> [u8; 589824]
     ensures { 589824 ≡ length result }
 {
-    [0; 589824]
+    intake::zeros()
 }
 
 fn main(rt: HostRuntime) -> io::Result<()> {

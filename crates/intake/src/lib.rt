@@ -2,12 +2,19 @@
 
 #![tactic(auto)]
 
-ghost use Rattle.std.specs.Prelude.{◌≤◌, length, IfOk, IfSome};
+ghost use Rattle.std.specs.Prelude.{◌≡◌, ◌≤◌, length, IfOk, IfSome};
 
 use std::fs::File;
 use std::io;
 use std::io::Read;
 use std::rt::Files;
+
+// a buffer; the promise of its length is for lending it
+pub fn zeros<const N: usize>() -> [u8; N]
+    ensures { N ≡ length result }
+{
+    [0; N]
+}
 
 // reads until the buffer is full or the input ends: how many bytes it put at the buffer's start
 pub fn read_full<R: Read>(input: &mut R, buf: &mut [u8]) -> io::Result<usize>

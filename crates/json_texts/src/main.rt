@@ -108,7 +108,7 @@ fn read_all(rt: &impl Print, list: &[u8], names: &mut [u64]) -> io::Result<()> {
 fn room() -> [u8; 262144]
     ensures { 262144 ≡ length result }
 {
-    [0; 262144]
+    intake::zeros()
 }
 
 fn cells() -> [u64; 4096]

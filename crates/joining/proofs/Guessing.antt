@@ -1,25 +1,23 @@
 -- A guessed order: its places, one string more behind those in order, and that nothing is missing
 use Rattle.std.proofs.Common.{◌≡◌, ℕ, zero, suc, ◌+◌, ◌-◌, ◌<◌, ◌≤◌, Bool, true, false, not, eqb, ltb, List, [], ◌∷◌, length, get_or, set, replicate, sym, refl, ap, ◌∙◌, subst, add-one, arith, length-set, get_or-set_other, get_or-set_same, ltb-false, ltb-true, eqb-true}
 use lib.ListN.{length-replicate}
-use borrow.Author.Tests.{eqb-false, not-false}
+use borrow.Author.Tests.{eqb-false, not-true, not-false}
 use Rattle.meaning.specs.Tests.{choose}
 use Rattle.meaning.specs.Text.{before}
 use Rattle.meaning.specs.Case.{text, strings}
 use Rattle.encode.specs.Join.{insert_new, joined}
 use Rattle.encode.specs.Unsorted.{texts}
-use Rattle.encode.proofs.Laws.Join.{Rising, every-at, before-not, insert_rises, joined-rises, place-above, place_inside}
+use Rattle.encode.proofs.Laws.Join.{Rising, every-at, before-neither, before-not, insert_rises, place-above, place_inside}
 use Rattle.stringcheck.specs.Tables.{replicate-same}
-use Rattle.joining.specs.Order.{Cut, Place, listed, InOrder, Joins, Put}
+use Rattle.joining.specs.Order.{Cut, listed, InOrder, Joins, Put}
 use Rattle.joining.specs.Fresh.{insert_all}
 use Rattle.joining.specs.Run.{Begun}
 use Rattle.joining.specs.Laws.{listed-long, listed_at, listed_more}
 use Rattle.joining.specs.Insert.{before-after, commute, again, all-below, all_more}
-use Rattle.joining.specs.Guess.{Beyond, Compared, Compares, Same, picked, Front, Copied, IsKept, PutNext, PutsNext, KeptOne, KeepsOne, Sifts, Few, GoesBehind, Behind, Grown, Grows, Rises, Seen, Takes}
+use Rattle.joining.specs.Guess.{Beyond, picked, Same, IsKept, PutNext, PutsNext, KeptOne, KeepsOne, Sifts, Few, Follows, Repeats, Grows, Seen, Takes}
 use Rattle.joining.specs.declared.Joined.TheVariants.{Made}
 use Rattle.joining.specs.declared.Next.{Next}
 use Rattle.joining.specs.declared.Next.TheVariants as nexts
-use Rattle.joining.specs.declared.Told.{Told}
-use Rattle.joining.specs.declared.Told.TheVariants as tells
 use Rattle.joining.specs.declared.Taken.{Taken}
 use Rattle.joining.specs.declared.Taken.TheVariants as takes
 use Rattle.joining.proofs.Rules.{put, stands-not}
@@ -33,13 +31,24 @@ beyond a b c = record { some = a; inside = omega arith }
 
 -- ---- one string behind those in order
 
-pub behind-none : {s order x : List ℕ} {n : ℕ} → InOrder s order n → n ≡ 0 → Behind x (listed s order n) n tells.Before
-behind-none {s} {order} {x} {n} o z = record {
-  is = record { is = omega (arith, place_inside x (listed s order n), listed-long s order n o.fits); inside = omega arith };
+pub follows-none : {s order x : List ℕ} {n : ℕ} → InOrder s order n → n ≡ 0 → Follows x (listed s order n) n true
+follows-none {s} {order} {x} {n} o z = record {
+  is = λ e. record { is = omega (arith, place_inside x (listed s order n), listed-long s order n o.fits); inside = omega arith };
 }
 
 last-at : {s order t : List ℕ} {n : ℕ} → InOrder s order n → (n ≡ 0 → ⊥) → Cut s (get_or order (n - 1) 0) t → get_or (listed s order n) (n - 1) [] ≡ t
 last-at {s} {order} {t} {n} o z is = listed_at s order n (n - 1) o.fits (omega (arith, z)) ∙ sym is.is
+
+pub follows-last : {s order x t : List ℕ} {n : ℕ} {r : Bool} → InOrder s order n → (n ≡ 0 → ⊥) → Cut s (get_or order (n - 1) 0) t → r ≡ before t x → Follows x (listed s order n) n r
+follows-last {s} {order} {x} {t} {n} {r} o z is said = record {
+  is = λ e.
+      let many : length (listed s order n) ≡ n = listed-long s order n o.fits in
+      let h : before (get_or (listed s order n) (n - 1) []) x ≡ true = ap (λ (y : List ℕ). before y x) (last-at o z is) ∙ sym said ∙ e in
+      record {
+        is = omega (arith, z, place-above x (listed s order n) (n - 1) o.rises (omega (arith, z, many)) h, place_inside x (listed s order n), many);
+        inside = omega arith;
+      };
+}
 
 -- what stands among rising texts is there
 there-at : (l : List (List ℕ)) (i : ℕ) → Rising l → i < length l → insert_new (get_or l i []) l ≡ l
@@ -48,24 +57,16 @@ there-at [] i r h = absurd (omega arith)
 there-at (y ∷ ys) zero r h = rw (before-not y) refl
 there-at (y ∷ ys) (suc i) r h = rw (every-at (λ z. before y z ≡ true) ys i [] r.0 (omega arith)) (ap (λ (l : List (List ℕ)). y ∷ l) (there-at ys i r.1 (omega arith)))
 
-pub behind-last : {s order x t : List ℕ} {n : ℕ} {r : Told} → InOrder s order n → (n ≡ 0 → ⊥) → Cut s (get_or order (n - 1) 0) t → Compares t x r → Behind x (listed s order n) n r
-behind-last {s} {order} {x} {t} {n} {r} o z is c = record { is = go r c.is }
-  where
-    l : List (List ℕ)
-    l = listed s order n
+pub repeats-not : {x : List ℕ} {l : List (List ℕ)} → Repeats x l false
+repeats-not = record { is = λ e. never e }
 
-    many : length l ≡ n
-    many = listed-long s order n o.fits
-
-    go : (r : Told) → Compared t x r → GoesBehind x l n r
-    go tells.Before e =
-        let h : before (get_or l (n - 1) []) x ≡ true = ap (λ (y : List ℕ). before y x) (last-at o z is) ∙ e in
-        record {
-          is = omega (arith, z, place-above x l (n - 1) o.rises (omega (arith, z, many)) h, place_inside x l, many);
-          inside = omega arith;
-        }
-    go tells.Same e = ap (λ (y : List ℕ). insert_new y l) (sym e ∙ sym (last-at o z is)) ∙ there-at l (n - 1) o.rises (omega (arith, z, many))
-    go tells.After e = tt
+pub repeats-as : {s order x t : List ℕ} {n : ℕ} {a b : Bool} → InOrder s order n → (n ≡ 0 → ⊥) → Cut s (get_or order (n - 1) 0) t → a ≡ before x t → a ≡ false → b ≡ before t x → Repeats x (listed s order n) (not b)
+repeats-as {s} {order} {x} {t} {n} {a} {b} o z is said away told = record {
+  is = λ e.
+      let same : x ≡ t = before-neither x t (sym said ∙ away) (sym told ∙ not-true b e) in
+      let there : insert_new (get_or (listed s order n) (n - 1) []) (listed s order n) ≡ listed s order n = there-at (listed s order n) (n - 1) o.rises (omega (arith, z, listed-long s order n o.fits)) in
+      ap (λ (y : List ℕ). insert_new y (listed s order n)) (same ∙ sym (last-at o z is)) ∙ there;
+}
 
 put_last : {old : List ℕ} (n k : ℕ) → n < length old → Put n n k old (set old n k)
 put_last {old} n k h = record {
@@ -75,23 +76,21 @@ put_last {old} n k h = record {
   upper = λ i l m. absurd (omega arith);
 }
 
-pub grows-put : {s old new x : List ℕ} {n k : ℕ} {told : Told} {r : Next} → InOrder s old n → Cut s k x → Behind x (listed s old n) n told → told ≡ tells.Before → PutsNext old n k new r → Grows s old n k new r
-grows-put {s} {old} {new} {x} {n} {k} {told} {r} o is b e p = record { is = go r p.is }
-  where
-    at : Place x (listed s old n) n n
-    at = (rw e at b).is
-
-    same : n < length old → listed s (set old n k) (n + 1) ≡ insert_new (text s k) (listed s old n)
-    same room = listed_more s old (set old n k) n n k (put_last n k room) room (omega arith) ∙ sym (put o is at (stands-not (omega arith)) refl)
-
-    go : (r : Next) → PutNext old n k new r → Grown s old n k new r
-    go (nexts.Upto m) q = rw (q.1.1, q.0) (omega arith, (record { fits = omega (arith, length-set old n k, q.1.0); rises = subst Rising (sym (same q.1.0)) (insert_rises (text s k) (listed s old n) o.rises) }, same q.1.0))
-    go nexts.Not q = q
-
-pub grows_same : {s old x : List ℕ} {n k : ℕ} {told : Told} → InOrder s old n → Cut s k x → Behind x (listed s old n) n told → told ≡ tells.Same → Grows s old n k old (nexts.Upto n)
-grows_same {s} {old} {x} {n} {k} {told} o is b e = record {
-  is = (omega arith, (o, sym (ap (λ (y : List ℕ). insert_new y (listed s old n)) (sym is.is) ∙ (rw e at b).is)));
+pub grows-more : {s old x : List ℕ} {n k : ℕ} {r : Bool} → InOrder s old n → n < length old → Cut s k x → Follows x (listed s old n) n r → r ≡ true → Grows s old n k (set old n k) (nexts.Upto (n + 1))
+grows-more {s} {old} {x} {n} {k} {r} o room is f e = record {
+  is = (omega arith, (record { fits = omega (arith, length-set old n k); rises = subst Rising (sym same) (insert_rises (text s k) (listed s old n) o.rises) }, same));
 }
+  where
+    same : listed s (set old n k) (n + 1) ≡ insert_new (text s k) (listed s old n)
+    same = listed_more s old (set old n k) n n k (put_last n k room) room (omega arith) ∙ sym (put o is (f.is e) (stands-not (omega arith)) refl)
+
+pub grows_same : {s old x : List ℕ} {n k : ℕ} {r : Bool} → InOrder s old n → Cut s k x → Repeats x (listed s old n) r → r ≡ true → Grows s old n k old (nexts.Upto n)
+grows_same {s} {old} {x} {n} {k} {r} o is f e = record {
+  is = (omega arith, (o, sym (ap (λ (y : List ℕ). insert_new y (listed s old n)) (sym is.is) ∙ f.is e)));
+}
+
+pub grows-not : {s old order : List ℕ} {n k : ℕ} → Grows s old n k order nexts.Not
+grows-not = record { is = tt }
 
 -- ---- which strings were seen
 
@@ -147,6 +146,12 @@ with_all f l n (suc k) r h le =
 
 -- ---- those kept
 
+pub same_not : {x y : List ℕ} → Same x y false
+same_not = record { is = λ e. never e }
+
+pub same-as : {x y : List ℕ} {a b : Bool} → a ≡ before x y → a ≡ false → b ≡ before y x → Same x y (not b)
+same-as {x} {y} {a} {b} said away told = record { is = λ e. before-neither x y (sym said ∙ away) (sym told ∙ not-true b e) }
+
 pub kept-not : {s kept : List ℕ} {m k : ℕ} → IsKept s kept m k false
 kept-not = record { is = λ e. never e }
 
@@ -168,7 +173,16 @@ unfolding joined
 joined-next f n = ap (joined f) (add-one n)
 
 pub keeps-old : {s kept : List ℕ} {m k : ℕ} {r : Bool} → m ≤ length kept → IsKept s kept m k r → r ≡ true → KeepsOne s kept m k kept (nexts.Upto m)
-keeps-old h is e = record { is = (omega arith, (h, sym (is.is e))); front = record { is = λ i l. refl } }
+keeps-old h is e = record { is = (h, sym (is.is e)) }
+
+pub keeps-last : {s kept x y : List ℕ} {m i k : ℕ} {a b : Bool} → m ≤ length kept → (m ≡ 0 → ⊥) → i ≡ get_or kept (m - 1) 0 → Cut s i y → Cut s k x → a ≡ before y x → a ≡ false → b ≡ before x y → b ≡ false → KeepsOne s kept m k kept (nexts.Upto m)
+keeps-last {s} {kept} {x} {y} {m} {i} {k} {a} {b} fits some at one other said away told off = record { is = (fits, sym (ap (λ (t : List ℕ). insert_new t (joined (picked s kept) m)) same ∙ joined-there (picked s kept) (m - 1) m (omega (arith, some)))) }
+  where
+    same : text s k ≡ text s (get_or kept (m - 1) 0)
+    same = sym other.is ∙ before-neither x y (sym told ∙ off) (sym said ∙ away) ∙ one.is ∙ ap (text s) at
+
+pub keeps-not : {s kept : List ℕ} {m k : ℕ} → KeepsOne s kept m k kept nexts.Not
+keeps-not = record { is = refl }
 
 pub puts_not : {kept : List ℕ} {m k : ℕ} → PutsNext kept m k kept nexts.Not
 puts_not = record { is = refl }
@@ -183,177 +197,49 @@ next-joined s kept m k h =
     ∙ ap (λ (i : ℕ). insert_new (text s i) (joined (picked s (set kept m k)) m)) (get_or-set_same kept m k 0 h)
     ∙ ap (insert_new (text s k)) (joined_same (picked s (set kept m k)) (picked s kept) m (λ i l. ap (text s) (get_or-set_other kept m i k 0 (λ d. absurd (omega arith)))))
 
+kept_new : (s old kept : List ℕ) (m k : ℕ) (r : Next) → PutNext old m k kept r → KeptOne s old m k kept r
+kept_new s old kept m k (nexts.Upto n) p = rw (p.1.1, p.0) (omega (arith, length-set old m k, p.1.0), next-joined s old m k p.1.0)
+kept_new s old kept m k nexts.Not p = p
+
 pub keeps-new : {s old kept : List ℕ} {m k : ℕ} {r : Next} → PutsNext old m k kept r → KeepsOne s old m k kept r
-keeps-new {s} {old} {kept} {m} {k} {r} p = record { is = go r p.is; front = record { is = λ i l. stays r p.is i l } }
-  where
-    go : (r : Next) → PutNext old m k kept r → KeptOne s old m k kept r
-    go (nexts.Upto n) q = rw (q.1.1, q.0) (omega arith, (omega (arith, length-set old m k, q.1.0), next-joined s old m k q.1.0))
-    go nexts.Not q = q
+keeps-new {s} {old} {kept} {m} {k} {r} p = record { is = kept_new s old kept m k r p.is }
 
-    stays : (r : Next) → PutNext old m k kept r → (i : ℕ) → i < m → get_or kept i 0 ≡ get_or old i 0
-    stays (nexts.Upto n) q i l = rw q.1.1 (get_or-set_other old m i k 0 (λ d. absurd (omega arith)))
-    stays nexts.Not q i l = rw q refl
-
--- the texts of the first k, on the way: the first `low` of those kept stay
-pub record Sifting (s first kept : List ℕ) (all low m k : ℕ) : Type 0 where
+-- the texts of the first k, on the way
+pub record Sifting (s first kept : List ℕ) (all m k : ℕ) : Type 0 where
   pub sifts : Sifts s kept all m k
   pub long : length kept ≡ length first
-  pub front : Front low first kept
-  pub more : low ≤ m
 
-pub sifting_from : {s kept : List ℕ} {all m k : ℕ} → Sifts s kept all m k → Sifting s kept kept all m m k
-sifting_from a = record { sifts = a; long = refl; front = record { is = λ i l. refl }; more = omega arith }
+pub sifting-none : {s kept : List ℕ} {all : ℕ} → Sifting s kept kept all 0 0
+unfolding joined
+sifting-none = record { sifts = record { is = refl; fits = omega arith; upto = omega arith }; long = refl }
 
-module _ {s first old : List ℕ} {all low m k : ℕ} (g : Sifting s first old all low m k) where
+pub sifting_from : {s kept : List ℕ} {all m k : ℕ} → Sifts s kept all m k → Sifting s kept kept all m k
+sifting_from a = record { sifts = a; long = refl }
+
+module _ {s first old : List ℕ} {all m k : ℕ} (g : Sifting s first old all m k) where
   pub sifting_fits : m ≤ length old
   sifting_fits = g.sifts.fits
 
-  pub sifting_front : {kept : List ℕ} {r : Next} → KeepsOne s old m k kept r → Front low first kept
-  sifting_front one = record { is = λ i l. one.front.is i (omega (arith, g.more)) ∙ g.front.is i l }
-
-  pub sifting_more : {kept : List ℕ} {n : ℕ} {r : Next} → k < all → KeepsOne s old m k kept r → r ≡ nexts.Upto n → length kept ≡ length old → Sifting s first kept all low n (k + 1)
+  pub sifting_more : {kept : List ℕ} {n : ℕ} {r : Next} → k < all → KeepsOne s old m k kept r → r ≡ nexts.Upto n → length kept ≡ length old → Sifting s first kept all n (k + 1)
   sifting_more {kept} {n} {r} h one e l = record {
     sifts = record {
-      is = kept-is.1.1 ∙ ap (insert_new (text s k)) g.sifts.is ∙ sym (joined-next (text s) k);
-      fits = kept-is.1.0;
+      is = kept-is.1 ∙ ap (insert_new (text s k)) g.sifts.is ∙ sym (joined-next (text s) k);
+      fits = kept-is.0;
       upto = omega arith;
     };
     long = l ∙ g.long;
-    front = sifting_front one;
-    more = omega (arith, kept-is.0, g.more);
   }
     where
-      kept-is : (m ≤ n) × ((n ≤ length kept) × (joined (picked s kept) n ≡ insert_new (text s k) (joined (picked s old) m)))
+      kept-is : (n ≤ length kept) × (joined (picked s kept) n ≡ insert_new (text s k) (joined (picked s old) m))
       kept-is = (rw e at one).is
 
   pub sifting_not : {kept : List ℕ} {r : Next} → KeepsOne s old m k kept r → r ≡ nexts.Not → Sifts s kept all m k
   sifting_not {kept} {r} one e = subst (λ (t : List ℕ). Sifts s t all m k) (sym (rw e at one).is) g.sifts
 
-  pub sifting_sifts : Sifts s old all m k
-  sifting_sifts = g.sifts
-
-  pub sifting_stays : Front low first old
-  sifting_stays = g.front
-
--- ---- those in order, kept
-
--- the first i of n
-pub record Fronting (n i : ℕ) (order first kept : List ℕ) : Type 0 where
-  pub low : i ≤ n
-  pub front : Front i order kept
-  pub long : length kept ≡ length first
-
-pub fronting_none : {n : ℕ} {order kept : List ℕ} → Fronting n 0 order kept kept
-fronting_none = record { low = omega arith; front = record { is = λ k l. absurd (omega arith) }; long = refl }
-
-pub fronting_more : {n i : ℕ} {order first kept : List ℕ} → Fronting n i order first kept → i < n → n ≤ length first → Fronting n (i + 1) order first (set kept i (get_or order i 0))
-fronting_more {n} {i} {order} {first} {kept} g h room = record {
-  low = omega arith;
-  front = record { is = λ k l. go k l (ltb k i) refl };
-  long = length-set kept i (get_or order i 0) ∙ g.long;
-}
-  where
-    go : (k : ℕ) → k < i + 1 → (b : Bool) → ltb k i ≡ b → get_or (set kept i (get_or order i 0)) k 0 ≡ get_or order k 0
-    go k l true q = get_or-set_other kept i k (get_or order i 0) 0 (λ d. absurd (omega (arith, ltb-true k i q))) ∙ g.front.is k (ltb-true k i q)
-    go k l false q = let z : k ≡ i = omega (arith, ltb-false k i q) in rw z (get_or-set_same kept i (get_or order i 0) 0 (omega (arith, g.long)))
-
-pub fronting_all : {n i : ℕ} {order first kept : List ℕ} → Fronting n i order first kept → n ≤ i → n ≤ length first → Copied n order kept
-fronting_all g h room = record { front = record { is = λ k l. g.front.is k (omega arith) }; fits = omega (arith, g.long) }
-
--- where each text of l stands in t, l changes nothing there
-all_there : (l t : List (List ℕ)) → ((i : ℕ) → i < length l → insert_new (get_or l i []) t ≡ t) → insert_all l t ≡ t
-unfolding insert_all
-all_there [] t h = refl
-all_there (x ∷ xs) t h = ap (insert_new x) (all_there xs t (λ i l. h (suc i) (omega arith))) ∙ h 0 (omega arith)
-
--- what rises is what it makes, joined
-rising-joined : {s order : List ℕ} {n : ℕ} → InOrder s order n → joined (picked s order) n ≡ listed s order n
-rising-joined {s} {order} {n} o =
-    sym (all_there l t (λ i h. ap (λ (y : List ℕ). insert_new y t) (at i (omega (arith, many))) ∙ joined-there (picked s order) i n (omega (arith, many))))
-    ∙ with_all (picked s order) l n n o.rises (λ i h. ap (λ (y : List ℕ). insert_new y l) (sym (at i h)) ∙ there-at l i o.rises (omega (arith, many))) (omega arith)
-  where
-    l : List (List ℕ)
-    l = listed s order n
-
-    t : List (List ℕ)
-    t = joined (picked s order) n
-
-    many : length l ≡ n
-    many = listed-long s order n o.fits
-
-    at : (i : ℕ) → i < n → get_or l i [] ≡ picked s order i
-    at i h = listed_at s order n i o.fits h
-
-module _ {s order : List ℕ} {all n k : ℕ} (r : Rises s order all n k) where
-  rises_sorted : InOrder s order n
-  rises_sorted = record { fits = r.is.fits; rises = subst Rising (sym r.is.is) (joined-rises (text s) k) }
-
-  front-joined : {kept : List ℕ} → Front n order kept → joined (picked s kept) n ≡ listed s order n
-  front-joined {kept} f = joined_same (picked s kept) (picked s order) n (λ i h. ap (text s) (f.is i h)) ∙ rising-joined rises_sorted
-
-  pub sifts-first : {kept : List ℕ} → Copied n order kept → Sifts s kept all n k
-  sifts-first f = record { is = front-joined f.front ∙ r.is.is; fits = f.fits; upto = r.upto }
-
-  pub takes-rising : all ≡ strings s → all ≤ k → Takes s order (takes.All n)
-  unfolding texts
-  takes-rising e h = record { is = (r.is.fits, r.is.is ∙ ap (joined (text s)) (omega (arith, r.upto, e))) }
-
-  pub takes_front : {kept new : List ℕ} {m upto : ℕ} → Copied n order kept → Front n kept new → Sifts s new all m upto → all ≡ strings s → all ≤ upto → m ≡ n → Takes s order (takes.All n)
-  unfolding texts
-  takes_front {kept} {new} {m} {upto} f g a e h same = record {
-    is = (
-      r.is.fits,
-      sym (front-joined {kept = new} (record { is = λ i l. g.is i l ∙ f.front.is i l }))
-          ∙ ap (joined (picked s new)) (sym same)
-          ∙ a.is
-          ∙ ap (joined (text s)) (omega (arith, a.upto, e)),
-    );
-  }
-
-pub sifts-all : {s kept : List ℕ} {all m k : ℕ} → Sifts s kept all m k → all ≤ k → Sifts s kept all m all
-sifts-all {s} {kept} {all} {m} {k} a h = let z : k ≡ all = omega (arith, a.upto) in rw z at a
-
-pub rises-none : {s order : List ℕ} {all : ℕ} → Rises s order all 0 0
-rises-none = record { is = begun-none.upto; upto = omega arith }
-
-pub rises-begun : {s order : List ℕ} {all k w : ℕ} → Begun s order k → all ≡ strings s → w ≡ k → Rises s order all w k
-rises-begun {s} {order} {all} {k} {w} b e q = record { is = rw q b.upto; upto = omega (arith, b.few) }
-
--- ---- what rises, taken one by one
-
-pub record Rising-on (s first order : List ℕ) (all n k : ℕ) : Type 0 where
-  pub rises : Rises s order all n k
-  pub long : length order ≡ length first
-
-pub rising-from : {s order : List ℕ} {all n k : ℕ} → Rises s order all n k → Rising-on s order order all n k
-rising-from r = record { rises = r; long = refl }
-
-module _ {s first old : List ℕ} {all n k : ℕ} (g : Rising-on s first old all n k) where
-  pub rising-sorted : InOrder s old n
-  rising-sorted = rises_sorted g.rises
-
-  pub rising-more : {new : List ℕ} {m : ℕ} {r : Next} → k < all → Grows s old n k new r → r ≡ nexts.Upto m → length new ≡ length old → Rising-on s first new all m (k + 1)
-  rising-more {new} {m} {r} h grows e l = record {
-    rises = record {
-      is = record { fits = grown.1.0.fits; is = grown.1.1 ∙ ap (insert_new (text s k)) g.rises.is.is ∙ sym (joined-next (text s) k) };
-      upto = omega arith;
-    };
-    long = l ∙ g.long;
-  }
-    where
-      grown : (m ≤ n + 1) × (InOrder s new m × (listed s new m ≡ insert_new (text s k) (listed s old n)))
-      grown = (rw e at grows).is
-
-  pub rising-not : {new : List ℕ} {r : Next} → Grows s old n k new r → r ≡ nexts.Not → Rises s new all n k
-  rising-not {new} {r} grows e = subst (λ (t : List ℕ). Rises s t all n k) (sym (rw e at grows).is) g.rises
-
-  pub rising-rises : Rises s old all n k
-  rising-rises = g.rises
-
-pub few-all : {s kept order : List ℕ} {all m : ℕ} → Sifts s kept all m all → all ≡ strings s → m ≤ length order → m ≤ 16384 → Few s kept m order
+pub few-all : {s kept order : List ℕ} {all m k : ℕ} → Sifts s kept all m k → all ≡ strings s → all ≤ k → m ≤ length order → m ≤ 16384 → Few s kept m order
 unfolding texts
-few-all {s} {kept} {order} {all} {m} a e room few = record {
-  all = a.is ∙ ap (joined (text s)) e;
+few-all {s} {kept} {order} {all} {m} {k} a e upto room few = record {
+  all = a.is ∙ ap (joined (text s)) (omega (arith, a.upto, upto, e));
   fits = a.fits;
   few = few;
   room = room;
@@ -386,6 +272,9 @@ gathering_none {s} {kept} {order} {many} = record {
 module _ {s kept first order : List ℕ} {seen : List Bool} {many n i : ℕ} (g : Gathering s kept first many order seen n i) where
   pub gathering_sorted : InOrder s order n
   gathering_sorted = g.sorted
+
+  pub gathering-room : i < many → Few s kept many first → n < length order
+  gathering-room h f = omega (arith, g.few, g.long, f.room)
 
   pub gathering_more : {new : List ℕ} {r : Next} {m at : ℕ} → i < many → at < many → Grows s order n (get_or kept at 0) new r → r ≡ nexts.Upto m → length new ≡ length order → Gathering s kept first many new (set seen at true) m (i + 1)
   gathering_more {new} {r} {m} {at} h lt grows e l = record {

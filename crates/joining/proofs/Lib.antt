@@ -2,5 +2,4 @@ pub mod Moves
 pub mod Texts
 pub mod Rules
 pub mod Runs
-pub mod Comparing
 pub mod Guessing

@@ -1,16 +1,12 @@
 -- A guessed order: the strings it is of, and what is checked of it
 use Rattle.std.specs.Prelude.{◌≡◌, ℕ, ◌+◌, ◌<◌, ◌≤◌, Bool, true, false, List, length, slice_index, slice_index_or, slice_set}
-use Rattle.meaning.specs.Text.{before}
 use Rattle.meaning.specs.Case.{text}
 use Rattle.encode.specs.Join.{insert_new, joined}
 use Rattle.encode.specs.Unsorted.{texts}
 use Rattle.joining.specs.Order.{Place, listed, InOrder}
-use Rattle.joining.specs.Fresh.{Upto}
 use Rattle.joining.specs.Run.{Begun}
 use Rattle.joining.specs.declared.Next.{Next}
 use Rattle.joining.specs.declared.Next.TheVariants as nexts
-use Rattle.joining.specs.declared.Told.{Told}
-use Rattle.joining.specs.declared.Told.TheVariants as tells
 use Rattle.joining.specs.declared.Taken.{Taken}
 use Rattle.joining.specs.declared.Taken.TheVariants as takes
 
@@ -19,32 +15,14 @@ pub record Beyond (low high : ℕ) : Type 0 where
   pub some : low < high
   pub inside : high ≤ 16384
 
--- ---- two texts
-
-abbrev pub Compared : List ℕ → List ℕ → Told → Type 0
-Compared x y tells.Before = before x y ≡ true
-Compared x y tells.Same = x ≡ y
-Compared x y tells.After = before y x ≡ true
-
-pub record Compares (x y : List ℕ) (r : Told) : Type 0 where
-  pub is : Compared x y r
-
--- where they are told to be the same, they are
-pub record Same (x y : List ℕ) (r : Bool) : Type 0 where
-  pub is : r ≡ true → x ≡ y
-
 -- ---- the texts of those kept
 
 abbrev pub picked : List ℕ → List ℕ → ℕ → List ℕ
 picked s kept = λ (j : ℕ). text s (slice_index kept j)
 
--- the first n entries are these
-pub record Front (n : ℕ) (old new : List ℕ) : Type 0 where
-  pub is : (i : ℕ) → i < n → slice_index new i ≡ slice_index old i
-
-pub record Copied (n : ℕ) (old new : List ℕ) : Type 0 where
-  pub front : Front n old new
-  pub fits : n ≤ length new
+-- where they are told to be the same, they are
+pub record Same (x y : List ℕ) (r : Bool) : Type 0 where
+  pub is : r ≡ true → x ≡ y
 
 -- where string k is told to be kept, its text is among them
 pub record IsKept (s kept : List ℕ) (m k : ℕ) (r : Bool) : Type 0 where
@@ -60,12 +38,11 @@ pub record PutsNext (old : List ℕ) (m k : ℕ) (kept : List ℕ) (r : Next) : 
 
 -- string k is among those kept now; or there is no room
 abbrev pub KeptOne : List ℕ → List ℕ → ℕ → ℕ → List ℕ → Next → Type 0
-KeptOne s old m k kept (nexts.Upto r) = (m ≤ r) × ((r ≤ length kept) × (joined (picked s kept) r ≡ insert_new (text s k) (joined (picked s old) m)))
+KeptOne s old m k kept (nexts.Upto r) = (r ≤ length kept) × (joined (picked s kept) r ≡ insert_new (text s k) (joined (picked s old) m))
 KeptOne s old m k kept nexts.Not = kept ≡ old
 
 pub record KeepsOne (s old : List ℕ) (m k : ℕ) (kept : List ℕ) (r : Next) : Type 0 where
   pub is : KeptOne s old m k kept r
-  pub front : Front m old kept
 
 -- the first m kept have the texts of the first k strings
 pub record Sifts (s kept : List ℕ) (all m k : ℕ) : Type 0 where
@@ -82,27 +59,21 @@ pub record Few (s kept : List ℕ) (many : ℕ) (order : List ℕ) : Type 0 wher
   pub few : many ≤ 16384
   pub room : many ≤ length order
 
--- where x is told to come behind, its place is behind all; where it is told to be the last, it is there
-abbrev pub GoesBehind : List ℕ → List (List ℕ) → ℕ → Told → Type 0
-GoesBehind x l n tells.Before = Place x l n n
-GoesBehind x l n tells.Same = insert_new x l ≡ l
-GoesBehind x l n tells.After = Unit {0}
+-- where x is told to follow, its place is behind all
+pub record Follows (x : List ℕ) (l : List (List ℕ)) (n : ℕ) (r : Bool) : Type 0 where
+  pub is : r ≡ true → Place x l n n
 
-pub record Behind (x : List ℕ) (l : List (List ℕ)) (n : ℕ) (r : Told) : Type 0 where
-  pub is : GoesBehind x l n r
+-- where x is told to repeat, it is there
+pub record Repeats (x : List ℕ) (l : List (List ℕ)) (r : Bool) : Type 0 where
+  pub is : r ≡ true → insert_new x l ≡ l
 
 -- string k is among the texts in order now; or it does not go behind them
 abbrev pub Grown : List ℕ → List ℕ → ℕ → ℕ → List ℕ → Next → Type 0
 Grown s old n k order (nexts.Upto m) = (m ≤ n + 1) × (InOrder s order m × (listed s order m ≡ insert_new (text s k) (listed s old n)))
-Grown s old n k order nexts.Not = order ≡ old
+Grown s old n k order nexts.Not = Unit {0}
 
 pub record Grows (s old : List ℕ) (n k : ℕ) (order : List ℕ) (r : Next) : Type 0 where
   pub is : Grown s old n k order r
-
--- the first k strings of all are in order
-pub record Rises (s order : List ℕ) (all n k : ℕ) : Type 0 where
-  pub is : Upto s order n k
-  pub upto : k ≤ all
 
 -- where all are told to be seen, they are
 pub record Seen (seen : List Bool) (n : ℕ) (r : Bool) : Type 0 where

@@ -3,12 +3,11 @@ ghost use Rattle.std.specs.Prelude.{◌≡◌, ◌+◌, ◌<◌, ◌≤◌, true
 ghost use Rattle.meaning.specs.Check.{bodies};
 ghost use Rattle.joining.specs.Guess.{Beyond};
 
-use super::sift::four_at;
 use super::{is_same, least, text_in};
 use meaning::StrNo;
 use std::num::{wrapping_add_u32, wrapping_add_usize};
 use stringcheck::is_before;
-use tables::{both, either};
+use tables::either;
 
 // ---- tables: nothing stands outside of them
 
@@ -94,33 +93,23 @@ fn byte_or_0(x: &[u8], i: usize) -> u8 {
 fn six(a: u8, b: u8, c: u8, d: u8, e: u8, f: u8) -> u64
     ensures { result ≤ 281474976710655 }
 {
-    let high = (d as u64) + 256 * ((c as u64) + 256 * ((b as u64) + 256 * (a as u64)));
-    let low = (f as u64) + 256 * (e as u64);
-    low + 65536 * high
+    let high = (c as u64) + 256 * ((b as u64) + 256 * (a as u64));
+    let low = (f as u64) + 256 * ((e as u64) + 256 * (d as u64));
+    low + 16777216 * high
 }
 
-// the first six bytes
-fn first_six(x: &[u8]) -> u64
+// the first six bytes, one more: nothing is before all of them
+fn six_of(x: &[u8]) -> u64
     ensures { result ≤ 281474976710655 }
 {
-    if 6 <= x.len() {
-        return six(x[0], x[1], x[2], x[3], x[4], x[5]);
-    }
-    six(
+    let r = six(
         byte_or_0(x, 0),
         byte_or_0(x, 1),
         byte_or_0(x, 2),
         byte_or_0(x, 3),
         byte_or_0(x, 4),
-        0,
-    )
-}
-
-// one more: nothing is before all of them
-fn six_of(x: &[u8]) -> u64
-    ensures { result ≤ 281474976710655 }
-{
-    let r = first_six(x);
+        byte_or_0(x, 5),
+    );
     if r < 281474976710654 {
         return r + 1;
     }
@@ -154,17 +143,8 @@ fn alike(x: &[u8], y: &[u8], most: usize) -> usize
 // does x begin with the start? y is as much of it
 fn begins_so(start: &[u8], y: &[u8]) -> bool {
     let n = start.len();
-    if y.len() < n {
-        return false;
-    }
-    if n < 4 {
-        return alike(start, y, n) == n;
-    }
     if n < 8 {
-        return both(
-            four_at(start, 0) == four_at(y, 0),
-            four_at(start, n - 4) == four_at(y, n - 4),
-        );
+        return alike(start, y, n) == n;
     }
     is_same(start, y)
 }
@@ -617,11 +597,15 @@ fn put_all(table: &mut [u64; 16384], many: usize) {
     }
 }
 
-// the places of the first so many of those kept, in an order that is likely that of their texts
-pub fn guess(s: &[u8], kept: &[u32], many: usize, table: &mut [u64; 16384])
+// the places of the first so many of those kept, in an order that is likely that of their texts; as they are where
+// they rise
+pub fn guess(s: &[u8], kept: &[u32], sorts: bool, many: usize, table: &mut [u64; 16384])
     requires { bodies s.now ≡ true }
 {
     put_all(table, many);
+    if !sorts {
+        return;
+    }
     if 16384 < many {
         return;
     }

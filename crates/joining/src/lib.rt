@@ -5,7 +5,7 @@
 mod guess;
 mod sift;
 
-ghost use Rattle.std.specs.Prelude.{◌≡◌, ◌+◌, ◌-◌, ◌<◌, ◌≤◌, Bool, true, length};
+ghost use Rattle.std.specs.Prelude.{◌≡◌, ◌+◌, ◌-◌, ◌<◌, ◌≤◌, Bool, true, length, slice_index};
 ghost use Rattle.meaning.specs.Tests.{choose};
 ghost use Rattle.meaning.specs.Case.{text, strings};
 ghost use Rattle.meaning.specs.Check.{bodies};
@@ -14,14 +14,13 @@ ghost use Rattle.encode.specs.Unsorted.{number, texts};
 ghost use Rattle.joining.specs.Order.{Least, Cut, Place, Stands, listed, InOrder, Joins, Sorted, Moved, Put};
 ghost use Rattle.joining.specs.Fresh.{Fresh, together, Floor, Roof, Beside, Keeps, Reaches, Ready, Merged, Upto};
 ghost use Rattle.joining.specs.Run.{onward, Run, Counted, Begun};
-ghost use Rattle.stringcheck.specs.Eight.{eight_of, Eight};
-ghost use Rattle.joining.specs.Guess.{Compares, Same, Behind, Grows, Rises, Front, Copied, Few, Seen, Takes, IsKept, PutsNext, KeepsOne, Sifts};
+ghost use Rattle.joining.specs.Guess.{Few, Follows, Repeats, Grows, Seen, Takes, Same, IsKept, PutsNext, KeepsOne, Sifts};
 
 use guess::{guess, place_in};
 use meaning::StrNo;
 use sift::{is_often, likely, tell_all};
 use stringcheck::{is_before, string_count};
-use tables::{both, offset_of, size_of, string_word, wide};
+use tables::{offset_of, size_of, string_word, wide};
 
 fn least(a: usize, b: usize) -> usize
     ensures { Least a b result }
@@ -41,93 +40,6 @@ pub fn text_in(s: &[u8], n: StrNo) -> &[u8]
     let start = body + from;
     let end = start + many;
     &s[start..end]
-}
-
-// ---- two texts, compared once
-
-#[derive(Clone, Copy)]
-pub enum Told {
-    Before,
-    Same,
-    After,
-}
-
-// eight bytes as one number, the first the highest
-fn eight(a: u8, b: u8, c: u8, d: u8, e: u8, f: u8, g: u8, h: u8) -> u64
-    ensures { result ≡ eight_of a b c d e f g h }
-{
-    let high = (d as u64) + 256 * ((c as u64) + 256 * ((b as u64) + 256 * (a as u64)));
-    let low = (h as u64) + 256 * ((g as u64) + 256 * ((f as u64) + 256 * (e as u64)));
-    low + 4294967296 * high
-}
-
-fn eight_at(s: &[u8], i: usize) -> u64
-    requires { i + 8 ≤ length s.now }
-    ensures { Eight s.now i result }
-{
-    eight(
-        s[i],
-        s[i + 1],
-        s[i + 2],
-        s[i + 3],
-        s[i + 4],
-        s[i + 5],
-        s[i + 6],
-        s[i + 7],
-    )
-}
-
-// few bytes
-fn compare_few(x: &[u8], y: &[u8]) -> Told
-    ensures { Compares x.now y.now result }
-{
-    if is_before(x, y) {
-        return Told::Before;
-    }
-    if is_before(y, x) {
-        return Told::After;
-    }
-    Told::Same
-}
-
-// is x before y, the same or after it? eight bytes at a time: the last eight may have been compared in part before
-fn compare(x: &[u8], y: &[u8]) -> Told
-    ensures { Compares x.now y.now result }
-{
-    let n = least(x.len(), y.len());
-    if n < 8 {
-        return compare_few(x, y);
-    }
-    let mut i = 0;
-    while i < n {
-        let at = least(i, n - 8);
-        let a = eight_at(x, at);
-        let b = eight_at(y, at);
-        if a < b {
-            return Told::Before;
-        }
-        if a != b {
-            return Told::After;
-        }
-        i = at + 8;
-    }
-    if x.len() < y.len() {
-        return Told::Before;
-    }
-    if y.len() < x.len() {
-        return Told::After;
-    }
-    Told::Same
-}
-
-fn is_same(x: &[u8], y: &[u8]) -> bool
-    ensures { Same x.now y.now result }
-{
-    let told = compare(x, y);
-    match told {
-        Told::Same => true,
-        _ => false,
-    }
 }
 
 // how many of the first n texts are before x
@@ -403,38 +315,58 @@ fn first_run(s: &[u8], order: &mut [u32]) -> u32
 
 // ---- a guess, checked
 
+// is x after all of the n in order?
+fn follows(s: &[u8], order: &[u32], n: usize, x: &[u8]) -> bool
+    requires s_value { bodies s.now ≡ true }
+    requires in_order { InOrder s.now order.now n }
+    ensures { Follows x.now (listed s.now order.now n) n result }
+{
+    if n == 0 {
+        return true;
+    }
+    let k = order[n - 1];
+    is_before(text_in(s, StrNo(k)), x)
+}
+
+// is x the last of the n in order?
+fn repeats(s: &[u8], order: &[u32], n: usize, x: &[u8]) -> bool
+    requires s_value { bodies s.now ≡ true }
+    requires in_order { InOrder s.now order.now n }
+    ensures { Repeats x.now (listed s.now order.now n) result }
+{
+    if n == 0 {
+        return false;
+    }
+    let k = order[n - 1];
+    let y = text_in(s, StrNo(k));
+    if is_before(x, y) {
+        return false;
+    }
+    !is_before(y, x)
+}
+
 #[derive(Clone, Copy)]
 pub enum Next {
     Upto(usize),
     Not,
 }
 
-// is x behind the n in order, or the last of them?
-fn compare_last(s: &[u8], order: &[u32], n: usize, x: &[u8]) -> Told
-    requires s_value { bodies s.now ≡ true }
-    requires in_order { InOrder s.now order.now n }
-    ensures { Behind x.now (listed s.now order.now n) n result }
-{
-    if n == 0 {
-        return Told::Before;
-    }
-    let k = order[n - 1];
-    compare(text_in(s, StrNo(k)), x)
-}
-
 // string k behind the n in order, where it goes there
 fn take_one(s: &[u8], order: &mut [u32], n: usize, k: u32) -> Next
     requires s_value { bodies s.now ≡ true }
     requires in_order { InOrder s.now order.old n }
+    requires n_in_bounds { n < length order.old }
     ensures { Grows s.now order.old n k order.new result }
 {
     let x = text_in(s, StrNo(k));
-    let told = compare_last(s, order, n, x);
-    match told {
-        Told::Before => put_next(order, n, k),
-        Told::Same => Next::Upto(n),
-        Told::After => Next::Not,
+    if follows(s, order, n, x) {
+        order[n] = k;
+        return Next::Upto(n + 1);
     }
+    if repeats(s, order, n, x) {
+        return Next::Upto(n);
+    }
+    Next::Not
 }
 
 // are the first n seen?
@@ -460,6 +392,15 @@ pub enum Taken {
 }
 
 // ---- texts that are the same, kept once where that is told
+
+fn is_same(x: &[u8], y: &[u8]) -> bool
+    ensures { Same x.now y.now result }
+{
+    if is_before(x, y) {
+        return false;
+    }
+    !is_before(y, x)
+}
 
 // has string k the text of the j-th of the first m kept?
 fn is_kept(s: &[u8], kept: &[u32], m: usize, j: usize, k: u32) -> bool
@@ -499,30 +440,67 @@ fn keep_one(s: &[u8], kept: &mut [u32], m: usize, j: usize, k: u32) -> Next
     put_next(kept, m, k)
 }
 
-// the first `upto` strings have the texts of `many` of them
+fn last_of(kept: &[u32], m: usize) -> u32
+    requires m_nonzero { 0 < m }
+    requires m_in_bounds { m ≤ length kept.now }
+    ensures { result ≡ slice_index kept.now (m - 1) }
+{
+    kept[m - 1]
+}
+
+// string k is kept where it is behind them, and need not be where it is the last
+fn keep_next(s: &[u8], kept: &mut [u32], m: usize, k: u32) -> Next
+    requires s_value { bodies s.now ≡ true }
+    requires m_in_bounds { m ≤ length kept.old }
+    ensures { KeepsOne s.now kept.old m k kept.new result }
+{
+    if m == 0 {
+        return put_next(kept, m, k);
+    }
+    let i = last_of(kept, m);
+    let last = text_in(s, StrNo(i));
+    let x = text_in(s, StrNo(k));
+    if is_before(last, x) {
+        return put_next(kept, m, k);
+    }
+    if is_before(x, last) {
+        return Next::Not;
+    }
+    Next::Upto(m)
+}
+
+// the first `upto` strings have the texts of `many` of them, which are kept, and rise
 #[derive(Clone, Copy)]
 pub struct Sifted {
     upto: u32,
     many: usize,
+    rises: bool,
 }
 
-// strings that rise, or are the same, behind those in order
-fn take_rising(s: &[u8], all: u32, order: &mut [u32], upto: u32, many: usize) -> Sifted
-    requires s_value { bodies s.now ≡ true }
-    requires rises { Rises s.now order.old all many upto }
-    ensures { Rises s.now order.new all result.many result.upto }
+// the strings at the front that rise, or are the same
+fn keep_rising(s: &[u8], all: u32, kept: &mut [u32]) -> Sifted
+    requires { bodies s.now ≡ true }
+    ensures { Sifts s.now kept.new all result.many result.upto }
 {
-    let mut n = many;
-    let mut k = upto;
+    let mut m = 0;
+    let mut k = 0;
     while k < all {
-        let next = take_one(s, order, n, k);
+        let next = keep_next(s, kept, m, k);
         let Next::Upto(more) = next else {
-            return Sifted { upto: k, many: n };
+            return Sifted {
+                upto: k,
+                many: m,
+                rises: true,
+            };
         };
-        n = more;
+        m = more;
         k += 1;
     }
-    Sifted { upto: k, many: n }
+    Sifted {
+        upto: k,
+        many: m,
+        rises: true,
+    }
 }
 
 // and the others, where texts may be told by a table of those kept
@@ -537,20 +515,40 @@ fn keep_others(
 ) -> Sifted
     requires s_value { bodies s.now ≡ true }
     requires sifts { Sifts s.now kept.old all many upto }
-    ensures sifts_2 { Sifts s.now kept.new all result.many result.upto }
-    ensures front { Front many kept.old kept.new }
+    ensures { Sifts s.now kept.new all result.many result.upto }
 {
     let mut m = many;
     let mut k = upto;
     while k < all {
         let next = keep_one(s, kept, m, likely(s, table, told, k, m), k);
         let Next::Upto(more) = next else {
-            return Sifted { upto: k, many: m };
+            return Sifted {
+                upto: k,
+                many: m,
+                rises: false,
+            };
         };
         m = more;
         k += 1;
     }
-    Sifted { upto: k, many: m }
+    Sifted {
+        upto: k,
+        many: m,
+        rises: m == many,
+    }
+}
+
+// all of them, as far as there is room
+fn keep_all(s: &[u8], all: u32, kept: &mut [u32], table: &mut [u64; 16384]) -> Sifted
+    requires { bodies s.now ≡ true }
+    ensures { Sifts s.now kept.new all result.many result.upto }
+{
+    let first = keep_rising(s, all, kept);
+    let upto = first.upto;
+    let many = first.many;
+    let told = is_often(s, all, upto);
+    tell_all(s, table, told, kept, many);
+    keep_others(s, all, told, kept, table, upto, many)
 }
 
 // ---- a guess, checked: all of those kept
@@ -584,20 +582,24 @@ fn gather(s: &[u8], kept: &[u32], table: &[u64; 16384], many: usize, order: &mut
     Taken::First(0)
 }
 
-// where these fit
+// where these are all texts, and fit
 fn take_kept(
     s: &[u8],
     all: u32,
     kept: &[u32],
     table: &[u64; 16384],
+    upto: u32,
     many: usize,
     order: &mut [u32],
 ) -> Taken
     requires s_value { bodies s.now ≡ true }
     requires all_value { all ≡ strings s.now }
-    requires sifts { Sifts s.now kept.now all many all }
+    requires sifts { Sifts s.now kept.now all many upto }
     ensures { Takes s.now order.new result }
 {
+    if upto < all {
+        return Taken::First(0);
+    }
     if order.len() < many {
         return Taken::First(0);
     }
@@ -607,64 +609,19 @@ fn take_kept(
     gather(s, kept, table, many, order)
 }
 
-// the first n in order are kept
-fn keep_first(order: &[u32], n: usize, kept: &mut [u32])
-    requires n_in_bounds { n ≤ length order.now }
-    requires n_in_bounds_2 { n ≤ length kept.old }
-    ensures { Copied n order.now kept.new }
-{
-    let mut i = 0;
-    while i < n {
-        kept[i] = order[i];
-        i += 1;
-    }
-}
-
-// with all others, by a guess, unless they are the same as these
-fn take_others(
-    s: &[u8],
-    all: u32,
-    told: bool,
-    kept: &mut [u32],
-    table: &mut [u64; 16384],
-    upto: u32,
-    many: usize,
-    order: &mut [u32],
-) -> Taken
+// by a guess
+fn take_guessed(s: &[u8], all: u32, order: &mut [u32]) -> Taken
     requires s_value { bodies s.now ≡ true }
     requires all_value { all ≡ strings s.now }
-    requires rises { Rises s.now order.old all many upto }
-    requires copied { Copied many order.old kept.old }
     ensures { Takes s.now order.new result }
 {
-    let sifted = keep_others(s, all, told, kept, table, upto, many);
-    let more = sifted.many;
-    if sifted.upto < all {
-        return Taken::First(0);
-    }
-    if more == many {
-        return Taken::All(many);
-    }
-    guess(s, kept, more, table);
-    take_kept(s, all, kept, table, more, order)
-}
-
-// by a guess, where the first strings are in order
-fn take_guessed(s: &[u8], all: u32, order: &mut [u32], upto: u32, many: usize) -> Taken
-    requires s_value { bodies s.now ≡ true }
-    requires all_value { all ≡ strings s.now }
-    requires rises { Rises s.now order.old all many upto }
-    ensures { Takes s.now order.new result }
-{
-    if 16384 < many {
-        return Taken::First(0);
-    }
     let mut kept = [0u32; 16384];
     let mut table = [0u64; 16384];
-    keep_first(order, many, &mut kept);
-    let told = is_often(s, all, upto);
-    tell_all(s, &mut table, told, &kept, many);
-    take_others(s, all, told, &mut kept, &mut table, upto, many, order)
+    let sifted = keep_all(s, all, &mut kept, &mut table);
+    let many = sifted.many;
+    let upto = sifted.upto;
+    guess(s, &kept, !sifted.rises, many, &mut table);
+    take_kept(s, all, &kept, &table, upto, many, order)
 }
 
 // do some of many strings rise and others fall? then no run is looked for
@@ -675,43 +632,19 @@ fn turns(s: &[u8], all: u32) -> bool
         return false;
     }
     let step = all / 16;
-    let mut up = false;
-    let mut down = false;
+    let down = goes_on(s, 0, true);
     let mut k = 0;
     while k < all {
-        let told = compare(text_in(s, StrNo(k)), text_in(s, StrNo(k + 1)));
-        match told {
-            Told::Before => {
-                up = true;
-            }
-            Told::Same => {}
-            Told::After => {
-                down = true;
-            }
+        if !goes_on(s, k, down) {
+            return true;
         }
         let rest = all - k;
         if rest <= step {
-            return both(up, down);
+            return false;
         }
         k += step;
     }
-    both(up, down)
-}
-
-// behind a run at the front, what rises; all by a guess, where that is not all
-fn take_more(s: &[u8], all: u32, order: &mut [u32], from: u32) -> Taken
-    requires s_value { bodies s.now ≡ true }
-    requires all_value { all ≡ strings s.now }
-    requires begun { Begun s.now order.old from }
-    ensures { Takes s.now order.new result }
-{
-    let first = take_rising(s, all, order, from, wide(from));
-    let upto = first.upto;
-    let many = first.many;
-    if all <= upto {
-        return Taken::All(many);
-    }
-    take_guessed(s, all, order, upto, many)
+    false
 }
 
 // those at the front that rise or fall; or all by a guess, where that is worth it
@@ -721,13 +654,16 @@ fn take_first(s: &[u8], order: &mut [u32]) -> Taken
 {
     let all = string_count(s);
     if turns(s, all) {
-        return take_guessed(s, all, order, 0, 0);
+        return take_guessed(s, all, order);
     }
     let k = first_run(s, order);
+    if all <= k {
+        return Taken::First(k);
+    }
     if all < 512 {
         return Taken::First(k);
     }
-    take_more(s, all, order, k)
+    take_guessed(s, all, order)
 }
 
 // ---- all strings

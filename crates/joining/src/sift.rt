@@ -22,7 +22,7 @@ fn four(a: u8, b: u8, c: u8, d: u8) -> u64
     (a as u64) + 256 * ((b as u64) + 256 * ((c as u64) + 256 * (d as u64)))
 }
 
-pub fn four_at(x: &[u8], i: usize) -> u64
+fn four_at(x: &[u8], i: usize) -> u64
     requires { i + 4 ≤ length x.now }
     ensures { result ≤ 4294967295 }
 {

@@ -1,4 +1,4 @@
-use Rattle.joining.proofs.Guessing.{gathering_all, gathering_more, gathering_none, gathering_sorted, takes_none}
+use Rattle.joining.proofs.Guessing.{gathering_all, gathering_more, gathering_none, gathering-room, gathering_sorted, takes_none}
 use Rattle.std.proofs.Common.{rules}
 use Rattle.joining.proofs.gather.Goals as goal
 
@@ -10,6 +10,9 @@ returns-then-many-at c = search (takes_none, rules)
 
 pub take_one-next-requires-clause-in_order : goal.take_one-next-requires-clause-in_order
 take_one-next-requires-clause-in_order c = search (gathering_sorted, rules)
+
+pub take_one-next-requires-clause-n_in_bounds : goal.take_one-next-requires-clause-n_in_bounds
+take_one-next-requires-clause-n_in_bounds c = search (gathering-room, rules)
 
 pub returns-in_default : goal.returns-in_default
 returns-in_default c = search (takes_none, rules)

@@ -3,7 +3,7 @@ use Rattle.std.proofs.Common.{◌-◌}
 use Rattle.joining.proofs.keep_others.Given as goal
 
 abbrev pub invariant-loop-k : goal.invariant-loop-k
-invariant-loop-k l = Sifting l.s l.initial.kept l.kept l.all l.many l.m l.k
+invariant-loop-k l = Sifting l.s l.initial.kept l.kept l.all l.m l.k
 
 abbrev pub decreases-loop-k : goal.decreases-loop-k
 decreases-loop-k l = l.all - l.k

@@ -2,6 +2,9 @@ use Rattle.joining.proofs.Guessing.{few-all, takes_none}
 use Rattle.std.proofs.Common.{rules}
 use Rattle.joining.proofs.take_kept.Goals as goal
 
+pub returns-then-upto-all : goal.returns-then-upto-all
+returns-then-upto-all c = search (takes_none, rules)
+
 pub returns-then-order-many : goal.returns-then-order-many
 returns-then-order-many c = search (takes_none, rules)
 

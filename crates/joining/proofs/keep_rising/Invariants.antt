@@ -1,9 +1,9 @@
-use Rattle.joining.proofs.Guessing.{Rising-on}
+use Rattle.joining.proofs.Guessing.{Sifting}
 use Rattle.std.proofs.Common.{◌-◌}
-use Rattle.joining.proofs.take_rising.Given as goal
+use Rattle.joining.proofs.keep_rising.Given as goal
 
 abbrev pub invariant-loop-k : goal.invariant-loop-k
-invariant-loop-k l = Rising-on l.s l.initial.order l.order l.all l.n l.k
+invariant-loop-k l = Sifting l.s l.initial.kept l.kept l.all l.m l.k
 
 abbrev pub decreases-loop-k : goal.decreases-loop-k
 decreases-loop-k l = l.all - l.k

@@ -53,11 +53,11 @@ space-more t ts k = refl
 
 pub shaped-spaces : (ts : List (List ℕ)) (k : Next-as_Trace) → Shaped (space_tables ts k)
 unfolding space_tables
-shaped-spaces ts k = shaped-texts ts then shaped-lists (naming k.string (length ts))
+shaped-spaces ts k = ◌then◌ (shaped-texts ts) (shaped-lists (naming k.string (length ts)))
 
 shaped-name : (t : List ℕ) (k : Next-as_Trace) → Shaped (named_tables t k)
 unfolding named_tables
-shaped-name t k = shaped-texts (t ∷ []) then shaped-lists ((k.string, 1) ∷ [])
+shaped-name t k = ◌then◌ (shaped-texts (t ∷ [])) (shaped-lists ((k.string, 1) ∷ []))
 
 pub adds-nothing : (file marks : List ℕ) (b : Bodies) (n : Next) → MarkAdds file file marks marks b n empty n
 unfolding empty
@@ -276,7 +276,7 @@ names-are e k =
 
 pub shaped-names : (e : Event) (k : Next-as_Trace) → Shaped (names_add e k)
 unfolding names_add
-shaped-names e k = shaped-texts _ then shaped-lists _
+shaped-names e k = ◌then◌ (shaped-texts _) (shaped-lists _)
 
 naming-long : (from count : ℕ) → length (naming from count) ≡ count
 unfolding naming

@@ -3,7 +3,7 @@ use mathlib.Core.Path.{◌≡◌, refl, sym, ◌∙◌, ap}
 use mathlib.Core.Bool.{Bool, true, false}
 use mathlib.Core.List.{List, [], ◌∷◌, map}
 use mathlib.Core.Option.{Option, none, some}
-use Prim.Native.Nat.{ℕ, zero, suc, ◌<◌, ◌≤◌}
+use Prim.Native.Nat.{ℕ, zero, suc, ◌+◌, ◌*◌, ◌-◌, ◌<◌, ◌≤◌}
 use native.Mathlib.Omega.{arith}
 use lib.Dec.{eqb}
 use lib.ListN.{length, get_or}
@@ -13,7 +13,7 @@ use Rattle.meaning.specs.declared.Root.{Root}
 use Rattle.meaning.specs.declared.Root.TheVariants.{Principal, Resource}
 use Rattle.meaning.specs.declared.ValNo.{ValNo}
 use Rattle.meaning.specs.Tests.{◌and◌, pick, or_else, only_if}
-use Rattle.meaning.specs.Case.{Part, Point, maybe, text, value_word, point_word, value_at, value_from, part_at, point_at, places, list, case_of}
+use Rattle.meaning.specs.Case.{Part, Point, Attributes, maybe, text, value_word, point_word, value_at, value_from, part_at, point_at, entity_at, places, list, case_of}
 use Rattle.meaning.specs.Equal.{Bound, same_list, bound_of, part}
 use Rattle.meaning.specs.Look.{lookup, bound_at, attributes_of, own_part, supplied, entity_of, attribute, from_root, root_of, scope_at}
 use Rattle.meaning.specs.Rows.{in_cells}
@@ -22,8 +22,56 @@ use Rattle.laws.specs.Tests.{stop, skip, after, and-true}
 use Rattle.lookup.specs.declared.Found.{Found}
 use Rattle.lookup.specs.declared.Found.TheVariants.{At, Nothing}
 use Rattle.lookup.specs.Paths.{found_at}
+use Rattle.equality.specs.Places.{open_place, shut-place}
 use Rattle.equality.specs.Places.{value_as}
 use Rattle.lookup.proofs.Reach.{names-are}
+
+-- ---- the attribute object
+
+attributes-by : (t i : ℕ) (e : Attributes) (es : List Attributes) (b : Bool) → (eqb t e.type and eqb i e.id) ≡ b → attributes_of t i (e ∷ es) ≡ elim b as (λ b. Option ℕ) [ true ↦ some e.object | false ↦ attributes_of t i es ]
+unfolding attributes_of
+attributes-by t i e es b h = ap (λ (b : Bool). elim b as (λ b. Option ℕ) [ true ↦ some e.object | false ↦ attributes_of t i es ]) h
+
+pub record EntityFrom (s : List ℕ) (t i first count k : ℕ) : Type 0 where
+  pub inside : k ≤ count
+  pub rest : attributes_of t i (map (entity_at s) (places (first + 3 * k) 3 (count - k))) ≡ attributes_of t i (map (entity_at s) (places first 3 count))
+
+pub entity-start : (s : List ℕ) (t i first count : ℕ) → EntityFrom s t i first count 0
+entity-start s t i first count =
+    let x : first + 3 * 0 ≡ first = omega arith in
+    let z : count - 0 ≡ count = omega arith in
+    record { inside = omega arith; rest = rw (x, z) refl }
+
+-- first and count are the words x and y, in a wider type
+entities-are : (s : List ℕ) (p first count x y : ℕ) → first ≡ x → x ≡ point_word s p 10 → count ≡ y → y ≡ point_word s p 11 → (point_at s p).entities ≡ map (entity_at s) (places first 3 count)
+unfolding point_at
+entities-are s p first count x y ef ex ec ey = rw (ef, ex, ec, ey) refl
+
+module _ (s : List ℕ) (t i first count k : ℕ) (from : EntityFrom s t i first count k) where
+  entity-open : (b : Bool) → k < count → (eqb t (list s (first + 3 * k)) and eqb i (list s (first + 3 * k + 1))) ≡ b → attributes_of t i (map (entity_at s) (places first 3 count)) ≡ elim b as (λ b. Option ℕ) [ true ↦ some (list s (first + 3 * k + 2)) | false ↦ attributes_of t i (map (entity_at s) (places (first + 3 * (k + 1)) 3 (count - (k + 1)))) ]
+  unfolding entity_at
+  entity-open b h e =
+      let x : first + 3 * (k + 1) ≡ first + 3 * k + 3 = omega arith in
+      let open_at : places (first + 3 * k) 3 (count - k) ≡ (first + 3 * k) ∷ places (first + 3 * (k + 1)) 3 (count - (k + 1)) = open_place (first + 3 * k) 3 count k (first + 3 * (k + 1)) h x in
+      let cut : map (entity_at s) (places (first + 3 * k) 3 (count - k)) ≡ entity_at s (first + 3 * k) ∷ map (entity_at s) (places (first + 3 * (k + 1)) 3 (count - (k + 1))) = ap (map (entity_at s)) open_at in
+      sym from.rest ∙ ap (attributes_of t i) cut ∙ attributes-by t i (entity_at s (first + 3 * k)) (map (entity_at s) (places (first + 3 * (k + 1)) 3 (count - (k + 1)))) b e
+
+  module _ (x y : ℕ) (r : Bool) (h : k < count) (ex : x ≡ list s (first + 3 * k)) (ey : y ≡ list s (first + 3 * k + 1)) (er : r ≡ (eqb t x and eqb i y)) where
+    test : (eqb t (list s (first + 3 * k)) and eqb i (list s (first + 3 * k + 1))) ≡ r
+    test = sym (er ∙ rw (ex, ey) refl)
+
+    pub entity-passed : r ≡ false → EntityFrom s t i first count (k + 1)
+    entity-passed e = record { inside = omega arith; rest = sym (entity-open false h (test ∙ e)) }
+
+    pub entity-found : (p u w : ℕ) (v : ValNo) → first ≡ u → u ≡ point_word s p 10 → count ≡ w → w ≡ point_word s p 11 → v.0 ≡ list s (first + 3 * k + 2) → r ≡ true → found_at (At v) ≡ attributes_of t i (point_at s p).entities
+    unfolding found_at
+    entity-found p u w v ef eu ec ew ev e = ap some ev ∙ sym (ap (attributes_of t i) (entities-are s p first count u w ef eu ec ew) ∙ entity-open true h (test ∙ e))
+
+pub entity-none : (s : List ℕ) (t i first count k p u w : ℕ) → EntityFrom s t i first count k → first ≡ u → u ≡ point_word s p 10 → count ≡ w → w ≡ point_word s p 11 → count ≤ k → found_at Nothing ≡ attributes_of t i (point_at s p).entities
+unfolding found_at attributes_of
+entity-none s t i first count k p u w from ef eu ec ew h =
+    ap (λ (l : List ℕ). attributes_of t i (map (entity_at s) l)) (sym (shut-place (first + 3 * k) 3 count k h)) ∙ from.rest
+    ∙ sym (ap (attributes_of t i) (entities-are s p first count u w ef eu ec ew))
 
 -- ---- the entity's own parts
 

@@ -5,4 +5,3 @@ pub mod Reach
 pub mod Dotted
 pub mod Searching
 pub mod Attributes
-pub mod Entities

@@ -9,13 +9,13 @@ ghost use Rattle.meaning.specs.Look.{named, members, descend, lookup, bound_at, 
 ghost use Rattle.meaning.specs.Rows.{in_cells};
 ghost use Rattle.meaning.specs.Meaning.{names, same_event};
 ghost use Rattle.laws.specs.Search.{search};
-ghost use Rattle.lookup.specs.Paths.{found_at, entity_key};
+ghost use Rattle.lookup.specs.Paths.{found_at};
 ghost use Rattle.lookup.specs.Dotted.{rest, begins, joins, Behind, goes_on, may_join, plain_names, key_of, Failed, Ready, Spans, Sought, Missed};
 
 use crate::{After, Found, Span};
 use equality::{binding_of, long};
 use meaning::{Binding, Root, Run, StrNo, ValNo};
-use tables::{list_at, member_word, offset_of, point_word, value_word, wide, word_at};
+use tables::{both, list_at, member_word, offset_of, point_word, value_word, wide, word_at};
 
 // ---- objects
 
@@ -366,38 +366,24 @@ pub fn context_at(s: &[u8], p: usize, path: Run) -> Binding
     path_lookup(s, ValNo(v), path)
 }
 
-// an entity as one number, which rises by type and within a type by id
-fn entity_key(t: u32, i: u32) -> u64
-    ensures { result ≡ entity_key t i }
-{
-    4294967296 * long(t) + long(i)
-}
-
-// the attribute object that point p has of an entity; entities rise, so half of what is left goes at each turn
+// the attribute object that point p has of an entity
 fn attributes_of(s: &[u8], p: usize, t: StrNo, i: StrNo) -> Found
-    requires { Checked s.now }
+    requires { bodies s.now ≡ true }
     ensures { found_at result ≡ attributes_of t.0 i.0 (point_at s.now p).entities }
 {
-    let sought = entity_key(t.0, i.0);
-    // a checked point's entities lie in the lists, so their words are read with no test
-    let table = wide(offset_of(s, 5)) / 4;
-    let first = table + wide(point_word(s, p, 10));
-    let mut at = 0;
-    let mut left = wide(point_word(s, p, 11));
-    while 0 < left {
-        let half = left / 2;
-        let middle = at + half;
-        let word = first + 3 * middle;
-        let here = entity_key(word_at(s, word), word_at(s, word + 1));
-        if sought == here {
-            return Found::At(ValNo(word_at(s, word + 2)));
+    let kind = t.0;
+    let id = i.0;
+    let first = wide(point_word(s, p, 10));
+    let count = wide(point_word(s, p, 11));
+    let mut k = 0;
+    while k < count {
+        let at = first + 3 * k;
+        let type_at = list_at(s, at);
+        let id_at = list_at(s, at + 1);
+        if both(kind == type_at, id == id_at) {
+            return Found::At(ValNo(list_at(s, at + 2)));
         }
-        if sought < here {
-            left = half;
-        } else {
-            at = middle + 1;
-            left = left - half - 1;
-        }
+        k += 1;
     }
     Found::Nothing
 }

@@ -1,29 +1,36 @@
-use Rattle.std.proofs.Common.{rules}
-use Rattle.laws.specs.Bodies.{long}
-use Rattle.laws.specs.Checked.{checked-bodies}
-use Rattle.lookup.proofs.Entities.{entity-all, entity-none, entity-found, lower-entities, upper-entities}
+use native.Mathlib.Omega.{arith}
+use Rattle.lookup.proofs.Attributes.{entity-start, entity-found, entity-passed, entity-none}
 use Rattle.lookup.proofs.paths.attributes_of.Goals as goal
 
-pub offset_of-requires : goal.offset_of-requires
-offset_of-requires c = search (long, checked-bodies, rules)
+pub wide-first-requires : goal.wide-first-requires
+wide-first-requires c = tt
 
-pub point_word-requires : goal.point_word-requires
-point_word-requires c = search (checked-bodies, rules)
+pub wide-count-requires : goal.wide-count-requires
+wide-count-requires c = tt
 
-pub point_word-requires-2 : goal.point_word-requires-2
-point_word-requires-2 c = search (checked-bodies, rules)
+pub loop-k-init : goal.loop-k-init
+loop-k-init c = entity-start _ _ _ _ _
 
-pub loop-left-init : goal.loop-left-init
-loop-left-init c = search (entity-all, rules)
+pub overflow_mul-at : goal.overflow_mul-at
+overflow_mul-at c = omega arith
 
-pub returns-then-sought-here : goal.returns-then-sought-here
-returns-then-sought-here c = search (entity-found, rules)
+pub overflow_add-at : goal.overflow_add-at
+overflow_add-at c = omega arith
 
-pub loop-left-preserved-then-sought-here-2 : goal.loop-left-preserved-then-sought-here-2
-loop-left-preserved-then-sought-here-2 c = search (lower-entities, rules)
+pub both-requires : goal.both-requires
+both-requires c = tt
 
-pub loop-left-preserved : goal.loop-left-preserved
-loop-left-preserved c = search (upper-entities, rules)
+pub returns-then-both : goal.returns-then-both
+returns-then-both c = search entity-found depth 1
+
+pub overflow_add-k : goal.overflow_add-k
+overflow_add-k c = omega arith
+
+pub loop-k-smaller : goal.loop-k-smaller
+loop-k-smaller c = omega arith
+
+pub loop-k-preserved : goal.loop-k-preserved
+loop-k-preserved c = search entity-passed depth 1
 
 pub returns : goal.returns
-returns c = search (entity-none, rules)
+returns c = search entity-none depth 1

@@ -1,9 +1,10 @@
 -- The attribute object that a point has of an entity
-use Rattle.lookup.proofs.Entities.{Among}
+use Prim.Native.Nat.{◌-◌}
+use Rattle.lookup.proofs.Attributes.{EntityFrom}
 use Rattle.lookup.proofs.paths.attributes_of.Given as goal
 
-abbrev pub invariant-loop-left : goal.invariant-loop-left
-invariant-loop-left l = Among l.s l.sought l.first l.initial.left l.at l.left
+abbrev pub invariant-loop-k : goal.invariant-loop-k
+invariant-loop-k l = EntityFrom l.s l.kind l.id l.first l.count l.k
 
-abbrev pub decreases-loop-left : goal.decreases-loop-left
-decreases-loop-left l = l.left
+abbrev pub decreases-loop-k : goal.decreases-loop-k
+decreases-loop-k l = l.count - l.k

@@ -1,6 +1,10 @@
 use Rattle.std.proofs.Common.{rules}
+use Rattle.laws.specs.Checked.{checked-bodies}
 use Rattle.lookup.proofs.Attributes.{supplied-none, supplied-found}
 use Rattle.lookup.proofs.paths.supplied.Goals as goal
+
+pub attributes_of-object-requires : goal.attributes_of-object-requires
+attributes_of-object-requires c = search (checked-bodies, rules)
 
 pub returns-in-At : goal.returns-in-At
 returns-in-At c = search (supplied-found, rules)

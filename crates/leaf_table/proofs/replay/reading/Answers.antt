@@ -1,5 +1,4 @@
 use Rattle.std.proofs.Common.{rules}
-use Rattle.std.proofs.Common.{rules}
 use Rattle.laws.specs.Checked.{checked-bodies, checked-strings}
 use Rattle.leaf_table.proofs.replay.reading.Goals as goal
 

@@ -1,5 +1,4 @@
 use Rattle.std.proofs.Common.{rules}
-use Rattle.std.proofs.Common.{rules}
 use Rattle.laws.specs.Bodies.{long}
 use Rattle.laws.specs.Checked.{checked-bodies}
 use Rattle.leaf_table.proofs.replay.replay.Goals as goal

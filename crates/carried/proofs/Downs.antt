@@ -10,8 +10,6 @@ use lib.ListN.{length, take, drop, set, length-set, length-append}
 use lib.IntN.{ℤ}
 use mir.Val.{to_z}
 use mir.Syntax.{w64}
-use types.Run.{OneOf, miss}
-use denote.Enum.Declared.{tag_of}
 use Rattle.meaning.specs.declared.Env.{Env}
 use Rattle.meaning.specs.declared.Meter.{Meter}
 use Rattle.meaning.specs.declared.Refusal.{Refusal}
@@ -33,7 +31,6 @@ use Rattle.evaluator.specs.declared.Call.{Call}
 use Rattle.evaluator.specs.declared.Verdict.{Verdict}
 use Rattle.evaluator.specs.declared.Verdict.TheVariants as Ver
 use Rattle.evaluator.specs.Asks.{said_verdict, Ready}
-use Rattle.carried.specs.contracts.Look.{the_type}
 use Rattle.carried.specs.declared.Look.{Look}
 use Rattle.carried.specs.declared.Look.TheVariants as Loo
 use Rattle.carried.specs.declared.Turn.{Turn}
@@ -260,10 +257,10 @@ all_pass within zero = refl
 all_pass within (suc j) = choose-same (within j) (down within (λ j. passes) j) ∙ all_pass within j
 
 -- whatever is no Previous scans down
-pub back-down : {s : List ℕ} {c : Call} {e : Env} (look : Look) {l a : List ℕ} {r : Scan} → OneOf (0 ∷ 2 ∷ 3 ∷ []) (tag_of the_type look) → Downed s c e look l a r → Backed s c e look l a r
+pub back-down : {s : List ℕ} {c : Call} {e : Env} (look : Look) {l a : List ℕ} {r : Scan} → ((within : Interval) (x : NodeNo) → look ≡ Loo.Previous within x → ⊥) → Downed s c e look l a r → Backed s c e look l a r
 unfolding as_look window_in scan_in scan_of turn_in
 back-down (Loo.Formerly within x) h d = record { scanned = d.scanned }
-back-down (Loo.Previous within x) h d = absurd (miss (0 ∷ 2 ∷ 3 ∷ []) 1 tt h)
+back-down (Loo.Previous within x) h d = absurd (h within x refl)
 back-down (Loo.Since x y within) h d = record { scanned = d.scanned }
 back-down {s} {c} {e} Loo.Other {l} {a} {r} h d = record { scanned = subst (λ (k : ScanOf). Scanned k l a r) (all_pass _ _) d.scanned }
 

@@ -28,8 +28,8 @@ use Rattle.jsonruns.specs.Forms.{form_read, form_of, TwoIs, TwoTold}
 use Rattle.jsoncount.proofs.Flat.{flat-below, text-is}
 use Rattle.jsonview.specs.Room.{Ready, Adds, numbers}
 use Rattle.jsonview.specs.Showing.{grown-string}
-use Rattle.jsonview.specs.Adding.{ready-first, ready-second, adds_then}
-use Rattle.jsonview.specs.Rows.{ready-values, ready-strings, ready-text, string-words}
+use Rattle.jsonview.proofs.Adding.{ready-first, ready-second, adds_then}
+use Rattle.jsonview.proofs.Rows.{ready-values, ready-strings, ready-text, string-words}
 use Rattle.jsonadds.specs.declared.Flat.{Flat}
 use Rattle.jsonadds.specs.Place.{Due, WroteTo, value_tables, name_tables, NameDue, NameWritten, TwoDue, TwoWritten, FlatDue, FlatTold}
 use Rattle.jsonadds.proofs.Values.{due-from, wrote-from, due-at, wrote_at, value-adds}

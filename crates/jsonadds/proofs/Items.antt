@@ -27,8 +27,8 @@ use Rattle.jsonruns.specs.Run.{Run, Listed, Item}
 use Rattle.jsonruns.proofs.Runs.{same-got, Turn, turn, array-listed}
 use Rattle.jsonview.specs.Room.{Adds, numbers, beyond, leaving}
 use Rattle.jsonview.specs.Filling.{numbers-beyond}
-use Rattle.jsonview.specs.Adding.{ready-first}
-use Rattle.jsonview.specs.Rows.{Rows, Roomy, rows_start, rows-ready, rows_end, rows_step, run-words, roomy-member, adds-next, value-words}
+use Rattle.jsonview.proofs.Adding.{ready-first}
+use Rattle.jsonview.proofs.Rows.{Rows, Roomy, rows_start, rows-ready, rows_end, rows_step, run-words, roomy-member, adds-next, value-words}
 use Rattle.jsonadds.specs.Place.{Due, WroteTo, AddsTo, Spare, Stays, Counts, array_tables, items_tables, value_tables, named, inside, named_items}
 
 -- ---- lengths

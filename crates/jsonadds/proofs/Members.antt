@@ -21,8 +21,8 @@ use Rattle.jsonroom.specs.declared.Written.{Written}
 use Rattle.jsonruns.proofs.Runs.{same-got, same_rest}
 use Rattle.jsonview.specs.Room.{Ready, Adds, numbers, beyond, leaving}
 use Rattle.jsonview.specs.Filling.{numbers-beyond}
-use Rattle.jsonview.specs.Adding.{ready-first, ready-second, adds_then}
-use Rattle.jsonview.specs.Rows.{Rows, Roomy, rows_start, rows-ready, rows_end, rows_step, run-words, roomy-member, adds-next, plus_assoc, value-words, string-words}
+use Rattle.jsonview.proofs.Adding.{ready-first, ready-second, adds_then}
+use Rattle.jsonview.proofs.Rows.{Rows, Roomy, rows_start, rows-ready, rows_end, rows_step, run-words, roomy-member, adds-next, plus_assoc, value-words, string-words}
 use Rattle.jsonsort.specs.Sort.{Stands, Cells, none, more}
 use Rattle.jsonadds.specs.Place.{Due, WroteTo, Spare, Stays, value_tables, parts_tables, named, inside, NameDue, NameWritten, PartsDue, PartsWritten}
 use Rattle.jsonadds.proofs.Items.{free, value-one}

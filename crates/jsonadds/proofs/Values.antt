@@ -25,8 +25,8 @@ use Rattle.jsoncount.specs.Sizes.{object_read, braced_read}
 use Rattle.jsoncount.proofs.Nested.{has_level, value-below, array-is, scalar_is, braced-is, object-is, entity-is, extension-is}
 use Rattle.jsonview.specs.Room.{Ready, Adds, numbers}
 use Rattle.jsonview.specs.Showing.{grown-value}
-use Rattle.jsonview.specs.Adding.{ready-first, ready-second, adds_then}
-use Rattle.jsonview.specs.Rows.{plus_assoc, ready-values, member-words}
+use Rattle.jsonview.proofs.Adding.{ready-first, ready-second, adds_then}
+use Rattle.jsonview.proofs.Rows.{plus_assoc, ready-values, member-words}
 use Rattle.jsonadds.specs.declared.Many.{Many}
 use Rattle.jsonadds.specs.Place.{Due, WroteTo, AddsTo, Spare, Stays, CountTold, SortTold, PartsDue, PartsWritten, array_tables, array_value, object_value, items_tables, parts_tables, value_tables, named, named_items, named_members}
 use Rattle.jsonadds.proofs.Items.{items-long, many-items}

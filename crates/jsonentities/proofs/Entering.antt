@@ -20,7 +20,7 @@ use Rattle.jsonruns.proofs.Runs.{same-got}
 use Rattle.jsoncount.specs.Sizes.{entity_read}
 use Rattle.jsonview.specs.Room.{numbers}
 use Rattle.jsonview.specs.Showing.{adds_none}
-use Rattle.jsonview.specs.Rows.{plus_assoc, plus_none, none-plus}
+use Rattle.jsonview.proofs.Rows.{plus_assoc, plus_none, none-plus}
 use Rattle.jsonadds.specs.Place.{Stays}
 use Rattle.jsonadds.proofs.Named.{named-ordered}
 use Rattle.jsonentry.specs.Marks.{MarkReady, MarkAdds}

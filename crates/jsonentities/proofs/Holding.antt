@@ -18,8 +18,8 @@ use Rattle.jsonruns.proofs.Runs.{same-got}
 use Rattle.jsoncount.specs.Sizes.{object_read, entity_read}
 use Rattle.jsoncount.proofs.Triples.{byte-below, byte_left, Fielded, fielded}
 use Rattle.jsonview.specs.Room.{Ready, Adds, beyond, numbers}
-use Rattle.jsonview.specs.Adding.{ready-first, ready-second}
-use Rattle.jsonview.specs.Rows.{adds-next, value-words}
+use Rattle.jsonview.proofs.Adding.{ready-first, ready-second}
+use Rattle.jsonview.proofs.Rows.{adds-next, value-words}
 use Rattle.jsonadds.specs.Place.{PlaceDue, Placed, object_value, named, named_members}
 use Rattle.jsonadds.proofs.Items.{value-one}
 use Rattle.jsonentry.specs.Marks.{MarkReady, MarkAdds}

@@ -20,8 +20,8 @@ use Rattle.jsonruns.proofs.Runs.{same-got}
 use Rattle.jsoncount.specs.Sizes.{entity_read}
 use Rattle.jsoncount.proofs.Triples.{byte-below, byte_left, Tripled, tripled}
 use Rattle.jsonview.specs.Room.{Adds, beyond, numbers}
-use Rattle.jsonview.specs.Adding.{ready-first, ready-second}
-use Rattle.jsonview.specs.Rows.{adds-next, string-words}
+use Rattle.jsonview.proofs.Adding.{ready-first, ready-second}
+use Rattle.jsonview.proofs.Rows.{adds-next, string-words}
 use Rattle.jsonadds.specs.Place.{Due, WroteTo, name_tables}
 use Rattle.jsonentry.specs.Marks.{MarkReady, MarkAdds}
 use Rattle.jsonentry.specs.Marking.{mark-none, mark-then, mark-ready-first, mark-ready-second}

@@ -17,7 +17,7 @@ use Rattle.jsonview.specs.Cells.{writing, write-nothing}
 use Rattle.jsonview.specs.Room.{Room, Shows, filled, beyond, Fit, Grown, Ready, numbers}
 use Rattle.jsonview.specs.Filling.{numbers-beyond}
 use Rattle.jsonview.specs.Showing.{in_lists, same-room, same_next, with_none}
-use Rattle.jsonview.specs.Rows.{shows-long}
+use Rattle.jsonview.proofs.Rows.{shows-long}
 use Rattle.jsonentry.specs.Marks.{marks_of, MarkReady, MarkAdds}
 use Rattle.jsonentry.specs.NoLists.{ButLists, adds_but, no-lists}
 use Rattle.jsonentities.specs.Order.{arranged_item}

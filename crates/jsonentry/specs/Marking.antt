@@ -9,7 +9,7 @@ use Rattle.jsonroom.specs.declared.Next.{Next}
 use Rattle.jsonview.specs.Cells.{write, write_then, write-long, write-nothing}
 use Rattle.jsonview.specs.Room.{Adds, beyond, filled, Fit}
 use Rattle.jsonview.specs.Filling.{map-append}
-use Rattle.jsonview.specs.Adding.{fit-first, fit-second, fit-alike, filled-long, adds_then, ready-first, ready-second}
+use Rattle.jsonview.proofs.Adding.{fit-first, fit-second, fit-alike, filled-long, adds_then, ready-first, ready-second}
 use Rattle.jsonentry.specs.Marks.{marks_of, MarkReady, MarkAdds}
 
 -- ---- how many marks

@@ -20,8 +20,8 @@ use Rattle.jsonruns.proofs.Runs.{same-got}
 use Rattle.jsoncount.specs.Sizes.{entity_read}
 use Rattle.jsonview.specs.Room.{Ready, Adds, numbers}
 use Rattle.jsonview.specs.Filling.{numbers-beyond}
-use Rattle.jsonview.specs.Adding.{ready-first, ready-second, adds_then}
-use Rattle.jsonview.specs.Rows.{adds-next}
+use Rattle.jsonview.proofs.Adding.{ready-first, ready-second, adds_then}
+use Rattle.jsonview.proofs.Rows.{adds-next}
 use Rattle.jsonentry.specs.declared.Fields.{Fields}
 use Rattle.jsonentry.specs.declared.Several.{Several}
 use Rattle.jsonentry.specs.Fields.{Stands, MayStand, FieldsStand}

@@ -29,7 +29,7 @@ use Rattle.jsonruns.proofs.Runs.{then_of, due_of, wanted, same-got, text-string,
 use Rattle.jsoncount.proofs.Triples.{byte-below, byte_left}
 use Rattle.jsonview.specs.Room.{numbers}
 use Rattle.jsonview.specs.Showing.{adds_none}
-use Rattle.jsonview.specs.Rows.{string-words}
+use Rattle.jsonview.proofs.Rows.{string-words}
 use Rattle.jsonadds.specs.Place.{TwoDue, TwoWritten}
 use Rattle.jsonadds.proofs.Items.{Others, others_of_lem}
 use Rattle.jsonentry.specs.declared.Fields.{Fields}

@@ -26,7 +26,7 @@ use Rattle.jsonruns.proofs.Runs.{due_of}
 use Rattle.jsonview.specs.Cells.{write, write-nothing}
 use Rattle.jsonview.specs.Room.{Room, Shows, filled, beyond, numbers, Fit, Grown, Adds}
 use Rattle.jsonview.specs.Showing.{in_points, same-room, same_next, with_none}
-use Rattle.jsonview.specs.Rows.{plus_assoc, shows-long}
+use Rattle.jsonview.proofs.Rows.{plus_assoc, shows-long}
 use Rattle.jsonadds.specs.Place.{IntegerTold}
 use Rattle.jsonentry.specs.declared.Fields.{Fields}
 use Rattle.jsonentry.specs.Fields.{FieldsTold, FieldsStand}

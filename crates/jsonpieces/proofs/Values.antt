@@ -20,8 +20,8 @@ use Rattle.jsoncount.proofs.Triples.{Fielded, fielded, byte-below, byte_left}
 use Rattle.jsonview.specs.Room.{Ready, Adds, numbers, beyond}
 use Rattle.jsonview.specs.Filling.{numbers-beyond}
 use Rattle.jsonview.specs.Showing.{adds_none}
-use Rattle.jsonview.specs.Adding.{ready-first, ready-second, adds_then}
-use Rattle.jsonview.specs.Rows.{adds-next, value-words}
+use Rattle.jsonview.proofs.Adding.{ready-first, ready-second, adds_then}
+use Rattle.jsonview.proofs.Rows.{adds-next, value-words}
 use Rattle.jsonadds.specs.Place.{PlaceDue, Placed, object_value, value_tables, named, named_members}
 use Rattle.jsonadds.proofs.Items.{value-one}
 use Rattle.jsonentry.specs.Fields.{Stands, StandsThere, MayStand}

@@ -2,5 +2,3 @@ pub mod Cells
 pub mod Room
 pub mod Filling
 pub mod Showing
-pub mod Adding
-pub mod Rows

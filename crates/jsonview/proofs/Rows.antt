@@ -10,7 +10,7 @@ use Rattle.jsontrace.specs.Trace.{Tables, empty, ◌⊕◌, members}
 use Rattle.jsontrace.proofs.Laws.Trace.{Long, long-append, Shaped, ◌then◌, shaped-empty, shaped-members}
 use Rattle.jsonview.specs.Room.{Room, Shows, filled, beyond, Fit, Ready, Adds, leaving, Running}
 use Rattle.jsonview.specs.Filling.{beyond-beyond}
-use Rattle.jsonview.specs.Adding.{Alike, filled-long, fit-alike, fit-first, fit-second, fit-run, after_run, run-start, run-child, run-member, run_end}
+use Rattle.jsonview.proofs.Adding.{Alike, filled-long, fit-alike, fit-first, fit-second, fit-run, after_run, run-start, run-child, run-member, run_end}
 
 -- ---- tables continued
 

@@ -1,7 +1,7 @@
 //! Links the archive of the proved calls, libcapi.a.
 //!
 //! `GALIVODERN_LIB_DIR` names a folder that has one. Without it tools/archive says where one is: in
-//! prebuilt/, where that fits the sources, else under target/, proved and compiled for this build.
+//! prebuilt/, where that fits the sources, else in crates/capi/out/, proved and compiled for this build.
 
 use std::path::{Path, PathBuf};
 use std::process::Command;

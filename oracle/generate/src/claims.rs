@@ -26,7 +26,7 @@ asked file point node start steps room work = record {
 }
 
 given : {A : Type 0} → Result A → Said A × List ℕ × List ℕ
-given r = (r .said, r .workspace, r .output)
+given r = (r.said, r.workspace, r.output)
 ";
 }
 
@@ -35,13 +35,9 @@ const BESIDES: [&str; 10] =
     ["Lib", "Laws", "Examples", "CarriedExamples", "Written", "Single", "Demands", "Calls01", "Readings", "Undotted"];
 
 const NAMES: &str = "-- Claims over the definition: what the model says, by computation
-use mathlib.Core.Path.{_≡_, refl}
-use mathlib.Core.Bool.{Bool, true, false}
-use mathlib.Core.List.{List, [], _∷_, _++_}
-use Prim.Native.Nat.{ℕ, zero, suc}
-use lib.ListN.{replicate}
-use Rattle·meaning.specs.declared.Limits.{Limits}
-use Rattle·meaning.specs.Calls.{Call, Said, gives, refuses, Result, verdict, number}
+use Rattle.std.specs.Prelude.{◌≡◌, refl, Bool, true, false, List, [], ◌∷◌, ◌++◌, ℕ, zero, suc, replicate}
+use Rattle.meaning.specs.declared.Limits.{Limits}
+use Rattle.meaning.specs.Calls.{Call, Said, gives, refuses, Result, verdict, number}
 ";
 
 impl Definitions {
@@ -70,7 +66,7 @@ impl Definitions {
                 .zip(&renamed)
                 .map(|(name, own)| if name == own { name.clone() } else { format!("{name} as {own}") })
                 .collect();
-            writeln!(text, "use Rattle·meaning.specs.{module}.{{{}}}", brought.join(", ")).expect("a string takes all");
+            writeln!(text, "use Rattle.meaning.specs.{module}.{{{}}}", brought.join(", ")).expect("a string takes all");
             every.extend(renamed);
         }
         let unfolding = every.join(" ");
@@ -81,7 +77,7 @@ impl Definitions {
 
 /// A name that no other file has: `under` of Case is `under·Case`. Operators are unique as they are.
 fn renamed(name: &str, module: &str) -> String {
-    if name.starts_with('_') {
+    if name.starts_with('◌') {
         name.to_string()
     } else {
         format!("{name}·{module}")

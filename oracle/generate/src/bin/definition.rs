@@ -156,11 +156,11 @@ fn asked(call: &Call, bytes: &[u8]) -> Claim {
     let said = said(call.kind, &done.outcome);
     let (workspace, output) = (list(done.workspace.iter().copied()), list(done.output.iter().copied()));
     let left = match call.kind {
-        Kind::Ask => format!("given (askCall·Calls {lent})"),
+        Kind::Ask => format!("given (ask_call·Calls {lent})"),
         Kind::Rows | Kind::Check => {
             let binders = list(call.binders.iter().map(|&x| u64::from(x)));
             let before = list((0..call.output).map(output_fill));
-            format!("given (rowsCall·Calls ({binders}) ({before}) {lent})")
+            format!("given (rows_call·Calls ({binders}) ({before}) {lent})")
         }
     };
     Claim { bytes: bytes.to_vec(), left, right: format!("({said}, {workspace}, {output})"), question: true }
@@ -217,5 +217,5 @@ fn checked(bytes: Vec<u8>, refusal: u32) -> Claim {
         }
         _ => format!("refuses {refusal} 0 0"),
     };
-    Claim { bytes, left: "checkCall·Calls BYTES".to_string(), right, question: false }
+    Claim { bytes, left: "check_call·Calls BYTES".to_string(), right, question: false }
 }

@@ -17,7 +17,7 @@
  *     returned 0, unchanged since. The other calls take any bytes;
  *   - 768 KiB of stack are left (GALIVODERN_STACK_BYTES). How deep calls go is bounded by the
  *     limits on a value's depth and a node's height; the deepest cases known stay below
- *     680 KiB for an export, 568 to write, 384 for a question, 152 for a check and 48 for an
+ *     720 KiB for an export, 568 to write, 384 for a question, 200 for a check and 48 for an
  *     import, on x86-64 (tests/c/stack.c runs them on threads of these sizes).
  *
  * Link libgalivodern.a: tools/install puts it in place, with a file for

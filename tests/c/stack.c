@@ -19,11 +19,11 @@
 #define POINTS 520u
 
 /* what galivodern.h states of each call; all of it is below GALIVODERN_STACK_BYTES */
-#define CHECK_BYTES (152u * 1024u)
+#define CHECK_BYTES (200u * 1024u)
 #define QUESTION_BYTES (384u * 1024u)
 #define WRITE_BYTES (568u * 1024u)
 #define IMPORT_BYTES (48u * 1024u)
-#define EXPORT_BYTES (680u * 1024u)
+#define EXPORT_BYTES (720u * 1024u)
 
 #define MOST_HEIGHT 64u
 

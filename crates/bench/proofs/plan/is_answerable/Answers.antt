@@ -1,0 +1,13 @@
+use Rattle.std.proofs.Common.{rules}
+use Rattle.laws.specs.Checked.{checked-bodies}
+use Rattle.bench.proofs.Last.{condition-last, aggregate-last}
+use Rattle.bench.proofs.plan.is_answerable.Goals as goal
+
+pub node_word-kind-requires : goal.node_word-kind-requires
+node_word-kind-requires c = search (checked-bodies, rules)
+
+pub returns-then-both : goal.returns-then-both
+returns-then-both c = search (condition-last, rules)
+
+pub returns : goal.returns
+returns c = search (aggregate-last, rules)

@@ -1,5 +1,5 @@
 -- A rule for each part of a list or a buffer that a call is lent, and for a call that there is room for
-use Rattle.std.proofs.Common.{◌≡◌, ℕ, ◌*◌, ◌<◌, ◌≤◌, Bool, true, false, not, leb, List, length, take, ◌∙◌, arith, length-take-le, leb-true}
+use Rattle.std.proofs.Common.{◌≡◌, ℕ, ◌*◌, ◌≤◌, Bool, true, false, not, leb, List, length, take, ◌∙◌, arith, length-take-le, leb-true}
 use borrow.Author.Tests.{not-false}
 use Rattle.replay.specs.declared.listed.Listed.{Listed}
 use Rattle.replay.specs.Known.{Known}
@@ -22,9 +22,6 @@ parts-read l l' same e h = first_read l l' same e (omega arith)
 
 pub known : {c : Listed} {r : Bool} → (r ≡ true → Known c) → not r ≡ false → Known c
 known {r = r} h e = h (not-false r e)
-
-pub known-numbers : {c : Listed} {r : Bool} → (r ≡ true → Known c) → not r ≡ false → (c.kind < 3) × (c.refusal < 14)
-known-numbers h e = let k = known h e in (k.kind, k.refusal)
 
 pub known_by : {c : Listed} → c.kind ≤ 2 → c.refusal ≤ 13 → c.start ≤ 64 → c.binders ≤ 64 → c.workspace ≤ 1600 → c.output ≤ 1600 → leb c.filled 256 ≡ true → Known c
 known_by k r s b w o f = record { kind = omega arith; refusal = omega arith; start = s; binders = b; workspace = w; output = o; filled = leb-true _ _ f }

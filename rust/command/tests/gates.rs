@@ -195,6 +195,8 @@ fn files_are_written_whole_or_not_at_all() {
     assert!(std::fs::symlink_metadata(path("link.bin")).is_ok_and(|there| there.is_symlink()));
     assert_eq!(std::fs::metadata(&case).expect("it is there").permissions().mode() & 0o777, 0o640);
     assert!(names_in(&folder).iter().all(|name| !name.ends_with(".tmp")), "{:?}", names_in(&folder));
+    // `rt ci` refuses a link below the checkout, so none is left behind.
+    std::fs::remove_file(path("link.bin")).expect("it is ours");
 }
 
 /// The new file takes the place of the old one at once: one that is read meanwhile stays as it is.

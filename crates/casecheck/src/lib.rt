@@ -26,53 +26,42 @@ pub struct Contents {
     pub nodes: u32,
 }
 
-#[derive(Clone, Copy)]
-pub enum Checking {
-    Passes(Contents),
-    Refused(Refusal),
-}
-
 fn contents_of(s: &[u8]) -> Contents
     requires { bodies s.now ≡ true }
     ensures { result ≡ contents_of s.now }
 {
-    let vars = var_count(s);
-    let strings = string_count(s);
-    let values = value_count(s);
-    let points = point_count(s);
-    let nodes = node_count(s);
     Contents {
-        vars: vars,
-        strings: strings,
-        values: values,
-        points: points,
-        nodes: nodes,
+        vars: var_count(s),
+        strings: string_count(s),
+        values: value_count(s),
+        points: point_count(s),
+        nodes: node_count(s),
     }
 }
 
-pub fn check(file: &[u8]) -> Checking
+pub fn check(file: &[u8]) -> Result<Contents, Refusal>
     ensures { result ≡ as_checking file.now }
 {
     if !check_bodies(file) {
-        return Checking::Refused(Refusal::BadContents);
+        return Err(Refusal::BadContents);
     }
     if !check_mosts(file) {
-        return Checking::Refused(Refusal::TooLarge);
+        return Err(Refusal::TooLarge);
     }
     if !check_strings(file) {
-        return Checking::Refused(Refusal::BadStrings);
+        return Err(Refusal::BadStrings);
     }
     if !check_values(file) {
-        return Checking::Refused(Refusal::BadValues);
+        return Err(Refusal::BadValues);
     }
     let tops = list_tops(file);
     if !check_points(file, &tops) {
-        return Checking::Refused(Refusal::BadPoints);
+        return Err(Refusal::BadPoints);
     }
     let undotted = free_strings(file, 46);
     let paths = path_blocks(file, &undotted);
     if !check_nodes(file, &tops, &undotted, &paths) {
-        return Checking::Refused(Refusal::BadNodes);
+        return Err(Refusal::BadNodes);
     }
-    Checking::Passes(contents_of(file))
+    Ok(contents_of(file))
 }

@@ -1,5 +1,5 @@
 -- The check answers the first refusal of the rules in their order, or what the file holds
-use Rattle.std.proofs.Common.{rules}
+use Rattle.std.proofs.Common.{rules, Ok, Err}
 use Prim.Native.Nat.{ℕ}
 use mathlib.Core.Bool.{false, true}
 use mathlib.Core.List.{List}
@@ -13,14 +13,13 @@ use Rattle.meaning.specs.Tests.{all_below}
 use Rattle.meaning.specs.declared.Refusal.{Refusal}
 use Rattle.meaning.specs.declared.Refusal.TheVariants.{BadContents, TooLarge, BadStrings, BadValues, BadPoints, BadNodes}
 use Rattle.casecheck.specs.declared.Contents.{Contents}
-use Rattle.casecheck.specs.declared.Checking.TheVariants.{Passes, Refused}
 use Rattle.casecheck.proofs.check.Goals as goal
 
-refused : (s : List ℕ) (r : Refusal) → check s ≡ some r → Refused r ≡ as_checking s
+refused : (s : List ℕ) (r : Refusal) → check s ≡ some r → Err r ≡ as_checking s
 unfolding as_checking answer
 refused s r e = rw e refl
 
-passes : (s : List ℕ) (k : Contents) → check s ≡ none → k ≡ contents_of s → Passes k ≡ as_checking s
+passes : (s : List ℕ) (k : Contents) → check s ≡ none → k ≡ contents_of s → Ok k ≡ as_checking s
 unfolding as_checking answer
 passes s k e f = rw (e, f) refl
 

@@ -1,4 +1,5 @@
 -- The characters of a string, one after another
+use Rattle.std.specs.Prelude.{Result, Ok, Err}
 use mathlib.Core.Path.{◌≡◌, refl, sym, ap, ◌∙◌}
 use mathlib.Core.Bool.{Bool, true, false, not}
 use mathlib.Core.List.{List, [], ◌∷◌, ◌++◌}
@@ -14,14 +15,11 @@ use Rattle.meaning.specs.declared.Due.{Due}
 use Rattle.meaning.specs.declared.Due.TheVariants.{Nothing, One, Two, Three, AfterE0, AfterEd, AfterF0, AfterF4, Wrong as Never}
 use Rattle.jsontext.specs.declared.Fault.{Fault}
 use Rattle.jsontext.specs.declared.Fault.TheVariants.{NotJson}
-use Rattle.jsontext.specs.declared.Step.{Step}
-use Rattle.jsontext.specs.declared.Step.TheVariants.{At, Bad}
-use Rattle.jsontext.specs.Reading.{Read, got, then, no, mapped, want}
+use Rattle.jsontext.specs.declared.Bad.{Bad}
+use Rattle.jsontext.specs.Reading.{Read, got, then, no, mapped, want, wrong}
 use Rattle.jsontext.specs.Strings.{utf8_of, escape, is_wrong, chars, string}
 use Rattle.jsonread.specs.declared.strings.Mark.{Mark}
 use Rattle.jsonread.specs.declared.strings.Mark.TheVariants.{Quote, Backslash, Control, Byte}
-use Rattle.jsonread.specs.declared.strings.Escape.{Escape}
-use Rattle.jsonread.specs.declared.strings.Escape.TheVariants.{For, Wrong}
 use Rattle.jsonread.specs.Told.{Told, CharTold, mark_of}
 use Rattle.jsonread.proofs.Places.{byte_at, no-here, told_at, told_bad, wrong-here, told_of, fault-then, then_is}
 
@@ -96,7 +94,7 @@ pub record Reads (line : List ℕ) (at : ℕ) (d : Due) (i : ℕ) : Type 0 where
   pub within : i ≤ length line
   pub turns : ℕ
   pub enough : length line - i < turns
-  pub goes : (r : Step) → Told line i r (chars turns d (drop i line)) → Told line at r (whole line at)
+  pub goes : (r : Result ℕ Bad) → Told line i r (chars turns d (drop i line)) → Told line at r (whole line at)
 
 pub chars-start : {line : List ℕ} {at : ℕ} → at ≤ length line → Reads line at Nothing at
 chars-start {line} {at} h = record { from = omega arith; within = h; turns = suc (length (drop at line)); enough = omega (arith, length-drop at line); goes = λ r t. t }
@@ -106,19 +104,19 @@ unfolding chars
 chars-none turns d = refl
 
 -- more bytes after some
-pub told_more : {A B : Type 0} {line : List ℕ} {i : ℕ} {r : Step} {m : Read A} (f : A → B) → Told line i r m → Told line i r (mapped f m)
+pub told_more : {A B : Type 0} {line : List ℕ} {i : ℕ} {r : Result ℕ Bad} {m : Read A} (f : A → B) → Told line i r m → Told line i r (mapped f m)
 told_more f t =
     record {
       stands = λ e q. let s = t.stands e q in record { what = f s.what; from = s.from; within = s.within; is = then_is (λ a rest. got (f a) rest) s.is };
-      faulty = λ w p k q. fault-then (λ a rest. got (f a) rest) (t.faulty w p k q);
+      faulty = λ b q. fault-then (λ a rest. got (f a) rest) (t.faulty b q);
     }
 
 module _ {line : List ℕ} {at i : ℕ} {d : Due} (g : Reads line at d i) where
   by-turns : chars g.turns d (drop i line) ≡ chars (suc (g.turns - 1)) d (drop i line)
   by-turns = let k : g.turns ≡ suc (g.turns - 1) = omega (arith, g.enough) in ap (λ (n : ℕ). chars n d (drop i line)) k
 
-  pub chars-end : length line ≤ i → Told line at (Bad NotJson i i) (whole line at)
-  chars-end h = g.goes (Bad NotJson i i) (wrong-here g.within (by-turns ∙ rw (drop_of_length-le line h) (chars-none (g.turns - 1) d)))
+  pub chars-end : length line ≤ i → Told line at (Err (wrong NotJson i)) (whole line at)
+  chars-end h = g.goes (Err (wrong NotJson i)) (wrong-here g.within (by-turns ∙ rw (drop_of_length-le line h) (chars-none (g.turns - 1) d)))
 
   module _ {k : Mark} (h : i < length line) (q : k ≡ mark_of d (get_or line i 0)) where
     here : chars g.turns d (drop i line) ≡ turn k (g.turns - 1) d (get_or line i 0) (drop (i + 1) line)
@@ -127,23 +125,23 @@ module _ {line : List ℕ} {at i : ℕ} {d : Due} (g : Reads line at d i) where
     turned : {m : Mark} → k ≡ m → chars g.turns d (drop i line) ≡ turn m (g.turns - 1) d (get_or line i 0) (drop (i + 1) line)
     turned e = here ∙ ap (λ (k : Mark). turn k (g.turns - 1) d (get_or line i 0) (drop (i + 1) line)) e
 
-    pub chars-quote : k ≡ Quote → Told line at (At (i + 1)) (whole line at)
+    pub chars-quote : k ≡ Quote → Told line at (Ok (i + 1)) (whole line at)
     unfolding turn
-    chars-quote e = g.goes (At (i + 1)) (told_at (record { what = []; from = omega arith; within = omega arith; is = turned e }))
+    chars-quote e = g.goes (Ok (i + 1)) (told_at (record { what = []; from = omega arith; within = omega arith; is = turned e }))
 
-    pub chars-control : k ≡ Control → Told line at (Bad NotJson i i) (whole line at)
+    pub chars-control : k ≡ Control → Told line at (Err (wrong NotJson i)) (whole line at)
     unfolding turn
-    chars-control e = g.goes (Bad NotJson i i) (wrong-here g.within (turned e ∙ no-here NotJson line i h))
+    chars-control e = g.goes (Err (wrong NotJson i)) (wrong-here g.within (turned e ∙ no-here NotJson line i h))
 
-    module _ (e : k ≡ Backslash) {x : Escape} (t : CharTold line (i + 1 + 1) x (escape (drop (i + 1) line))) where
-      pub chars-escape_bad : {p : ℕ} → x ≡ Wrong p → Told line at (Bad NotJson p p) (whole line at)
+    module _ (e : k ≡ Backslash) {x : Result (ℕ × ℕ) Bad} (t : CharTold line (i + 1 + 1) x (escape (drop (i + 1) line))) where
+      pub chars-escape_bad : {p : Bad} → x ≡ Err p → Told line at (Err p) (whole line at)
       unfolding turn
-      chars-escape_bad {p} b = g.goes (Bad NotJson p p) (told_of {i = i} (omega arith) (turned e) (told_bad (fault-then (λ b rest. mapped (λ t. b ++ t) (chars (g.turns - 1) Nothing rest)) (t.wrong _ b))))
+      chars-escape_bad {p} b = g.goes (Err p) (told_of {i = i} (omega arith) (turned e) (told_bad (fault-then (λ b rest. mapped (λ t. b ++ t) (chars (g.turns - 1) Nothing rest)) (t.missing _ b).faulty)))
 
-      pub escape-less : {u j : ℕ} → x ≡ For u j → length line - j < length line - i
+      pub escape-less : {u j : ℕ} → x ≡ Ok (u, j) → length line - j < length line - i
       escape-less b = omega (arith, (t.found _ _ b).from)
 
-      pub chars-escape : {u j : ℕ} → x ≡ For u j → Reads line at d j
+      pub chars-escape : {u j : ℕ} → x ≡ Ok (u, j) → Reads line at d j
       unfolding turn
       chars-escape {u} {j} b =
           let s = t.found _ _ b in
@@ -164,9 +162,9 @@ module _ {line : List ℕ} {at i : ℕ} {d : Due} (g : Reads line at d i) where
       wrongs : is_wrong (next d (get_or line i 0)) ≡ z
       wrongs = ap is_wrong (sym b) ∙ sym y
 
-      pub chars-wrong : z ≡ true → Told line at (Bad NotJson i i) (whole line at)
+      pub chars-wrong : z ≡ true → Told line at (Err (wrong NotJson i)) (whole line at)
       unfolding turn
-      chars-wrong v = g.goes (Bad NotJson i i) (wrong-here g.within (turned e ∙ yes _ (wrongs ∙ v) ∙ no-here NotJson line i h))
+      chars-wrong v = g.goes (Err (wrong NotJson i)) (wrong-here g.within (turned e ∙ yes _ (wrongs ∙ v) ∙ no-here NotJson line i h))
 
       pub chars-byte : z ≡ false → Reads line at f (i + 1)
       unfolding turn
@@ -185,11 +183,11 @@ module _ {line : List ℕ} {at i : ℕ} {d : Due} (g : Reads line at d i) where
 
 -- ---- a string
 
-module _ {line : List ℕ} {at : ℕ} {x : Step} (t : Told line at x (want 34 (drop at line))) where
-  pub string-none : {w : Fault} {p f : ℕ} → x ≡ Bad w p f → Told line at (Bad w p f) (string (drop at line))
+module _ {line : List ℕ} {at : ℕ} {x : Result ℕ Bad} (t : Told line at x (want 34 (drop at line))) where
+  pub string-none : {b : Bad} → x ≡ Err b → Told line at (Err b) (string (drop at line))
   unfolding string
-  string-none e = told_bad (fault-then (λ q rest. chars (suc (length rest)) Nothing rest) (t.faulty _ _ _ e))
+  string-none e = told_bad (fault-then (λ q rest. chars (suc (length rest)) Nothing rest) (t.faulty _ e))
 
-  pub string-chars : {i : ℕ} {r : Step} → x ≡ At i → Told line i r (whole line i) → Told line at r (string (drop at line))
+  pub string-chars : {i : ℕ} {r : Result ℕ Bad} → x ≡ Ok i → Told line i r (whole line i) → Told line at r (string (drop at line))
   unfolding string
   string-chars e u = told_of (t.stands _ e).from (then_is (λ q rest. chars (suc (length rest)) Nothing rest) (t.stands _ e).is) u

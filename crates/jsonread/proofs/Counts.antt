@@ -1,4 +1,5 @@
 -- Digits, and the parts of a number
+use Rattle.std.specs.Prelude.{Result, Ok, Err}
 use mathlib.Core.Path.{◌≡◌, refl, sym, ap, subst, ◌∙◌}
 use mathlib.Core.Bool.{Bool, true, false, not}
 use mathlib.Core.List.{List}
@@ -12,15 +13,12 @@ use Rattle.laws.specs.Tests.{both, yes, no as otherwise}
 use Rattle.meaning.specs.Equal.{is_digit}
 use Rattle.jsontext.specs.declared.Fault.{Fault}
 use Rattle.jsontext.specs.declared.Fault.TheVariants.{NotJson, BadNumber}
-use Rattle.jsontext.specs.declared.Step.{Step}
-use Rattle.jsontext.specs.declared.Step.TheVariants.{At, Bad}
-use Rattle.jsontext.specs.Reading.{Read, got, fault, then, no}
+use Rattle.jsontext.specs.declared.Bad.{Bad}
+use Rattle.jsontext.specs.Reading.{Read, got, fault, then, no, wrong}
 use Rattle.jsontext.specs.Numbers.{digits, some_digits, int, frac, unsigned, exp, fits, signed, integer, parts, magnitude, number}
 use Rattle.jsonread.specs.declared.integers.Digits.{Digits}
-use Rattle.jsonread.specs.declared.integers.Whole.{Whole}
-use Rattle.jsonread.specs.declared.integers.Whole.TheVariants.{Counted, NoDigit}
-use Rattle.jsonread.specs.Told.{Faulty, Told, cap, DigitsTold, IntTold, WholeTold, PartIs, PartTold, Unsigned, others}
-use Rattle.jsonread.proofs.Places.{range-below, range-above, byte_at, told_at, told_bad, wrong-here, told_of, fault-then, then_is}
+use Rattle.jsonread.specs.Told.{Faulty, Lacks, Told, cap, DigitsTold, IntTold, WholeTold, PartIs, PartTold, Unsigned, others}
+use Rattle.jsonread.proofs.Places.{range-below, range-above, byte_at, told_at, told_bad, wrong-here, told_of, fault-then, lacks-here, then_is}
 
 -- ---- a number that is capped
 
@@ -121,7 +119,7 @@ unfolding some_digits
 some_byte line at h = rw (byte_at line at h)
 
 module _ (line : List ℕ) (at : ℕ) where
-  pub some_end : at ≤ length line → length line ≤ at → Told line at (Bad NotJson at at) (some_digits (drop at line))
+  pub some_end : at ≤ length line → length line ≤ at → Told line at (Err (wrong NotJson at)) (some_digits (drop at line))
   unfolding some_digits
   some_end h l = wrong-here h (rw (drop_of_length-le line l))
 
@@ -129,14 +127,14 @@ module _ (line : List ℕ) (at : ℕ) where
     no-digits : not z ≡ true → some_digits (drop at line) ≡ no NotJson (drop at line)
     no-digits e = some_byte line at h ∙ otherwise _ (sym q ∙ not-true z e) refl
 
-    pub some-other : not z ≡ true → Told line at (Bad NotJson at at) (some_digits (drop at line))
+    pub some-other : not z ≡ true → Told line at (Err (wrong NotJson at)) (some_digits (drop at line))
     some-other e = wrong-here (omega arith) (no-digits e)
 
     module _ {w : ℕ} {r : Digits} (e : not z ≡ false) (k : w ≡ get_or line at 0) (t : DigitsTold line (at + 1) (w - 48) r) where
       some-are : some_digits (drop at line) ≡ got t.what (drop r.at line)
       some-are = some_byte line at h ∙ yes _ (sym q ∙ not-false z e) ∙ ap (λ (w : ℕ). digits (w - 48) (drop (at + 1) line)) (sym k) ∙ t.is
 
-      pub some-digits : Told line at (At r.at) (some_digits (drop at line))
+      pub some-digits : Told line at (Ok r.at) (some_digits (drop at line))
       some-digits = told_at (record { what = t.what; from = omega (arith, t.from); within = t.within; is = some-are })
 
 -- ---- an integer's digits
@@ -145,43 +143,43 @@ int-byte : (line : List ℕ) (at : ℕ) → at < length line → int (drop at li
 unfolding int
 int-byte line at h = rw (byte_at line at h)
 
-whole_is : {line : List ℕ} {at : ℕ} {n : Digits} → IntTold line at n → WholeTold line at (Counted n)
+whole_is : {line : List ℕ} {at : ℕ} {n : Digits} → IntTold line at n → WholeTold line at (Ok n)
 whole_is {line} {at} {n} h =
     record {
       counted = λ m q. let z : n ≡ m = cc in subst (λ (m : Digits). IntTold line at m) z h;
       missing = λ p q. absurd (let z : ◌≡◌ {A = ℕ} 0 1 = cc in omega arith);
     }
 
-whole-lacks : {line : List ℕ} {at p : ℕ} → p ≤ length line → int (drop at line) ≡ no NotJson (drop p line) → WholeTold line at (NoDigit p)
+whole-lacks : {line : List ℕ} {at p : ℕ} → p ≤ length line → int (drop at line) ≡ no NotJson (drop p line) → WholeTold line at (Err (wrong NotJson p))
 whole-lacks {line} {at} {p} h e =
     record {
       counted = λ m q. absurd (let z : ◌≡◌ {A = ℕ} 0 1 = cc in omega arith);
-      missing = λ k q. let z : p ≡ k = cc in subst (λ (k : ℕ). Faulty line NotJson k k (int (drop at line))) z (record { place = h; first = h; is = e ∙ rw (length-drop p line) });
+      missing = λ b q. let z : wrong NotJson p ≡ b = cc in subst (λ (b : Bad). Lacks line b (int (drop at line))) z (lacks-here h e);
     }
 
 module _ (line : List ℕ) (at : ℕ) where
-  pub int-end : at ≤ length line → length line ≤ at → WholeTold line at (NoDigit at)
+  pub int-end : at ≤ length line → length line ≤ at → WholeTold line at (Err (wrong NotJson at))
   unfolding int
   int-end h l = whole-lacks h (rw (drop_of_length-le line l))
 
   module _ (h : at < length line) where
-    pub int-zero : get_or line at 0 ≡ 48 → WholeTold line at (Counted (record { value = 0; at = at + 1 }))
+    pub int-zero : get_or line at 0 ≡ 48 → WholeTold line at (Ok (record { value = 0; at = at + 1 }))
     int-zero e = whole_is (record { what = 0; from = omega arith; within = omega arith; is = int-byte line at h ∙ yes _ (eq-eqb _ _ e); value = sym (cap-is 0 (omega arith)) })
 
     module _ {z : Bool} (m : get_or line at 0 ≡ 48 → ⊥) (q : z ≡ is_digit (get_or line at 0)) where
       int-some : int (drop at line) ≡ some_digits (drop at line)
       int-some = int-byte line at h ∙ otherwise _ (ne_eqb _ _ m) refl
 
-      pub int-other : not z ≡ true → WholeTold line at (NoDigit at)
+      pub int-other : not z ≡ true → WholeTold line at (Err (wrong NotJson at))
       int-other e = whole-lacks (omega arith) (int-some ∙ no-digits line at h q e)
 
-      pub int-digits : {w : ℕ} {r : Digits} → not z ≡ false → w ≡ get_or line at 0 → DigitsTold line (at + 1) (w - 48) r → WholeTold line at (Counted r)
+      pub int-digits : {w : ℕ} {r : Digits} → not z ≡ false → w ≡ get_or line at 0 → DigitsTold line (at + 1) (w - 48) r → WholeTold line at (Ok r)
       int-digits e k t = whole_is (record { what = t.what; from = omega (arith, t.from); within = t.within; is = int-some ∙ some-are line at h q e k t; value = t.value })
 
 -- ---- a fraction
 
 -- a part that is there takes a byte at least
-part-there : {line : List ℕ} {at i : ℕ} {r : Step} {m : Read Bool} {n : Read ℕ} → at < i → m ≡ then n (λ k rest. got true rest) → Told line i r n → PartTold line at r m
+part-there : {line : List ℕ} {at i : ℕ} {r : Result ℕ Bad} {m : Read Bool} {n : Read ℕ} → at < i → m ≡ then n (λ k rest. got true rest) → Told line i r n → PartTold line at r m
 part-there {line = line} {at = at} h q t =
     record {
       part =
@@ -189,12 +187,12 @@ part-there {line = line} {at = at} h q t =
           let s = t.stands e k in
           record { from = omega (arith, s.from); within = s.within; is = q ∙ then_is (λ k rest. got true rest) s.is ∙ ap (λ (b : Bool). got b (drop e line)) (sym (lt-ltb at e (omega (arith, s.from)))) };
       faulty =
-          λ w p f k.
-          let s = fault-then (λ k rest. got true rest) (t.faulty w p f k) in
+          λ b k.
+          let s = fault-then (λ k rest. got true rest) (t.faulty b k) in
           record { place = s.place; first = s.first; is = q ∙ s.is };
     }
 
-part_bad : {line : List ℕ} {at p f : ℕ} {w : Fault} {m : Read Bool} → Faulty line w p f m → PartTold line at (Bad w p f) m
+part_bad : {line : List ℕ} {at : ℕ} {b : Bad} {m : Read Bool} → Faulty line b m → PartTold line at (Err b) m
 part_bad {at = at} s =
     let t = told_bad {at = at} s in
     record {
@@ -202,11 +200,11 @@ part_bad {at = at} s =
       faulty = t.faulty;
     }
 
-part_none : {line : List ℕ} {at : ℕ} {m : Read Bool} → at ≤ length line → m ≡ got false (drop at line) → PartTold line at (At at) m
+part_none : {line : List ℕ} {at : ℕ} {m : Read Bool} → at ≤ length line → m ≡ got false (drop at line) → PartTold line at (Ok at) m
 part_none {line} {at} {m} h q =
     record {
       part = λ e k. let z : at ≡ e = cc in subst (λ (e : ℕ). PartIs line at e m) z (record { from = omega arith; within = h; is = q ∙ ap (λ (b : Bool). got b (drop at line)) (sym (le-ltb at at (omega arith))) });
-      faulty = λ w p f k. absurd (let z : ◌≡◌ {A = ℕ} 0 1 = cc in omega arith);
+      faulty = λ b k. absurd (let z : ◌≡◌ {A = ℕ} 0 1 = cc in omega arith);
     }
 
 frac-byte : (line : List ℕ) (at : ℕ) → at < length line → frac (drop at line) ≡ choose (eqb (get_or line at 0) 46) (then (some_digits (drop (at + 1) line)) (λ n rest. got true rest)) (got false (drop at line))
@@ -214,15 +212,15 @@ unfolding frac
 frac-byte line at h = rw (byte_at line at h)
 
 module _ (line : List ℕ) (at : ℕ) where
-  pub frac-end : at ≤ length line → length line ≤ at → PartTold line at (At at) (frac (drop at line))
+  pub frac-end : at ≤ length line → length line ≤ at → PartTold line at (Ok at) (frac (drop at line))
   unfolding frac
   frac-end h l = part_none h (rw (drop_of_length-le line l))
 
   module _ (h : at < length line) where
-    pub frac-none : (get_or line at 0 ≡ 46 → ⊥) → PartTold line at (At at) (frac (drop at line))
+    pub frac-none : (get_or line at 0 ≡ 46 → ⊥) → PartTold line at (Ok at) (frac (drop at line))
     frac-none n = part_none (omega arith) (frac-byte line at h ∙ otherwise _ (ne_eqb _ _ n) refl)
 
-    pub frac-there : {r : Step} → get_or line at 0 ≡ 46 → Told line (at + 1) r (some_digits (drop (at + 1) line)) → PartTold line at r (frac (drop at line))
+    pub frac-there : {r : Result ℕ Bad} → get_or line at 0 ≡ 46 → Told line (at + 1) r (some_digits (drop (at + 1) line)) → PartTold line at r (frac (drop at line))
     frac-there e t = part-there (omega arith) (frac-byte line at h ∙ yes _ (eq-eqb _ _ e)) t
 
 -- ---- an exponent
@@ -254,16 +252,16 @@ unfolding exp
 exp-byte line at h = rw (byte_at line at h)
 
 module _ (line : List ℕ) (at : ℕ) where
-  pub exp-end : at ≤ length line → length line ≤ at → PartTold line at (At at) (exp (drop at line))
+  pub exp-end : at ≤ length line → length line ≤ at → PartTold line at (Ok at) (exp (drop at line))
   unfolding exp
   exp-end h l = part_none h (rw (drop_of_length-le line l))
 
   module _ (h : at < length line) where
-    pub exp-none : (get_or line at 0 ≡ 101 → ⊥) → (get_or line at 0 ≡ 69 → ⊥) → PartTold line at (At at) (exp (drop at line))
+    pub exp-none : (get_or line at 0 ≡ 101 → ⊥) → (get_or line at 0 ≡ 69 → ⊥) → PartTold line at (Ok at) (exp (drop at line))
     unfolding ◌or◌
     exp-none n m = part_none (omega arith) (exp-byte line at h ∙ otherwise _ (rw (ne_eqb _ _ n, ne_eqb _ _ m)) refl)
 
-    module _ {i : ℕ} {r : Step} (u : Unsigned line (at + 1) i) (t : Told line i r (some_digits (drop i line))) where
+    module _ {i : ℕ} {r : Result ℕ Bad} (u : Unsigned line (at + 1) i) (t : Told line i r (some_digits (drop i line))) where
       exponent : (eqb (get_or line at 0) 101 or eqb (get_or line at 0) 69) ≡ true → PartTold line at r (exp (drop at line))
       exponent e = part-there (omega (arith, u.from)) (exp-byte line at h ∙ yes _ e ∙ ap (λ (s : List ℕ). then (some_digits s) (λ n rest. got true rest)) (sym u.is)) t
 
@@ -300,19 +298,19 @@ fits-cap minus v =
         let l : 9223372036854775808 < v = leb-false v 9223372036854775808 e in
         too_great minus (cap v) (omega (arith, cap-beyond v l)) ∙ sym (too_great minus v l)
 
-pub part-within : {line : List ℕ} {at e : ℕ} {x : Step} {m : Read Bool} → PartTold line at x m → x ≡ At e → e ≤ length line
+pub part-within : {line : List ℕ} {at e : ℕ} {x : Result ℕ Bad} {m : Read Bool} → PartTold line at x m → x ≡ Ok e → e ≤ length line
 part-within t q = (t.part _ q).within
 
 -- an exponent after a fraction
 abbrev or_exp : Bool → List ℕ → Read Bool
 or_exp f s = then (exp s) (λ e rest. got (f or e) rest)
 
-module _ {line : List ℕ} {at : ℕ} {x : Step} (t : PartTold line at x (frac (drop at line))) where
-  pub others-frac : {w : Fault} {p q : ℕ} → x ≡ Bad w p q → PartTold line at (Bad w p q) (others (drop at line))
+module _ {line : List ℕ} {at : ℕ} {x : Result ℕ Bad} (t : PartTold line at x (frac (drop at line))) where
+  pub others-frac : {b : Bad} → x ≡ Err b → PartTold line at (Err b) (others (drop at line))
   unfolding others
-  others-frac e = part_bad (fault-then (λ f rest. or_exp f rest) (t.faulty _ _ _ e))
+  others-frac e = part_bad (fault-then (λ f rest. or_exp f rest) (t.faulty _ e))
 
-  module _ {f : ℕ} {y : Step} (e : x ≡ At f) (u : PartTold line f y (exp (drop f line))) where
+  module _ {f : ℕ} {y : Result ℕ Bad} (e : x ≡ Ok f) (u : PartTold line f y (exp (drop f line))) where
     frac-read : others (drop at line) ≡ or_exp (ltb at f) (drop f line)
     unfolding others
     frac-read = then_is (λ f rest. or_exp f rest) (t.part _ e).is
@@ -338,8 +336,8 @@ module _ {line : List ℕ} {at : ℕ} {x : Step} (t : PartTold line at x (frac (
                 is = frac-read ∙ then_is (λ e rest. got (ltb at f or e) rest) s.is ∙ ap (λ (b : Bool). got b (drop g line)) (either s.from);
               };
           faulty =
-              λ w p q k.
-              let s = fault-then (λ e rest. got (ltb at f or e) rest) (u.faulty w p q k) in
+              λ b k.
+              let s = fault-then (λ e rest. got (ltb at f or e) rest) (u.faulty b k) in
               record { place = s.place; first = s.first; is = frac-read ∙ s.is };
         }
 
@@ -356,15 +354,15 @@ parts-others left v minus s =
     go (got f rest) = after f (exp rest)
     go (fault w p q) = refl
 
-module _ (line : List ℕ) (first a : ℕ) (minus : Bool) {x : Step} (v : ℕ) (t : PartTold line a x (others (drop a line))) where
-  pub parts_bad : {w : Fault} {p q : ℕ} → x ≡ Bad w p q → Told line first (Bad w p q) (parts (length line - first) minus v (drop a line))
-  parts_bad e = told_of {i = first} (omega arith) (parts-others (length line - first) v minus (drop a line)) (told_bad (fault-then (λ o rest. integer (length line - first) minus o v rest) (t.faulty _ _ _ e)))
+module _ (line : List ℕ) (first a : ℕ) (minus : Bool) {x : Result ℕ Bad} (v : ℕ) (t : PartTold line a x (others (drop a line))) where
+  pub parts_bad : {b : Bad} → x ≡ Err b → Told line first (Err b) (parts (length line - first) minus v (drop a line))
+  parts_bad e = told_of {i = first} (omega arith) (parts-others (length line - first) v minus (drop a line)) (told_bad (fault-then (λ o rest. integer (length line - first) minus o v rest) (t.faulty _ e)))
 
-  module _ {g : ℕ} (k : x ≡ At g) where
+  module _ {g : ℕ} (k : x ≡ Ok g) where
     others-read : parts (length line - first) minus v (drop a line) ≡ integer (length line - first) minus (ltb a g) v (drop g line)
     others-read = parts-others (length line - first) v minus (drop a line) ∙ then_is (λ o rest. integer (length line - first) minus o v rest) (t.part _ k).is
 
-    pub parts-there : first ≤ a → a ≤ length line → a < g → Told line first (Bad BadNumber first first) (parts (length line - first) minus v (drop a line))
+    pub parts-there : first ≤ a → a ≤ length line → a < g → Told line first (Err (wrong BadNumber first)) (parts (length line - first) minus v (drop a line))
     unfolding integer
     parts-there s l h = told_bad (record { place = omega arith; first = omega arith; is = others-read ∙ yes _ (lt-ltb a g h) })
 
@@ -372,28 +370,28 @@ module _ (line : List ℕ) (first a : ℕ) (minus : Bool) {x : Step} (v : ℕ) (
       fit_is : fits minus v ≡ z
       fit_is = sym (fits-cap minus v) ∙ ap (fits minus) (sym c) ∙ sym q
 
-      pub parts-fit : first ≤ a → z ≡ true → Told line first (At g) (parts (length line - first) minus v (drop a line))
+      pub parts-fit : first ≤ a → z ≡ true → Told line first (Ok g) (parts (length line - first) minus v (drop a line))
       unfolding integer
       parts-fit s b = told_at (record { what = signed minus v; from = omega (arith, (t.part _ k).from); within = (t.part _ k).within; is = others-read ∙ otherwise _ (le-ltb a g h) (yes _ (fit_is ∙ b)) })
 
-      pub parts_unfit : first ≤ a → a ≤ length line → z ≡ false → Told line first (Bad BadNumber first first) (parts (length line - first) minus v (drop a line))
+      pub parts_unfit : first ≤ a → a ≤ length line → z ≡ false → Told line first (Err (wrong BadNumber first)) (parts (length line - first) minus v (drop a line))
       unfolding integer
       parts_unfit s l b = told_bad (record { place = omega arith; first = omega arith; is = others-read ∙ otherwise _ (le-ltb a g h) (otherwise _ (fit_is ∙ b) refl) })
 
 -- ---- after the sign, and with it
 
-pub counted-from : {line : List ℕ} {at first : ℕ} {x : Whole} {n : Digits} → first ≤ at → WholeTold line at x → x ≡ Counted n → first ≤ n.at
+pub counted-from : {line : List ℕ} {at first : ℕ} {x : Result Digits Bad} {n : Digits} → first ≤ at → WholeTold line at x → x ≡ Ok n → first ≤ n.at
 counted-from h t q = omega (arith, (t.counted _ q).from)
 
-pub counted-within : {line : List ℕ} {at : ℕ} {x : Whole} {n : Digits} → WholeTold line at x → x ≡ Counted n → n.at ≤ length line
+pub counted-within : {line : List ℕ} {at : ℕ} {x : Result Digits Bad} {n : Digits} → WholeTold line at x → x ≡ Ok n → n.at ≤ length line
 counted-within t q = (t.counted _ q).within
 
-module _ (line : List ℕ) (first at : ℕ) (minus : Bool) {x : Whole} (t : WholeTold line at x) where
-  pub magnitude-none : {p : ℕ} → x ≡ NoDigit p → Told line first (Bad NotJson p p) (magnitude (length line - first) minus (drop at line))
+module _ (line : List ℕ) (first at : ℕ) (minus : Bool) {x : Result Digits Bad} (t : WholeTold line at x) where
+  pub magnitude-none : {b : Bad} → x ≡ Err b → Told line first (Err b) (magnitude (length line - first) minus (drop at line))
   unfolding magnitude
-  magnitude-none e = told_bad (fault-then (λ n rest. parts (length line - first) minus n rest) (t.missing _ e))
+  magnitude-none e = told_bad (fault-then (λ n rest. parts (length line - first) minus n rest) (t.missing _ e).faulty)
 
-  pub magnitude-parts : {n : Digits} {r : Step} → x ≡ Counted n → ((v : ℕ) → n.value ≡ cap v → Told line first r (parts (length line - first) minus v (drop n.at line))) → Told line first r (magnitude (length line - first) minus (drop at line))
+  pub magnitude-parts : {n : Digits} {r : Result ℕ Bad} → x ≡ Ok n → ((v : ℕ) → n.value ≡ cap v → Told line first r (parts (length line - first) minus v (drop n.at line))) → Told line first r (magnitude (length line - first) minus (drop at line))
   unfolding magnitude
   magnitude-parts e u =
       let i = t.counted _ e in
@@ -406,11 +404,11 @@ number-byte line at h =
     rw (← k, byte_at line at h)
 
 module _ (line : List ℕ) (at : ℕ) where
-  pub number-end : at ≤ length line → length line ≤ at → Told line at (Bad NotJson at at) (number (drop at line))
+  pub number-end : at ≤ length line → length line ≤ at → Told line at (Err (wrong NotJson at)) (number (drop at line))
   unfolding number
   number-end h l = wrong-here h (rw (drop_of_length-le line l))
 
-  module _ {r : Step} (h : at < length line) where
+  module _ {r : Result ℕ Bad} (h : at < length line) where
     pub number-minus : get_or line at 0 ≡ 45 → Told line at r (magnitude (length line - at) true (drop (at + 1) line)) → Told line at r (number (drop at line))
     number-minus e t = told_of (omega arith) (number-byte line at h ∙ yes _ (eq-eqb _ _ e)) t
 

@@ -1,4 +1,5 @@
 -- Blanks, and a byte that is due
+use Rattle.std.specs.Prelude.{Ok, Err}
 use mathlib.Core.Path.{◌≡◌, refl, sym, ◌∙◌}
 use mathlib.Core.Bool.{Bool, true, false, not}
 use mathlib.Core.List.{List}
@@ -10,8 +11,7 @@ use borrow.Author.Tests.{eq-eqb, ne_eqb, not-true, not-false}
 use Rattle.meaning.specs.Tests.{◌or◌, choose}
 use Rattle.laws.specs.Tests.{yes, no as otherwise}
 use Rattle.jsontext.specs.declared.Fault.TheVariants.{NotJson}
-use Rattle.jsontext.specs.declared.Step.TheVariants.{At, Bad}
-use Rattle.jsontext.specs.Reading.{got, no, is_blank, blanks, want}
+use Rattle.jsontext.specs.Reading.{got, no, is_blank, blanks, want, wrong}
 use Rattle.jsonread.specs.Told.{Told, Blanks}
 use Rattle.jsonread.proofs.Places.{byte_at, told_at, wrong-here}
 
@@ -69,12 +69,12 @@ unfolding want
 want-byte line at b h = rw (byte_at line at h)
 
 module _ (line : List ℕ) (at b : ℕ) where
-  pub want-end : at ≤ length line → length line ≤ at → Told line at (Bad NotJson at at) (want b (drop at line))
+  pub want-end : at ≤ length line → length line ≤ at → Told line at (Err (wrong NotJson at)) (want b (drop at line))
   unfolding want
   want-end h l = wrong-here h (rw (drop_of_length-le line l))
 
-  pub want-there : at < length line → get_or line at 0 ≡ b → Told line at (At (at + 1)) (want b (drop at line))
+  pub want-there : at < length line → get_or line at 0 ≡ b → Told line at (Ok (at + 1)) (want b (drop at line))
   want-there h e = told_at (record { what = get_or line at 0; from = omega arith; within = omega arith; is = want-byte line at b h ∙ yes _ (eq-eqb _ _ e) })
 
-  pub want-other : at < length line → (get_or line at 0 ≡ b → ⊥) → Told line at (Bad NotJson at at) (want b (drop at line))
+  pub want-other : at < length line → (get_or line at 0 ≡ b → ⊥) → Told line at (Err (wrong NotJson at)) (want b (drop at line))
   want-other h n = wrong-here (omega arith) (want-byte line at b h ∙ otherwise _ (ne_eqb _ _ n) refl)

@@ -1,4 +1,5 @@
 -- What a value's first byte says, and values that are told by it
+use Rattle.std.specs.Prelude.{Result, Ok, Err}
 use mathlib.Core.Path.{◌≡◌, refl, sym, ap, ◌∙◌}
 use mathlib.Core.Bool.{Bool, true, false, not}
 use mathlib.Core.List.{List, [], ◌∷◌}
@@ -14,16 +15,15 @@ use Rattle.jsontext.specs.declared.Fault.TheVariants.{NotJson, BadField}
 use Rattle.jsontext.specs.declared.Form.{Form}
 use Rattle.jsontext.specs.declared.Form.TheVariants.{Plain, Entity, Extension}
 use Rattle.jsontext.specs.declared.Side.TheVariants.{Outside}
-use Rattle.jsontext.specs.declared.Step.{Step}
-use Rattle.jsontext.specs.declared.Step.TheVariants.{At, Bad}
-use Rattle.jsontext.specs.Reading.{Read, got, fault, then, no, blanks, want}
+use Rattle.jsontext.specs.declared.Bad.{Bad}
+use Rattle.jsontext.specs.Reading.{Read, got, fault, then, no, blanks, want, wrong}
 use Rattle.jsontext.specs.Strings.{string}
 use Rattle.jsontext.specs.Values.{numeral, begins, due, text, J, spelt, closes_first, form_named, form_after, form, __entity, __extn}
 use Rattle.jsontext.specs.Events.{comma, closing}
 use Rattle.jsonread.specs.Told.{Told, Blanks}
 use Rattle.jsonread.specs.Ahead.{NamedTold, only_form}
 use Rattle.jsonread.specs.Spelling.{WordTold}
-use Rattle.jsonread.proofs.Places.{byte_at, told_at, wrong-here, told_of, then_is}
+use Rattle.jsonread.proofs.Places.{byte_at, told_at, told_bad, wrong-here, told_of, fault-then, then_is}
 use Rattle.jsonread.proofs.Counts.{digit-below, digit-above}
 
 -- ---- the first byte
@@ -79,7 +79,7 @@ module _ (c : ℕ) where
 -- ---- a value that is due
 
 module _ {A : Type 0} (w : Fault) (right : ℕ → Bool) (read : List ℕ → Read A) (line : List ℕ) (at : ℕ) where
-  pub due-end : at ≤ length line → length line ≤ at → Told line at (Bad NotJson at at) (due w right read (drop at line))
+  pub due-end : at ≤ length line → length line ≤ at → Told line at (Err (wrong NotJson at)) (due w right read (drop at line))
   unfolding due
   due-end h l = wrong-here h (rw (drop_of_length-le line l))
 
@@ -88,7 +88,7 @@ module _ {A : Type 0} (w : Fault) (right : ℕ → Bool) (read : List ℕ → Re
     unfolding due
     due-byte = rw (byte_at line at h)
 
-    pub due-right : {r : Step} → right (get_or line at 0) ≡ true → Told line at r (read (drop at line)) → Told line at r (due w right read (drop at line))
+    pub due-right : {r : Result ℕ Bad} → right (get_or line at 0) ≡ true → Told line at r (read (drop at line)) → Told line at r (due w right read (drop at line))
     due-right e t = told_of (omega arith) (due-byte ∙ yes _ e) t
 
     due-wrong : (b : Bool) {f : Fault} → f ≡ choose b w NotJson → choose b (no {A = A} w (drop at line)) (no NotJson (drop at line)) ≡ no f (drop at line)
@@ -96,31 +96,31 @@ module _ {A : Type 0} (w : Fault) (right : ℕ → Bool) (read : List ℕ → Re
     due-wrong true e = rw e refl
     due-wrong false e = rw e refl
 
-    pub due-other : {f : Fault} → right (get_or line at 0) ≡ false → f ≡ choose (begins (get_or line at 0)) w NotJson → Told line at (Bad f at at) (due w right read (drop at line))
+    pub due-other : {f : Fault} → right (get_or line at 0) ≡ false → f ≡ choose (begins (get_or line at 0)) w NotJson → Told line at (Err (wrong f at)) (due w right read (drop at line))
     due-other e q = wrong-here (omega arith) (due-byte ∙ otherwise _ e (due-wrong (begins (get_or line at 0)) q))
 
 -- by one byte
 module _ {A : Type 0} (w : Fault) (b : ℕ) (read : List ℕ → Read A) (line : List ℕ) (at : ℕ) (h : at < length line) where
-  pub due-there : {r : Step} → get_or line at 0 ≡ b → Told line at r (read (drop at line)) → Told line at r (due w (λ c. eqb c b) read (drop at line))
+  pub due-there : {r : Result ℕ Bad} → get_or line at 0 ≡ b → Told line at r (read (drop at line)) → Told line at r (due w (λ c. eqb c b) read (drop at line))
   due-there e t = due-right w (λ c. eqb c b) read line at h (eq-eqb _ _ e) t
 
-  pub due-not : {f : Fault} → (get_or line at 0 ≡ b → ⊥) → f ≡ choose (begins (get_or line at 0)) w NotJson → Told line at (Bad f at at) (due w (λ c. eqb c b) read (drop at line))
+  pub due-not : {f : Fault} → (get_or line at 0 ≡ b → ⊥) → f ≡ choose (begins (get_or line at 0)) w NotJson → Told line at (Err (wrong f at)) (due w (λ c. eqb c b) read (drop at line))
   due-not n q = due-other w (λ c. eqb c b) read line at h (ne_eqb _ _ n) q
 
 -- a string
 module _ (line : List ℕ) (at : ℕ) (h : at < length line) where
-  pub text-there : {r : Step} → get_or line at 0 ≡ 34 → Told line at r (string (drop at line)) → Told line at r (text (drop at line))
+  pub text-there : {r : Result ℕ Bad} → get_or line at 0 ≡ 34 → Told line at r (string (drop at line)) → Told line at r (text (drop at line))
   text-there e t = due-there BadField 34 string line at h e t
 
-  pub text-not : {f : Fault} → (get_or line at 0 ≡ 34 → ⊥) → f ≡ choose (begins (get_or line at 0)) BadField NotJson → Told line at (Bad f at at) (text (drop at line))
+  pub text-not : {f : Fault} → (get_or line at 0 ≡ 34 → ⊥) → f ≡ choose (begins (get_or line at 0)) BadField NotJson → Told line at (Err (wrong f at)) (text (drop at line))
   text-not n q = due-not BadField 34 string line at h n q
 
 -- by a test
 module _ {A : Type 0} (w : Fault) (right : ℕ → Bool) (read : List ℕ → Read A) {z : Bool} (line : List ℕ) (at : ℕ) (h : at < length line) (k : z ≡ right (get_or line at 0)) where
-  pub due-yes : {r : Step} → z ≡ true → Told line at r (read (drop at line)) → Told line at r (due w right read (drop at line))
+  pub due-yes : {r : Result ℕ Bad} → z ≡ true → Told line at r (read (drop at line)) → Told line at r (due w right read (drop at line))
   due-yes e t = due-right w right read line at h (sym k ∙ e) t
 
-  pub due-no : {f : Fault} → z ≡ false → f ≡ choose (begins (get_or line at 0)) w NotJson → Told line at (Bad f at at) (due w right read (drop at line))
+  pub due-no : {f : Fault} → z ≡ false → f ≡ choose (begins (get_or line at 0)) w NotJson → Told line at (Err (wrong f at)) (due w right read (drop at line))
   due-no e q = due-other w right read line at h (sym k ∙ e) q
 
 -- ---- a word
@@ -142,41 +142,33 @@ unfolding spelt
 spelt-ends j s = refl
 
 module _ {line word : List ℕ} {at i k : ℕ} (g : Spelling line at word i k) where
-  pub spelt-done : length word ≤ i → (j : J) → Told line at (At k) (spelt word j (drop at line))
+  pub spelt-done : length word ≤ i → (j : J) → Told line at (Ok k) (spelt word j (drop at line))
   spelt-done h j = told_at (record { what = j; from = g.from; within = g.within; is = sym (g.goes j) ∙ ap (λ (w : List ℕ). spelt w j (drop k line)) (drop_of_length-le word h) ∙ spelt-ends j (drop k line) })
 
   module _ (h : i < length word) where
     wants : (j : J) → spelt word j (drop at line) ≡ then (want (get_or word i 0) (drop k line)) (λ c rest. spelt (drop (i + 1) word) j rest)
     wants j = sym (g.goes j) ∙ ap (λ (w : List ℕ). spelt w j (drop k line)) (byte_at word i h) ∙ spelt-wants (get_or word i 0) (drop (i + 1) word) j (drop k line)
 
-    wanting : (j : J) → want (get_or word i 0) (drop k line) ≡ no NotJson (drop k line) → Told line at (Bad NotJson k k) (spelt word j (drop at line))
-    unfolding then
-    wanting j e = wrong-here g.within (wants j ∙ ap (λ (m : Read ℕ). then m (λ c rest. spelt (drop (i + 1) word) j rest)) e)
+    module _ {x : Result ℕ Bad} (t : Told line k x (want (get_or word i 0) (drop k line))) where
+      pub spelt_bad : {b : Bad} → x ≡ Err b → (j : J) → Told line at (Err b) (spelt word j (drop at line))
+      spelt_bad e j = told_of g.from (wants j) (told_bad (fault-then (λ c rest. spelt (drop (i + 1) word) j rest) (t.faulty _ e)))
 
-    pub spelt-cut : length line ≤ k → (j : J) → Told line at (Bad NotJson k k) (spelt word j (drop at line))
-    unfolding want
-    spelt-cut l j = wanting j (rw (drop_of_length-le line l))
+      pub spelt-within : {e : ℕ} → x ≡ Ok e → e ≤ length line
+      spelt-within q = (t.stands _ q).within
 
-    module _ (l : k < length line) where
-      pub spelt-other : (get_or line k 0 ≡ get_or word i 0 → ⊥) → (j : J) → Told line at (Bad NotJson k k) (spelt word j (drop at line))
-      unfolding want
-      spelt-other n j = wanting j (rw (byte_at line k l) (otherwise _ (ne_eqb _ _ n) refl))
-
-      wanted : get_or line k 0 ≡ get_or word i 0 → want (get_or word i 0) (drop k line) ≡ got (get_or line k 0) (drop (k + 1) line)
-      unfolding want
-      wanted e = rw (byte_at line k l) (yes _ (eq-eqb _ _ e))
-
-      pub spelt-more : get_or line k 0 ≡ get_or word i 0 → Spelling line at word (i + 1) (k + 1)
-      spelt-more e = record { from = omega (arith, g.from); within = omega arith; goes = λ j. sym (wants j ∙ then_is (λ c rest. spelt (drop (i + 1) word) j rest) (wanted e)) }
+      pub spelt-more : {e : ℕ} → x ≡ Ok e → Spelling line at word (i + 1) e
+      spelt-more q =
+          let s = t.stands _ q in
+          record { from = omega (arith, g.from, s.from); within = s.within; goes = λ j. sym (wants j ∙ then_is (λ c rest. spelt (drop (i + 1) word) j rest) s.is) }
 
 -- ---- between and after an entity's items
 
 module _ (line : List ℕ) (at : ℕ) where
-  pub comma-end : at ≤ length line → length line ≤ at → Told line at (Bad NotJson at at) (comma (drop at line))
+  pub comma-end : at ≤ length line → length line ≤ at → Told line at (Err (wrong NotJson at)) (comma (drop at line))
   unfolding comma
   comma-end h l = wrong-here h (rw (drop_of_length-le line l))
 
-  pub closing_end : at ≤ length line → length line ≤ at → Told line at (Bad NotJson at at) (closing (drop at line))
+  pub closing_end : at ≤ length line → length line ≤ at → Told line at (Err (wrong NotJson at)) (closing (drop at line))
   unfolding closing
   closing_end h l = wrong-here h (rw (drop_of_length-le line l))
 
@@ -185,20 +177,20 @@ module _ (line : List ℕ) (at : ℕ) where
     unfolding comma
     comma-byte = rw (byte_at line at h)
 
-    pub comma-early : get_or line at 0 ≡ 93 → Told line at (Bad BadField at at) (comma (drop at line))
+    pub comma-early : get_or line at 0 ≡ 93 → Told line at (Err (wrong BadField at)) (comma (drop at line))
     comma-early e = wrong-here (omega arith) (comma-byte ∙ yes _ (eq-eqb _ _ e))
 
-    pub comma-due : {r : Step} → (get_or line at 0 ≡ 93 → ⊥) → Told line at r (want 44 (drop at line)) → Told line at r (comma (drop at line))
+    pub comma-due : {r : Result ℕ Bad} → (get_or line at 0 ≡ 93 → ⊥) → Told line at r (want 44 (drop at line)) → Told line at r (comma (drop at line))
     comma-due n t = told_of (omega arith) (comma-byte ∙ otherwise _ (ne_eqb _ _ n) refl) t
 
     closing-byte : closing (drop at line) ≡ choose (eqb (get_or line at 0) 44) (no BadField (drop at line)) (want 93 (drop at line))
     unfolding closing
     closing-byte = rw (byte_at line at h)
 
-    pub closing_late : get_or line at 0 ≡ 44 → Told line at (Bad BadField at at) (closing (drop at line))
+    pub closing_late : get_or line at 0 ≡ 44 → Told line at (Err (wrong BadField at)) (closing (drop at line))
     closing_late e = wrong-here (omega arith) (closing-byte ∙ yes _ (eq-eqb _ _ e))
 
-    pub closing-due : {r : Step} → (get_or line at 0 ≡ 44 → ⊥) → Told line at r (want 93 (drop at line)) → Told line at r (closing (drop at line))
+    pub closing-due : {r : Result ℕ Bad} → (get_or line at 0 ≡ 44 → ⊥) → Told line at r (want 93 (drop at line)) → Told line at r (closing (drop at line))
     closing-due n t = told_of (omega arith) (closing-byte ∙ otherwise _ (ne_eqb _ _ n) refl) t
 
 -- ---- Cedar's forms
@@ -239,11 +231,11 @@ only-plain (c ∷ s) =
     go true = refl
     go false = refl
 
-module _ {line : List ℕ} {at name : ℕ} {x : Step} (b : Blanks line at name) (t : Told line name x (string (drop name line))) where
-  pub form_bad : {w : Fault} {p f : ℕ} → x ≡ Bad w p f → Plain ≡ form (drop at line)
-  form_bad e = sym (form-is (drop at line) (drop name line) b.is ∙ ap form_by (t.faulty _ _ _ e).is)
+module _ {line : List ℕ} {at name : ℕ} {x : Result ℕ Bad} (b : Blanks line at name) (t : Told line name x (string (drop name line))) where
+  pub form_bad : {b : Bad} → x ≡ Err b → Plain ≡ form (drop at line)
+  form_bad e = sym (form-is (drop at line) (drop name line) b.is ∙ ap form_by (t.faulty _ e).is)
 
-  module _ {end : ℕ} {y : Form} (e : x ≡ At end) (u : NamedTold line name y) where
+  module _ {end : ℕ} {y : Form} (e : x ≡ Ok end) (u : NamedTold line name y) where
     form-read : form (drop at line) ≡ only_form y (blanks (drop end line))
     form-read =
         form-is (drop at line) (drop name line) b.is ∙ ap form_by (t.stands _ e).is ∙ form-after (t.stands _ e).what (blanks (drop end line))

@@ -1,4 +1,5 @@
 -- What is left of a line after a byte that was due, and after a string: at least one byte less, and two
+use Rattle.std.specs.Prelude.{Result, Ok}
 use mathlib.Core.Path.{◌≡◌, refl}
 use mathlib.Core.Bool.{Bool, true, false}
 use mathlib.Core.List.{List, [], ◌∷◌, ◌++◌}
@@ -13,8 +14,7 @@ use Rattle.meaning.specs.declared.Due.{Due}
 use Rattle.meaning.specs.declared.Due.TheVariants.{Nothing}
 use Rattle.jsontext.specs.declared.Fault.{Fault}
 use Rattle.jsontext.specs.declared.Fault.TheVariants.{NotJson}
-use Rattle.jsontext.specs.declared.Step.{Step}
-use Rattle.jsontext.specs.declared.Step.TheVariants.{At}
+use Rattle.jsontext.specs.declared.Bad.{Bad}
 use Rattle.jsontext.specs.Reading.{Read, got, fault, then, mapped, want, or_wrong}
 use Rattle.jsontext.specs.Strings.{hex_digit, hex_digits, hex4, utf8_of, is_high, is_low, joined, low_unit, low_half, pair, character, simple, escape, is_wrong, chars, string}
 use Rattle.jsonread.specs.Told.{Told}
@@ -93,7 +93,7 @@ string-leaves {k = k} s h = leaves-then (want 34 s) (want-leaves {k = suc k} 34 
 -- ---- on a line
 
 -- one byte at least
-pub want-takes : {line : List ℕ} {at e : ℕ} (b : ℕ) {r : Step} → Told line at r (want b (drop at line)) → r ≡ At e → at < e
+pub want-takes : {line : List ℕ} {at e : ℕ} (b : ℕ) {r : Result ℕ Bad} → Told line at r (want b (drop at line)) → r ≡ Ok e → at < e
 want-takes {line} {at} {e} b t q = omega (arith, length-drop at line, length-drop e line, want-leaves {k = length (drop at line)} b (drop at line) (omega arith) _ (drop e line) (t.stands e q).is)
 
 -- two bytes at least

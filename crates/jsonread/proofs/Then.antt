@@ -1,11 +1,11 @@
 -- One reading after another
+use Rattle.std.specs.Prelude.{Result, Ok, Err}
 use mathlib.Core.Path.{◌≡◌, refl, sym, ap}
 use mathlib.Core.List.{List}
 use Prim.Native.Nat.{ℕ}
 use lib.ListN.{drop}
 use Rattle.jsontext.specs.declared.Fault.{Fault}
-use Rattle.jsontext.specs.declared.Step.{Step}
-use Rattle.jsontext.specs.declared.Step.TheVariants.{At, Bad}
+use Rattle.jsontext.specs.declared.Bad.{Bad}
 use Rattle.jsontext.specs.Reading.{Read, got, fault, then, blanks}
 use Rattle.jsonread.specs.Told.{Told, Blanks}
 use Rattle.jsonread.proofs.Places.{told_bad, told_of, fault-then, then_is}
@@ -29,12 +29,12 @@ pub then-fault : {A B : Type 0} {m : Read A} {w : Fault} {p q : ℕ} (f : A → 
 unfolding then
 then-fault f e = rw e
 
-module _ {A B : Type 0} {line : List ℕ} {i : ℕ} {x : Step} {m : Read A} (f : A → List ℕ → Read B) (t : Told line i x m) where
-  pub then_bad : {at : ℕ} {w : Fault} {p q : ℕ} → x ≡ Bad w p q → Told line at (Bad w p q) (then m f)
-  then_bad e = told_bad (fault-then f (t.faulty _ _ _ e))
+module _ {A B : Type 0} {line : List ℕ} {i : ℕ} {x : Result ℕ Bad} {m : Read A} (f : A → List ℕ → Read B) (t : Told line i x m) where
+  pub then_bad : {at : ℕ} {b : Bad} → x ≡ Err b → Told line at (Err b) (then m f)
+  then_bad e = told_bad (fault-then f (t.faulty _ e))
 
-  pub then-on : {e : ℕ} {r : Step} (q : x ≡ At e) → Told line e r (f (t.stands e q).what (drop e line)) → Told line i r (then m f)
+  pub then-on : {e : ℕ} {r : Result ℕ Bad} (q : x ≡ Ok e) → Told line e r (f (t.stands e q).what (drop e line)) → Told line i r (then m f)
   then-on q u = told_of (t.stands _ q).from (then_is f (t.stands _ q).is) u
 
-pub after-blanks : {A : Type 0} {line : List ℕ} {at i : ℕ} {r : Step} (f : List ℕ → Read A) → Blanks line at i → Told line i r (f (drop i line)) → Told line at r (f (blanks (drop at line)))
+pub after-blanks : {A : Type 0} {line : List ℕ} {at i : ℕ} {r : Result ℕ Bad} (f : List ℕ → Read A) → Blanks line at i → Told line i r (f (drop i line)) → Told line at r (f (blanks (drop at line)))
 after-blanks f b t = told_of b.from (ap f (sym b.is)) t

@@ -1,15 +1,13 @@
 -- The bytes that a string stands for, one after another
-use Rattle.std.specs.Prelude.{◌≡◌, Bool, List, [], ◌∷◌, ◌++◌, ℕ, zero, suc, ◌+◌, ◌*◌, ◌-◌, ◌/◌, ◌%◌, ◌<◌, ◌≤◌, ltb, length, drop}
+use Rattle.std.specs.Prelude.{◌≡◌, Bool, List, [], ◌∷◌, ◌++◌, ℕ, zero, suc, ◌+◌, ◌*◌, ◌-◌, ◌/◌, ◌%◌, ◌<◌, ◌≤◌, ltb, length, drop, Option, Some, None}
 use Rattle.meaning.specs.Tests.{choose}
 use Rattle.meaning.specs.Equal.{same_list}
 use Rattle.meaning.specs.declared.Due.{Due}
 use Rattle.jsontext.specs.Reading.{got}
 use Rattle.jsontext.specs.Strings.{utf8_of, chars, string}
 use Rattle.jsonread.specs.declared.names.Cursor.{Cursor}
-use Rattle.jsonread.specs.declared.names.Order.{Order}
-use Rattle.jsonread.specs.declared.names.Order.TheVariants.{Less, Same, More}
-use Rattle.jsonread.specs.declared.names.Out.{Out}
-use Rattle.jsonread.specs.declared.names.Out.TheVariants.{Byte, Ended}
+use Rattle.std.specs.declared.cmp.Ordering.{Ordering}
+use Rattle.std.specs.declared.cmp.Ordering.TheVariants.{Less, Equal, Greater}
 
 -- the last bytes of a character in UTF-8, so many
 unfoldable pub last_of : ℕ → ℕ → List ℕ
@@ -19,11 +17,11 @@ last_of u (suc (suc zero)) = (128 + u / 64 % 64) ∷ (128 + u % 64) ∷ []
 last_of u (suc (suc (suc k))) = (128 + u / 4096 % 64) ∷ (128 + u / 64 % 64) ∷ (128 + u % 64) ∷ []
 
 -- the first byte of a character, with the others left
-pub record Begins (u at : ℕ) (r : Out) : Type 0 where
+pub record Begins (u at : ℕ) (r : ℕ × Cursor) : Type 0 where
   pub byte : ℕ
   pub left : ℕ
   pub few : left ≤ 3
-  pub is : r ≡ Byte byte (record { at = at; character = u; left = left })
+  pub is : r ≡ (byte, record { at = at; character = u; left = left })
   pub bytes : utf8_of u ≡ byte ∷ last_of u left
 
 -- these bytes are left to give
@@ -41,20 +39,20 @@ pub record Yielded (line : List ℕ) (n : Cursor) (b : ℕ) (bytes : List ℕ) :
   pub is : bytes ≡ b ∷ others
   pub spelt : Spelt line n others
 
-pub record NextTold (line : List ℕ) (c : Cursor) (r : Out) : Type 0 where
-  pub less : (b : ℕ) (n : Cursor) → r ≡ Byte b n → 4 * (length line - n.at) + n.left < 4 * (length line - c.at) + c.left
-  pub ended : r ≡ Ended → (bytes : List ℕ) → Spelt line c bytes → bytes ≡ []
-  pub yields : (b : ℕ) (n : Cursor) → r ≡ Byte b n → (bytes : List ℕ) → Spelt line c bytes → Yielded line n b bytes
+pub record NextTold (line : List ℕ) (c : Cursor) (r : Option (ℕ × Cursor)) : Type 0 where
+  pub less : (b : ℕ) (n : Cursor) → r ≡ Some (b, n) → 4 * (length line - n.at) + n.left < 4 * (length line - c.at) + c.left
+  pub ended : r ≡ None → (bytes : List ℕ) → Spelt line c bytes → bytes ≡ []
+  pub yields : (b : ℕ) (n : Cursor) → r ≡ Some (b, n) → (bytes : List ℕ) → Spelt line c bytes → Yielded line n b bytes
 
 -- byte order, a prefix first
-unfoldable pub order_of : List ℕ → List ℕ → Order
-order_of [] [] = Same
+unfoldable pub order_of : List ℕ → List ℕ → Ordering
+order_of [] [] = Equal
 order_of [] (b ∷ t) = Less
-order_of (a ∷ s) [] = More
-order_of (a ∷ s) (b ∷ t) = choose (ltb a b) Less (choose (ltb b a) More (order_of s t))
+order_of (a ∷ s) [] = Greater
+order_of (a ∷ s) (b ∷ t) = choose (ltb a b) Less (choose (ltb b a) Greater (order_of s t))
 
 -- of two strings that read well: their order
-abbrev pub OrderTold : List ℕ → ℕ → ℕ → Order → Type 0
+abbrev pub OrderTold : List ℕ → ℕ → ℕ → Ordering → Type 0
 OrderTold line a b r = (m n s t : List ℕ) → string (drop a line) ≡ got m s → string (drop b line) ≡ got n t → r ≡ order_of m n
 
 -- of a string that reads well: it is this word

@@ -9,7 +9,7 @@ ghost use Rattle.jsonread.specs.Told.{Told};
 use super::bytes::want_at;
 use super::integers::number_at;
 use super::strings::string_at;
-use jsontext::{Fault, Step};
+use jsontext::{Bad, Fault};
 
 pub fn is_numeral(c: u8) -> bool
     ensures { ◌≡◌ {A = Bool} result (numeral c) }
@@ -48,79 +48,71 @@ pub fn instead(c: u8, w: Fault) -> Fault
 }
 
 // a string, and nothing else
-pub fn text_at(line: &[u8], at: usize) -> Step
+pub fn text_at(line: &[u8], at: usize) -> Result<usize, Bad>
     requires { at ≤ length line.now }
     ensures { Told line.now at result (text (drop at line.now)) }
 {
     if line.len() <= at {
-        return Step::Bad(Fault::NotJson, at, at);
+        return Err(Bad::new(Fault::NotJson, at));
     }
     let c = line[at];
     if c == 34 {
         return string_at(line, at);
     }
-    Step::Bad(instead(c, Fault::BadField), at, at)
+    Err(Bad::new(instead(c, Fault::BadField), at))
 }
 
 // a number, and nothing else
-pub fn time_at(line: &[u8], at: usize) -> Step
+pub fn time_at(line: &[u8], at: usize) -> Result<usize, Bad>
     requires { at ≤ length line.now }
     ensures { Told line.now at result (due Fault.BadField numeral number (drop at line.now)) }
 {
     if line.len() <= at {
-        return Step::Bad(Fault::NotJson, at, at);
+        return Err(Bad::new(Fault::NotJson, at));
     }
     let c = line[at];
     if is_numeral(c) {
         return number_at(line, at);
     }
-    Step::Bad(instead(c, Fault::BadField), at, at)
+    Err(Bad::new(instead(c, Fault::BadField), at))
 }
 
 // a word that must stand here, whatever value it spells
-pub fn word_at(line: &[u8], at: usize, word: &[u8]) -> Step
+pub fn word_at(line: &[u8], at: usize, word: &[u8]) -> Result<usize, Bad>
     requires { at ≤ length line.now }
     ensures { (j : J) → Told line.now at result (spelt word.now j (drop at line.now)) }
 {
-    let mut i = 0;
     let mut k = at;
-    while i < word.len() {
-        if line.len() <= k {
-            return Step::Bad(Fault::NotJson, k, k);
-        }
-        if line[k] != word[i] {
-            return Step::Bad(Fault::NotJson, k, k);
-        }
-        i += 1;
-        k += 1;
+    for b in word {
+        k = want_at(line, k, *b)?;
     }
-    Step::At(k)
+    Ok(k)
 }
 
 // a comma between an entity's items, or 23 at its bracket
-pub fn comma_at(line: &[u8], at: usize) -> Step
+pub fn comma_at(line: &[u8], at: usize) -> Result<usize, Bad>
     requires { at ≤ length line.now }
     ensures { Told line.now at result (comma (drop at line.now)) }
 {
     if line.len() <= at {
-        return Step::Bad(Fault::NotJson, at, at);
+        return Err(Bad::new(Fault::NotJson, at));
     }
     if line[at] == 93 {
-        return Step::Bad(Fault::BadField, at, at);
+        return Err(Bad::new(Fault::BadField, at));
     }
     want_at(line, at, 44)
 }
 
 // an entity's bracket, or 23 at the comma before a fourth item
-pub fn closing_at(line: &[u8], at: usize) -> Step
+pub fn closing_at(line: &[u8], at: usize) -> Result<usize, Bad>
     requires { at ≤ length line.now }
     ensures { Told line.now at result (closing (drop at line.now)) }
 {
     if line.len() <= at {
-        return Step::Bad(Fault::NotJson, at, at);
+        return Err(Bad::new(Fault::NotJson, at));
     }
     if line[at] == 44 {
-        return Step::Bad(Fault::BadField, at, at);
+        return Err(Bad::new(Fault::BadField, at));
     }
     want_at(line, at, 93)
 }

@@ -3,7 +3,7 @@ ghost use Rattle.std.specs.Prelude.{◌≡◌, Bool, ◌≤◌, length, drop};
 ghost use Rattle.jsontext.specs.Reading.{is_blank, want};
 ghost use Rattle.jsonread.specs.Told.{Told, Blanks};
 
-use jsontext::{Fault, Step};
+use jsontext::{Bad, Fault};
 
 fn is_blank(c: u8) -> bool
     ensures { ◌≡◌ {A = Bool} result (is_blank c) }
@@ -31,15 +31,15 @@ pub fn skip_blanks(line: &[u8], at: usize) -> usize
     i
 }
 
-pub fn want_at(line: &[u8], at: usize, b: u8) -> Step
+pub fn want_at(line: &[u8], at: usize, b: u8) -> Result<usize, Bad>
     requires { at ≤ length line.now }
     ensures { Told line.now at result (want b (drop at line.now)) }
 {
     if line.len() <= at {
-        return Step::Bad(Fault::NotJson, at, at);
+        return Err(Bad::new(Fault::NotJson, at));
     }
     if line[at] == b {
-        return Step::At(at + 1);
+        return Ok(at + 1);
     }
-    Step::Bad(Fault::NotJson, at, at)
+    Err(Bad::new(Fault::NotJson, at))
 }

@@ -7,7 +7,7 @@ ghost use Rattle.jsonread.specs.Ahead.{sign_of, inside_after, NamedTold, only_fo
 use super::bytes::skip_blanks;
 use super::names::is_word;
 use super::strings::string_at;
-use jsontext::{Form, Side, Step};
+use jsontext::{Form, Side};
 
 // what a byte outside all strings is
 #[derive(Clone, Copy)]
@@ -143,12 +143,11 @@ pub fn form_at(line: &[u8], at: usize) -> Form
     ensures { result ≡ form (drop at line.now) }
 {
     let name = skip_blanks(line, at);
-    match string_at(line, name) {
-        Step::Bad(_, _, _) => Form::Plain,
-        Step::At(end) => match form_named(line, name) {
-            Form::Plain => Form::Plain,
-            Form::Entity => only_form(line, end, Form::Entity),
-            Form::Extension => only_form(line, end, Form::Extension),
-        },
+    let Ok(end) = string_at(line, name) else {
+        return Form::Plain;
+    };
+    match form_named(line, name) {
+        Form::Plain => Form::Plain,
+        named => only_form(line, end, named),
     }
 }

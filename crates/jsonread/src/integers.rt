@@ -4,20 +4,13 @@ ghost use Rattle.meaning.specs.Equal.{is_digit};
 ghost use Rattle.jsontext.specs.Numbers.{some_digits, frac, exp, fits, parts, magnitude, number};
 ghost use Rattle.jsonread.specs.Told.{Told, cap, DigitsTold, WholeTold, PartTold, Unsigned, others};
 
-use jsontext::{Fault, Step};
+use jsontext::{Bad, Fault};
 
 // what digits say, and where they end; a number that 64 bits cannot hold with any sign is 2^63 + 1
 #[derive(Clone, Copy)]
 pub struct Digits {
     pub value: u64,
     pub at: usize,
-}
-
-// an integer's digits, or where one is missing
-#[derive(Clone, Copy)]
-pub enum Whole {
-    Counted(Digits),
-    NoDigit(usize),
 }
 
 fn is_digit(c: u8) -> bool
@@ -63,51 +56,51 @@ fn digits_at(line: &[u8], at: usize, n: u64) -> Digits
     Digits { value, at: i }
 }
 
-fn some_digits_at(line: &[u8], at: usize) -> Step
+fn some_digits_at(line: &[u8], at: usize) -> Result<usize, Bad>
     requires { at ≤ length line.now }
     ensures { Told line.now at result (some_digits (drop at line.now)) }
 {
     if line.len() <= at {
-        return Step::Bad(Fault::NotJson, at, at);
+        return Err(Bad::new(Fault::NotJson, at));
     }
     let c = line[at];
     if !is_digit(c) {
-        return Step::Bad(Fault::NotJson, at, at);
+        return Err(Bad::new(Fault::NotJson, at));
     }
     let n = digits_at(line, at + 1, wide(c) - 48);
-    Step::At(n.at)
+    Ok(n.at)
 }
 
-pub fn int_at(line: &[u8], at: usize) -> Whole
+// an integer's digits, or where one is missing
+pub fn int_at(line: &[u8], at: usize) -> Result<Digits, Bad>
     requires { at ≤ length line.now }
     ensures { WholeTold line.now at result }
 {
     if line.len() <= at {
-        return Whole::NoDigit(at);
+        return Err(Bad::new(Fault::NotJson, at));
     }
     let c = line[at];
     if c == 48 {
-        return Whole::Counted(Digits {
+        return Ok(Digits {
             value: 0,
             at: at + 1,
         });
     }
     if !is_digit(c) {
-        return Whole::NoDigit(at);
+        return Err(Bad::new(Fault::NotJson, at));
     }
-    let n = digits_at(line, at + 1, wide(c) - 48);
-    Whole::Counted(n)
+    Ok(digits_at(line, at + 1, wide(c) - 48))
 }
 
-fn frac_at(line: &[u8], at: usize) -> Step
+fn frac_at(line: &[u8], at: usize) -> Result<usize, Bad>
     requires { at ≤ length line.now }
     ensures { PartTold line.now at result (frac (drop at line.now)) }
 {
     if line.len() <= at {
-        return Step::At(at);
+        return Ok(at);
     }
     if line[at] != 46 {
-        return Step::At(at);
+        return Ok(at);
     }
     some_digits_at(line, at + 1)
 }
@@ -129,12 +122,12 @@ fn unsigned_at(line: &[u8], at: usize) -> usize
     at
 }
 
-fn exp_at(line: &[u8], at: usize) -> Step
+fn exp_at(line: &[u8], at: usize) -> Result<usize, Bad>
     requires { at ≤ length line.now }
     ensures { PartTold line.now at result (exp (drop at line.now)) }
 {
     if line.len() <= at {
-        return Step::At(at);
+        return Ok(at);
     }
     if line[at] == 101 {
         return some_digits_at(line, unsigned_at(line, at + 1));
@@ -142,7 +135,7 @@ fn exp_at(line: &[u8], at: usize) -> Step
     if line[at] == 69 {
         return some_digits_at(line, unsigned_at(line, at + 1));
     }
-    Step::At(at)
+    Ok(at)
 }
 
 fn is_fit(minus: bool, n: u64) -> bool
@@ -155,53 +148,44 @@ fn is_fit(minus: bool, n: u64) -> bool
 }
 
 // a fraction and an exponent, where there are any
-fn others_at(line: &[u8], at: usize) -> Step
+fn others_at(line: &[u8], at: usize) -> Result<usize, Bad>
     requires { at ≤ length line.now }
     ensures { PartTold line.now at result (others (drop at line.now)) }
 {
-    match frac_at(line, at) {
-        Step::Bad(w, p, q) => Step::Bad(w, p, q),
-        Step::At(f) => exp_at(line, f),
-    }
+    let f = frac_at(line, at)?;
+    exp_at(line, f)
 }
 
 // the parts after an integer's digits, of a number that began at `first`
-fn parts_at(line: &[u8], first: usize, minus: bool, n: Digits) -> Step
+fn parts_at(line: &[u8], first: usize, minus: bool, n: Digits) -> Result<usize, Bad>
     requires { (first ≤ n.at) × (n.at ≤ length line.now) }
     ensures { (v : ℕ) → n.value ≡ cap v → Told line.now first result (parts (length line.now - first) minus v (drop n.at line.now)) }
 {
-    let at = n.at;
-    match others_at(line, at) {
-        Step::Bad(w, p, q) => Step::Bad(w, p, q),
-        Step::At(e) => {
-            if at < e {
-                return Step::Bad(Fault::BadNumber, first, first);
-            }
-            if is_fit(minus, n.value) {
-                return Step::At(e);
-            }
-            Step::Bad(Fault::BadNumber, first, first)
-        }
+    let e = others_at(line, n.at)?;
+    if n.at < e {
+        return Err(Bad::new(Fault::BadNumber, first));
     }
+    if !is_fit(minus, n.value) {
+        return Err(Bad::new(Fault::BadNumber, first));
+    }
+    Ok(e)
 }
 
 // after the sign of a number that began at `first`
-fn magnitude_at(line: &[u8], first: usize, minus: bool, at: usize) -> Step
+fn magnitude_at(line: &[u8], first: usize, minus: bool, at: usize) -> Result<usize, Bad>
     requires { (first ≤ at) × (at ≤ length line.now) }
     ensures { Told line.now first result (magnitude (length line.now - first) minus (drop at line.now)) }
 {
-    match int_at(line, at) {
-        Whole::NoDigit(p) => Step::Bad(Fault::NotJson, p, p),
-        Whole::Counted(n) => parts_at(line, first, minus, n),
-    }
+    let n = int_at(line, at)?;
+    parts_at(line, first, minus, n)
 }
 
-pub fn number_at(line: &[u8], at: usize) -> Step
+pub fn number_at(line: &[u8], at: usize) -> Result<usize, Bad>
     requires { at ≤ length line.now }
     ensures { Told line.now at result (number (drop at line.now)) }
 {
     if line.len() <= at {
-        return Step::Bad(Fault::NotJson, at, at);
+        return Err(Bad::new(Fault::NotJson, at));
     }
     if line[at] == 45 {
         return magnitude_at(line, at, true, at + 1);

@@ -5,23 +5,9 @@ ghost use Rattle.jsontext.specs.Strings.{hex_digit, is_high, is_low, low_unit, l
 ghost use Rattle.jsonread.specs.Told.{Told, HexTold, LowTold, CharTold, mark_of};
 
 use super::bytes::want_at;
-use jsontext::{Fault, Step};
+use jsontext::{Bad, Fault};
 use meaning::Due;
 use stringcheck::{is_ended, next_due};
-
-// four hex digits, or where one is missing
-#[derive(Clone, Copy)]
-pub enum Unit {
-    Is(u32),
-    Missing(usize),
-}
-
-// the character that an escape stands for and where it ends, or where it is wrong
-#[derive(Clone, Copy)]
-pub enum Escape {
-    For(u32, usize),
-    Wrong(usize),
-}
 
 // what a byte of a string is
 #[derive(Clone, Copy)]
@@ -57,7 +43,8 @@ fn hex_digit(c: u8) -> u32
     16
 }
 
-fn hex4(line: &[u8], at: usize) -> Unit
+// four hex digits, or where one is missing
+fn hex4(line: &[u8], at: usize) -> Result<u32, Bad>
     requires { at ≤ length line.now }
     ensures { HexTold line.now at result }
 {
@@ -66,17 +53,17 @@ fn hex4(line: &[u8], at: usize) -> Unit
     let mut i = at;
     while 0 < left {
         if line.len() <= i {
-            return Unit::Missing(i);
+            return Err(Bad::new(Fault::NotJson, i));
         }
         let d = hex_digit(line[i]);
         if 16 <= d {
-            return Unit::Missing(i);
+            return Err(Bad::new(Fault::NotJson, i));
         }
         n = 16 * n + d;
         i += 1;
         left -= 1;
     }
-    Unit::Is(n)
+    Ok(n)
 }
 
 fn is_high(u: u32) -> bool
@@ -98,37 +85,34 @@ fn is_low(u: u32) -> bool
 }
 
 // four hex digits of a low half
-fn low_unit(line: &[u8], at: usize) -> Unit
+fn low_unit(line: &[u8], at: usize) -> Result<u32, Bad>
     requires { at ≤ length line.now }
     ensures { LowTold line.now (at + 4) result (low_unit (drop at line.now)) }
 {
-    match hex4(line, at) {
-        Unit::Missing(p) => Unit::Missing(p),
-        Unit::Is(low) => {
-            if is_low(low) {
-                return Unit::Is(low);
-            }
-            Unit::Missing(at + 4)
-        }
+    let low = hex4(line, at)?;
+    if is_low(low) {
+        Ok(low)
+    } else {
+        Err(Bad::new(Fault::NotJson, at + 4))
     }
 }
 
 // an escaped low half, with its backslash
-fn low_half(line: &[u8], at: usize) -> Unit
+fn low_half(line: &[u8], at: usize) -> Result<u32, Bad>
     requires { at ≤ length line.now }
     ensures { LowTold line.now (at + 6) result (low_half (drop at line.now)) }
 {
     if line.len() <= at {
-        return Unit::Missing(at);
+        return Err(Bad::new(Fault::NotJson, at));
     }
     if line[at] != 92 {
-        return Unit::Missing(at);
+        return Err(Bad::new(Fault::NotJson, at));
     }
     if line.len() <= at + 1 {
-        return Unit::Missing(at + 1);
+        return Err(Bad::new(Fault::NotJson, at + 1));
     }
     if line[at + 1] != 117 {
-        return Unit::Missing(at + 1);
+        return Err(Bad::new(Fault::NotJson, at + 1));
     }
     low_unit(line, at + 2)
 }
@@ -144,23 +128,23 @@ fn joined(high: u32, low: u32) -> u32
     65536 + (high - 55296) * 1024 + (low - 56320)
 }
 
-// after four hex digits that say u, whose backslash stands at `slash`
-fn character_at(line: &[u8], slash: usize, u: u32, at: usize) -> Escape
+// after four hex digits that say u, whose backslash stands at `slash`: the character and where it ends
+fn character_at(line: &[u8], slash: usize, u: u32, at: usize) -> Result<(u32, usize), Bad>
     requires slash_le_at { slash ≤ at }
     requires at_in_bounds { at ≤ length line.now }
     requires u_bound { u < 65536 }
     ensures { CharTold line.now at result (character (length line.now - slash) u (drop at line.now)) }
 {
     if is_low(u) {
-        return Escape::Wrong(slash);
+        return Err(Bad::new(Fault::NotJson, slash));
     }
     if !is_high(u) {
-        return Escape::For(u, at);
+        return Ok((u, at));
     }
-    match low_half(line, at) {
-        Unit::Is(low) => Escape::For(joined(u, low), at + 6),
-        Unit::Missing(_) => Escape::Wrong(slash),
-    }
+    let Ok(low) = low_half(line, at) else {
+        return Err(Bad::new(Fault::NotJson, slash));
+    };
+    Ok((joined(u, low), at + 6))
 }
 
 // what a byte after a backslash stands for; 128 for nothing
@@ -180,26 +164,24 @@ fn simple_of(c: u8) -> u32
     }
 }
 
-// after a backslash
-pub fn escape_at(line: &[u8], at: usize) -> Escape
+// after a backslash: the character that an escape stands for and where it ends, or where it is wrong
+pub fn escape_at(line: &[u8], at: usize) -> Result<(u32, usize), Bad>
     requires at_nonzero { 0 < at }
     requires at_in_bounds { at ≤ length line.now }
     ensures { CharTold line.now (at + 1) result (escape (drop at line.now)) }
 {
     if line.len() <= at {
-        return Escape::Wrong(at);
+        return Err(Bad::new(Fault::NotJson, at));
     }
     if line[at] != 117 {
         let b = simple_of(line[at]);
         if 128 <= b {
-            return Escape::Wrong(at);
+            return Err(Bad::new(Fault::NotJson, at));
         }
-        return Escape::For(b, at + 1);
+        return Ok((b, at + 1));
     }
-    match hex4(line, at + 1) {
-        Unit::Is(u) => character_at(line, at - 1, u, at + 5),
-        Unit::Missing(p) => Escape::Wrong(p),
-    }
+    let u = hex4(line, at + 1)?;
+    character_at(line, at - 1, u, at + 5)
 }
 
 fn is_wrong(d: Due) -> bool
@@ -237,7 +219,7 @@ fn mark_of(d: Due, c: u8) -> Mark
 }
 
 // after the quotation mark
-fn chars_at(line: &[u8], at: usize) -> Step
+fn chars_at(line: &[u8], at: usize) -> Result<usize, Bad>
     requires { at ≤ length line.now }
     ensures { Told line.now at result (chars (suc (length (drop at line.now))) Due.Nothing (drop at line.now)) }
 {
@@ -246,33 +228,29 @@ fn chars_at(line: &[u8], at: usize) -> Step
     while i < line.len() {
         let c = line[i];
         match mark_of(d, c) {
-            Mark::Quote => return Step::At(i + 1),
-            Mark::Control => return Step::Bad(Fault::NotJson, i, i),
-            Mark::Backslash => match escape_at(line, i + 1) {
-                Escape::For(_, next) => {
-                    i = next;
-                }
-                Escape::Wrong(p) => return Step::Bad(Fault::NotJson, p, p),
-            },
+            Mark::Quote => return Ok(i + 1),
+            Mark::Control => return Err(Bad::new(Fault::NotJson, i)),
+            Mark::Backslash => {
+                let (_, next) = escape_at(line, i + 1)?;
+                i = next;
+            }
             Mark::Byte => {
                 let e = next_due(d, c);
                 if is_wrong(e) {
-                    return Step::Bad(Fault::NotJson, i, i);
+                    return Err(Bad::new(Fault::NotJson, i));
                 }
                 d = e;
                 i += 1;
             }
         }
     }
-    Step::Bad(Fault::NotJson, i, i)
+    Err(Bad::new(Fault::NotJson, i))
 }
 
-pub fn string_at(line: &[u8], at: usize) -> Step
+pub fn string_at(line: &[u8], at: usize) -> Result<usize, Bad>
     requires { at ≤ length line.now }
     ensures { Told line.now at result (string (drop at line.now)) }
 {
-    match want_at(line, at, 34) {
-        Step::At(i) => chars_at(line, i),
-        Step::Bad(w, p, q) => Step::Bad(w, p, q),
-    }
+    let i = want_at(line, at, b'"')?;
+    chars_at(line, i)
 }

@@ -2,6 +2,7 @@
 use Rattle.std.specs.Prelude.{Bool, List, [], ◌∷◌, ℕ, eqb, length}
 use Rattle.std.proofs.Math.Option.{Option, none, some}
 use Rattle.meaning.specs.Tests.{◌or◌, choose}
+use Rattle.jsontext.specs.declared.Bad.{Bad}
 use Rattle.jsontext.specs.declared.Fault.{Fault}
 use Rattle.jsontext.specs.declared.Fault.TheVariants.{NotJson}
 
@@ -39,3 +40,7 @@ want b (c ∷ s) = choose (eqb c b) (got c s) (no NotJson (c ∷ s))
 unfoldable pub or_wrong : {A B : Type 0} → Option A → List ℕ → (A → Read B) → Read B
 or_wrong none s f = no NotJson s
 or_wrong (some a) s f = f a
+
+-- wrong at a place, which is no repeated name's
+abbrev pub wrong : Fault → ℕ → Bad
+wrong w at = record { fault = w; at = at; first = at }

@@ -2,6 +2,9 @@
 
 #![tactic(auto)]
 
+ghost use Rattle.std.specs.Prelude.{◌≡◌};
+ghost use Rattle.jsontext.specs.Reading.{wrong};
+
 // what is wrong with a text: refusals 20 to 24
 #[derive(Clone, Copy)]
 pub enum Fault {
@@ -28,9 +31,23 @@ pub enum Side {
     Escaped,
 }
 
-// where a reader of a line stands after what it read; or what is wrong, its place, and for a repeated name the place of the first
+// what is wrong, its place, and for a repeated name the place of the first (else the same place)
 #[derive(Clone, Copy)]
-pub enum Step {
-    At(usize),
-    Bad(Fault, usize, usize),
+pub struct Bad {
+    pub fault: Fault,
+    pub at: usize,
+    pub first: usize,
+}
+
+impl Bad {
+    // wrong where one stands
+    pub fn new(fault: Fault, at: usize) -> Bad
+        ensures { result ≡ wrong fault at }
+    {
+        Bad {
+            fault,
+            at,
+            first: at,
+        }
+    }
 }

@@ -6,17 +6,11 @@ use Rattle.jsonread.proofs.forms.form_at.Goals as goal
 pub only_form-requires : goal.only_form-requires
 only_form-requires c = search (told-within, rules)
 
-pub only_form-requires-in-Extension : goal.only_form-requires-in-Extension
-only_form-requires-in-Extension c = search (told-within, rules)
-
-pub returns-in-Bad : goal.returns-in-Bad
-returns-in-Bad c = search (form_bad, form-plain, form-named, rules)
+pub returns-in_default : goal.returns-in_default
+returns-in_default c = search (form_bad, rules)
 
 pub returns-in-Plain : goal.returns-in-Plain
-returns-in-Plain c = search (form_bad, form-plain, form-named, rules)
+returns-in-Plain c = search (form-plain, rules)
 
-pub returns-in-Entity : goal.returns-in-Entity
-returns-in-Entity c = search (form-named, rules)
-
-pub returns-in-Extension : goal.returns-in-Extension
-returns-in-Extension c = search (form-named, rules)
+pub returns-in_default-form_named : goal.returns-in_default-form_named
+returns-in_default-form_named c = search (form-named, rules)

@@ -11,8 +11,8 @@ returns-then-c-eq48 c = search (int-zero, rules)
 pub returns-then-not-is_digit : goal.returns-then-not-is_digit
 returns-then-not-is_digit c = search (int-other, rules)
 
-pub digits_at-n-requires : goal.digits_at-n-requires
-digits_at-n-requires c = search (digit_value, rules)
+pub digits_at-requires : goal.digits_at-requires
+digits_at-requires c = search (digit_value, rules)
 
 pub returns : goal.returns
 returns c = search (int-digits, rules)

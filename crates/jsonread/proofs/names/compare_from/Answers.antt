@@ -1,27 +1,24 @@
-use Rattle.std.proofs.Common.{rules}
-use Rattle.jsonread.proofs.Spelling.{compare_same, compare_shorter, compare_longer, compare_less, compare_more, compare_on, cursor_less, alike_is}
+use Rattle.std.proofs.Common.{arith, rules}
+use Rattle.jsonread.proofs.Spelling.{compare_same, compare_shorter, compare_longer, compare_by, compare_on, cursor_less, alike_is}
 use Rattle.jsonread.proofs.names.compare_from.Goals as goal
 
 pub loop-p-init : goal.loop-p-init
 loop-p-init c = search (alike_is, rules)
 
-pub returns-in-Ended-next_byte : goal.returns-in-Ended-next_byte
-returns-in-Ended-next_byte c = search (compare_same, rules)
+pub returns-in-None-None : goal.returns-in-None-None
+returns-in-None-None c = compare_same _ _ _ c.loop-p.invariant c.next_byte.ensures c.next_byte-in-loop-p.ensures c.in-None-None.is-0 c.in-None-None.is-1
 
-pub returns-in-Byte-next_byte : goal.returns-in-Byte-next_byte
-returns-in-Byte-next_byte c = search (compare_shorter, rules)
+pub returns-in-None-Some : goal.returns-in-None-Some
+returns-in-None-Some c = compare_shorter _ _ _ c.loop-p.invariant c.next_byte.ensures c.next_byte-in-loop-p.ensures c.in-None-Some.is-0 c.in-None-Some.is-1
 
-pub returns-in-Ended-next_byte-2 : goal.returns-in-Ended-next_byte-2
-returns-in-Ended-next_byte-2 c = search (compare_longer, rules)
+pub returns-in-Some-None : goal.returns-in-Some-None
+returns-in-Some-None c = compare_longer _ _ _ c.loop-p.invariant c.next_byte.ensures c.next_byte-in-loop-p.ensures c.in-Some-None.is-0 c.in-Some-None.is-1
 
 pub returns-then-p-q : goal.returns-then-p-q
-returns-then-p-q c = search (compare_less, rules)
+returns-then-p-q c = compare_by _ _ _ c.loop-p.invariant c.next_byte.ensures c.next_byte-in-loop-p.ensures c.in-Some-Some.is-0 c.in-Some-Some.is-1 c.cmp.ensures c.if-p-q.true
 
-pub returns-then-q-p : goal.returns-then-q-p
-returns-then-q-p c = search (compare_more, rules)
+pub loop-p-preserved : goal.loop-p-preserved
+loop-p-preserved c = compare_on _ _ _ c.loop-p.invariant c.next_byte.ensures c.next_byte-in-loop-p.ensures c.in-Some-Some.is-0 c.in-Some-Some.is-1 (omega arith) (omega arith)
 
 pub loop-p-smaller : goal.loop-p-smaller
 loop-p-smaller c = search (cursor_less, rules)
-
-pub loop-p-preserved : goal.loop-p-preserved
-loop-p-preserved c = search (compare_on, rules)

@@ -11,8 +11,8 @@ returns-then-not-is_high c = search (whole, rules)
 pub joined-requires : goal.joined-requires
 joined-requires c = search (high-from, high-to, low-from, low-to, rules)
 
-pub returns-in-Is : goal.returns-in-Is
-returns-in-Is c = search (both_halves, rules)
+pub returns-in_default : goal.returns-in_default
+returns-in_default c = rw c.new-in_default.ensures (search (lone_high, rules))
 
-pub returns-in-Missing : goal.returns-in-Missing
-returns-in-Missing c = search (lone_high, rules)
+pub returns : goal.returns
+returns c = search (both_halves, c.in-Ok.is, rules)

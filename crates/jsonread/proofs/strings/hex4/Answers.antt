@@ -9,7 +9,7 @@ pub returns-then-line-i : goal.returns-then-line-i
 returns-then-line-i c = search (hex_end, rules)
 
 pub returns-then-d-ge16 : goal.returns-then-d-ge16
-returns-then-d-ge16 c = search (hex_other, rules)
+returns-then-d-ge16 c = rw c.new-then-d-ge16.ensures (search (hex_other, rules))
 
 pub loop-left-preserved : goal.loop-left-preserved
 loop-left-preserved c = search (hex_next, rules)

@@ -1,5 +1,5 @@
 -- What a caller may conclude: one outcome for each input; what an answer gives; a refusal leaves the output; 14 exactly when nothing else is against the case and it is longer than the output
-use Rattle.std.specs.Prelude.{◌≡◌, Bool, true, ℕ, ◌<◌, leb, length}
+use Rattle.std.specs.Prelude.{◌≡◌, Bool, true, ℕ, ◌<◌, leb, length, Result, Ok, Err}
 use Rattle.std.proofs.Math.Path.{refl, ap}
 use Rattle.std.proofs.Common.{sym, ◌∙◌, arith}
 use Rattle.std.proofs.Math.Bool.{false}
@@ -13,21 +13,19 @@ use Rattle.meaning.specs.Calls.{number_of}
 use Rattle.laws.specs.Tests.{no}
 use Rattle.encode.specs.Unsorted.{finished}
 use Rattle.encode.specs.Write.{make_refusal, later_refusal, write_refusal, output_after, over}
-use Rattle.casewrite.specs.declared.Written.{Written}
-use Rattle.casewrite.specs.declared.Written.TheVariants.{Wrote, Refused}
 use Rattle.casewrite.specs.Written.{written_as, Writes, case_refusal}
 use Rattle.casewrite.specs.Laws.{four, some-none, later-some, later-none}
 
 -- any two outcomes are equal
-pub one_written : {s marks room left left' output given given' : List ℕ} {r r' : Written} → Writes s marks room left output given r → Writes s marks room left' output given' r' → (r ≡ r') × ((left ≡ left') × (given ≡ given'))
+pub one_written : {s marks room left left' output given given' : List ℕ} {r r' : Result ℕ Refusal} → Writes s marks room left output given r → Writes s marks room left' output given' r' → (r ≡ r') × ((left ≡ left') × (given ≡ given'))
 one_written w w' = (w.is ∙ sym w'.is, (w.holds ∙ sym w'.holds, w.gives ∙ sym w'.gives))
 
-said-none : (size : ℕ) (o : Option Refusal) {n : ℕ} → Wrote n ≡ written_as size o → (o ≡ none) × (n ≡ size)
+said-none : (size : ℕ) (o : Option Refusal) {n : ℕ} → Ok n ≡ written_as size o → (o ≡ none) × (n ≡ size)
 unfolding written_as
 said-none size none e = (refl, cc)
 said-none size (some r) e = let z : ◌≡◌ {A = ℕ} 0 1 = cc in absurd (omega arith)
 
-said-some : (size : ℕ) (o : Option Refusal) {r : Refusal} → Refused r ≡ written_as size o → o ≡ some r
+said-some : (size : ℕ) (o : Option Refusal) {r : Refusal} → Err r ≡ written_as size o → o ≡ some r
 unfolding written_as
 said-some size none e = let z : ◌≡◌ {A = ℕ} 0 1 = cc in absurd (omega arith)
 said-some size (some k) e = cc
@@ -63,27 +61,27 @@ case-other s marks h = four-other _ _ _ _ h
 
 module _ {s marks room left output given : List ℕ} where
   -- an answer says how long the finished case is, and the output begins with it; the rest of the output stays
-  pub written_is : {n : ℕ} → Writes s marks room left output given (Wrote n) → (n ≡ length (finished s marks)) × (given ≡ over (finished s marks) output)
+  pub written_is : {n : ℕ} → Writes s marks room left output given (Ok n) → (n ≡ length (finished s marks)) × (given ≡ over (finished s marks) output)
   unfolding output_after
   written_is w =
       let said = said-none (length (finished s marks)) (write_refusal s marks room output) w.is in
       (said.1, w.gives ∙ ap (output_after s marks room output) said.0)
 
   -- a refusal leaves the output as it was
-  pub refused-leaves : {r : Refusal} → Writes s marks room left output given (Refused r) → given ≡ output
+  pub refused-leaves : {r : Refusal} → Writes s marks room left output given (Err r) → given ≡ output
   unfolding output_after
   refused-leaves w = w.gives ∙ ap (output_after s marks room output) (said-some (length (finished s marks)) (write_refusal s marks room output) w.is)
 
   -- ---- 14: nothing of 1, 2 and 10, nothing of 3 to 6, and the finished case is longer than the output
 
-  pub fourteen_when : {r : Written} → Writes s marks room left output given r → make_refusal s marks room ≡ none → case_refusal s marks (finished s marks) ≡ none → length output < length (finished s marks) → r ≡ Refused OutputTooShort
+  pub fourteen_when : {r : Result ℕ Refusal} → Writes s marks room left output given r → make_refusal s marks room ≡ none → case_refusal s marks (finished s marks) ≡ none → length output < length (finished s marks) → r ≡ Err OutputTooShort
   unfolding write_refusal or_else later_refusal written_as
   fourteen_when {r} w made passes long =
       let later : later_refusal s marks [] output ≡ some OutputTooShort = later-none s marks output passes ∙ no _ (lt-leb (length (finished s marks)) (length output) long) refl in
       let all : write_refusal s marks room output ≡ some OutputTooShort = ap (λ (o : Option Refusal). or_else o (later_refusal s marks room output)) made ∙ later in
       w.is ∙ ap (written_as (length (finished s marks))) all
 
-  pub fourteen_only_when : Writes s marks room left output given (Refused OutputTooShort) → (make_refusal s marks room ≡ none) × ((case_refusal s marks (finished s marks) ≡ none) × (length output < length (finished s marks)))
+  pub fourteen_only_when : Writes s marks room left output given (Err OutputTooShort) → (make_refusal s marks room ≡ none) × ((case_refusal s marks (finished s marks) ≡ none) × (length output < length (finished s marks)))
   unfolding write_refusal or_else later_refusal
   fourteen_only_when w = making (make_refusal s marks room) refl
     where

@@ -26,7 +26,7 @@ use Rattle.joining.specs.declared.Joined.TheVariants as J
 use Rattle.joining.specs.Order.{Joins, Sorted}
 use Rattle.joining.specs.Laws.{listed-long}
 use Rattle.finish.specs.Sizes.{Sized, TextBytes, PartSize, Fits}
-use Rattle.making.specs.declared.Made.TheVariants.{Put, Refused}
+use Rattle.std.specs.Prelude.{Ok, Err}
 use Rattle.making.specs.Made.{FinishedSize, made_as, Makes}
 
 -- ---- tables
@@ -98,29 +98,29 @@ texts_of_lem = many-texts
 -- ---- ways out
 
 module _ {s marks room : List ℕ} where
-  refused : (r : Refusal) → make_refusal s marks room ≡ some r → Makes s marks room room (Refused r)
+  refused : (r : Refusal) → make_refusal s marks room ≡ some r → Makes s marks room room (Err r)
   unfolding made_as room_after
   refused r e = record { is = rw e refl; holds = rw e refl }
 
-  pub makes_none : {t : Bool} → t ≡ (bodies s and eqb (length marks) (lists s)) → not t ≡ true → Makes s marks room room (Refused BadContents)
+  pub makes_none : {t : Bool} → t ≡ (bodies s and eqb (length marks) (lists s)) → not t ≡ true → Makes s marks room room (Err BadContents)
   unfolding make_refusal
   makes_none {t} e h = refused BadContents (no _ (sym e ∙ not-true t h) refl)
 
   module _ (h : (bodies s and eqb (length marks) (lists s)) ≡ true) where
-    too_large : mosts (finished s marks) ≡ false → Makes s marks room room (Refused TooLarge)
+    too_large : mosts (finished s marks) ≡ false → Makes s marks room room (Err TooLarge)
     unfolding make_refusal
     too_large e = refused TooLarge (yes _ h ∙ no _ e refl)
 
-    pub makes-large : {t : Bool} → t ≡ mosts (finished s marks) → not t ≡ true → Makes s marks room room (Refused TooLarge)
+    pub makes-large : {t : Bool} → t ≡ mosts (finished s marks) → not t ≡ true → Makes s marks room room (Err TooLarge)
     makes-large {t} e g = too_large (sym e ∙ not-true t g)
 
-    pub makes-many : {order : List ℕ} {r : Joined} → Joins s order (texts s) r → r ≡ J.TooMany → length order ≡ 16384 → Makes s marks room room (Refused TooLarge)
+    pub makes-many : {order : List ℕ} {r : Joined} → Joins s order (texts s) r → r ≡ J.TooMany → length order ≡ 16384 → Makes s marks room room (Err TooLarge)
     makes-many {order} {r} j e l =
         let k = rw e at j in
         too_large (mosts-as s marks (both _ _ h).0 ∙ skip _ (stop _ (lt-leb (length (texts s)) 16384 (omega (arith, k.is)))))
 
     module _ {size : ℕ} {t : Bool} (z : FinishedSize s marks size) (m : t ≡ mosts (finished s marks)) (g : not t ≡ false) where
-      pub makes-short : length room < size → Makes s marks room room (Refused BadLimits)
+      pub makes-short : length room < size → Makes s marks room room (Err BadLimits)
       unfolding make_refusal
       makes-short l = refused BadLimits (yes _ h ∙ yes _ (sym m ∙ not-false t g) ∙ no _ (lt-leb (length (finished s marks)) (length room) (omega (arith, z.is))) refl)
 
@@ -130,9 +130,9 @@ module _ {s marks room : List ℕ} where
           leb-most : length (finished s marks) ≤ 4194304
           leb-most = leb-true _ _ (both _ _ (sym (mosts-as s marks (both _ _ h).0) ∙ (sym m ∙ not-false t g))).0
 
-      pub makes-all : {after : List ℕ} → size ≤ length room → Writing room after 0 (finished s marks) → Makes s marks room after (Put size)
+      pub makes-all : {after : List ℕ} → size ≤ length room → Writing room after 0 (finished s marks) → Makes s marks room after (Ok size)
       unfolding make_refusal made_as room_after over
       makes-all {after} l w =
           let none_is : make_refusal s marks room ≡ none = yes _ h ∙ yes _ (sym m ∙ not-false t g) ∙ yes _ (le-leb (length (finished s marks)) (length room) (omega (arith, z.is))) in
           let from : 0 + length (finished s marks) ≡ length (finished s marks) = omega arith in
-          record { is = rw none_is (ap Put z.is); holds = rw none_is (w.is ∙ ap (λ (n : ℕ). finished s marks ++ drop n room) from) }
+          record { is = rw none_is (ap Ok z.is); holds = rw none_is (w.is ∙ ap (λ (n : ℕ). finished s marks ++ drop n room) from) }

@@ -17,13 +17,6 @@ use meaning::Refusal;
 use stringcheck::{check_bodies, list_count, node_count, point_count, value_count, var_count};
 use tables::{both, wide};
 
-// how many bytes the finished case has
-#[derive(Clone, Copy)]
-pub enum Made {
-    Put(usize),
-    Refused(Refusal),
-}
-
 // tables, and one mark a list word
 fn has_tables(s: &[u8], marks: &[u8]) -> bool
     ensures { ◌≡◌ {A = Bool} result (bodies s.now and eqb (length marks.now) (lists s.now)) }
@@ -63,7 +56,7 @@ fn keeps_mosts(s: &[u8], marks: &[u8], n: usize, size: usize) -> bool
 }
 
 // with the strings in order
-fn make_sorted(s: &[u8], marks: &[u8], order: &[u32], n: usize, room: &mut [u8]) -> Made
+fn make_sorted(s: &[u8], marks: &[u8], order: &[u32], n: usize, room: &mut [u8]) -> Result<usize, Refusal>
     requires s_value { (bodies s.now and eqb (length marks.now) (lists s.now)) ≡ true }
     requires sorted { Sorted s.now order.now n }
     requires n_bound { n ≤ 16384 }
@@ -72,25 +65,25 @@ fn make_sorted(s: &[u8], marks: &[u8], order: &[u32], n: usize, room: &mut [u8])
     let total = text_bytes(s, order, n);
     let size = finished_size(s, marks, n, total);
     if !keeps_mosts(s, marks, n, size) {
-        return Made::Refused(Refusal::TooLarge);
+        return Err(Refusal::TooLarge);
     }
     if room.len() < size {
-        return Made::Refused(Refusal::BadLimits);
+        return Err(Refusal::BadLimits);
     }
     finish(s, marks, order, n, total, room);
-    Made::Put(size)
+    Ok(size)
 }
 
-pub fn make(s: &[u8], marks: &[u8], room: &mut [u8]) -> Made
+// how many bytes the finished case has
+pub fn make(s: &[u8], marks: &[u8], room: &mut [u8]) -> Result<usize, Refusal>
     ensures { Makes s.now marks.now room.old room.new result }
 {
     if !has_tables(s, marks) {
-        return Made::Refused(Refusal::BadContents);
+        return Err(Refusal::BadContents);
     }
     let mut order: [u32; 16384] = [0; 16384];
-    let joined = join_strings(s, &mut order);
-    match joined {
-        Joined::Made(n) => make_sorted(s, marks, &order, n, room),
-        Joined::TooMany => Made::Refused(Refusal::TooLarge),
-    }
+    let Joined::Made(n) = join_strings(s, &mut order) else {
+        return Err(Refusal::TooLarge);
+    };
+    make_sorted(s, marks, &order, n, room)
 }

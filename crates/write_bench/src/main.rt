@@ -4,8 +4,7 @@
 
 ghost use Rattle.std.specs.Prelude.{◌≡◌, ◌≤◌, length, IfOk};
 
-use casecheck::Checking;
-use casewrite::{Written, write};
+use casewrite::write;
 use std::io;
 use std::rt::Files;
 
@@ -17,24 +16,12 @@ fn room() -> [u8; 4096]
 }
 
 fn say(rt: &impl Print, yes: bool) -> io::Result<()> {
-    if yes {
-        rt.print("yes\n")
-    } else {
-        rt.print("no\n")
-    }
-}
-
-fn passes(file: &[u8]) -> bool {
-    let checking = casecheck::check(file);
-    match checking {
-        Checking::Passes(contents) => true,
-        Checking::Refused(r) => false,
-    }
+    rt.print(if yes { "yes\n" } else { "no\n" })
 }
 
 fn tell(rt: &impl Print, written: &[u8], stored: &[u8]) -> io::Result<()> {
     rt.print("passes the check: ")?;
-    say(rt, passes(written))?;
+    say(rt, casecheck::check(written).is_ok())?;
     rt.print("as stored: ")?;
     say(rt, written == stored)
 }
@@ -44,8 +31,7 @@ fn report(rt: &impl Print, out: &[u8], size: usize, stored: &[u8]) -> io::Result
         return Ok(());
     }
     println!(rt; "bytes: {size}")?;
-    let from = 0;
-    tell(rt, &out[from..size], stored)
+    tell(rt, &out[..size], stored)
 }
 
 fn write_and_report(
@@ -56,13 +42,9 @@ fn write_and_report(
     out: &mut [u8],
 ) -> io::Result<()> {
     let mut lent: [u8; 4096] = [0; 4096];
-    let written = write(unsorted, marks, &mut lent, out);
-    match written {
-        Written::Wrote(size) => report(rt, out, size, stored),
-        Written::Refused(r) => {
-            let number = refusals::number(r);
-            println!(rt; "refused {number}")
-        }
+    match write(unsorted, marks, &mut lent, out) {
+        Ok(size) => report(rt, out, size, stored),
+        Err(refusal) => println!(rt; "refused {}", refusals::number(refusal)),
     }
 }
 
@@ -75,15 +57,11 @@ fn write_short(
     out: &mut [u8],
     before: &[u8],
 ) -> io::Result<()> {
-    if stored.len() == 0 {
-        return Ok(());
-    }
-    if out.len() < stored.len() {
+    if stored.is_empty() || out.len() < stored.len() {
         return Ok(());
     }
     let short = stored.len() - 1;
-    let from = 0;
-    write_and_report(rt, unsorted, marks, stored, &mut out[from..short])?;
+    write_and_report(rt, unsorted, marks, stored, &mut out[..short])?;
     rt.print("output as it was: ")?;
     say(rt, *out == *before)
 }
@@ -92,10 +70,7 @@ fn write_short(
 fn read<R: Files + Eprint>(rt: &R, path: &str, into: &mut [u8]) -> io::Result<usize>
     ensures { IfOk result (λ n. n ≤ length into.new) }
 {
-    match intake::load(rt, path, into)? {
-        Some(n) => Ok(n),
-        None => Ok(0),
-    }
+    Ok(intake::load(rt, path, into)?.unwrap_or(0))
 }
 
 fn main(rt: HostRuntime) -> io::Result<()> {

@@ -8,8 +8,8 @@ returns-then-not-strings_in_text c = search (strings-against, rules)
 pub returns-then-number-lt6 : goal.returns-then-number-lt6
 returns-then-number-lt6 c = search (case-other, rules)
 
-pub returns-in-Passes : goal.returns-in-Passes
-returns-in-Passes c = search (case-passes, rules)
+pub returns-in-Ok : goal.returns-in-Ok
+returns-in-Ok c = search (case-passes, rules)
 
 pub returns-else-number-lt6 : goal.returns-else-number-lt6
 returns-else-number-lt6 c = search (case-nodes, rules)

@@ -1,14 +1,12 @@
 -- What an import takes: every line that it takes is an event by the grammar, and every log that can be written is taken
-use Rattle.std.specs.Prelude.{◌≡◌, refl, Bool, true, false, List, [], ◌∷◌, ℕ, ◌+◌, ◌-◌, ◌≤◌, leb, length}
+use Rattle.std.specs.Prelude.{◌≡◌, refl, Bool, true, false, List, [], ◌∷◌, ℕ, ◌+◌, ◌-◌, ◌≤◌, leb, length, Ok, Err}
 use Rattle.std.proofs.Common.{sym, ap, subst, ◌∙◌, le-leb}
 use Rattle.meaning.specs.declared.Refusal.TheVariants.{BadLimits}
 use Rattle.meaning.specs.Tests.{choose}
 use Rattle.laws.specs.Tests.{pass, yes}
-use Rattle.encode.proofs.Laws.Read.{never}
 use Rattle.jsontext.specs.Reading.{Read, got, fault}
 use Rattle.jsontext.specs.Events.{Event, Log, events, refused, line, cut, with_event, lines, log}
-use Rattle.jsontrace.specs.declared.Imported.{Imported}
-use Rattle.jsontrace.specs.declared.Imported.TheVariants.{Written, Faulty, Refused}
+use Rattle.jsontrace.specs.declared.ImportError.TheVariants.{Refused}
 use Rattle.jsontrace.specs.Trace.{trace, trace_marks}
 use Rattle.jsontrace.specs.Import.{cells_for, longest, given_events, given_log, imported}
 use Rattle.jsontrace.specs.Text.{log_text}
@@ -27,14 +25,6 @@ pub record Taken (text : List ℕ) : Type 0 where
   pub is : log text ≡ events what
   pub reads : Reads (cut text) what
 
-is_good : Log → Bool
-is_good (events es) = true
-is_good (refused w at first) = false
-
-no-log : {P : Type 0} (l : Log) {es : List Event} → is_good l ≡ false → l ≡ events es → P
-unfolding is_good
-no-log l f h = never (sym f ∙ ap is_good h)
-
 -- what a line adds to those after it
 record Split (e : Event) (l : Log) (es : List Event) : Type 0 where
   others : List Event
@@ -42,12 +32,12 @@ record Split (e : Event) (l : Log) (es : List Event) : Type 0 where
   whole : es ≡ e ∷ others
 
 split : (e : Event) (l : Log) (es : List Event) → with_event e l ≡ events es → Split e l es
-unfolding with_event is_good
+unfolding with_event
 split e (events others) es h = record { others = others; is = refl; whole = cc }
-split e (refused w at first) es h = no-log (refused w at first) refl h
+split e (refused w at first) es h = cc
 
 read-lines : (at : ℕ) (ls : List (List ℕ)) (es : List Event) → lines at ls ≡ events es → Reads ls es
-unfolding lines is_good
+unfolding lines
 read-lines at [] es h = let e : [] ≡ es = cc in subst (λ (x : List Event). Reads [] x) e none
 read-lines at (l ∷ ls) es h = go (line l) refl h (λ others q. read-lines (at + length l + 1) ls others q)
   where
@@ -55,29 +45,20 @@ read-lines at (l ∷ ls) es h = go (line l) refl h (λ others q. read-lines (at 
     go (got e rest) q h next =
         let s = split e (lines (at + length l + 1) ls) es h in
         subst (λ (x : List Event). Reads (l ∷ ls) x) (sym s.whole) (more rest q (next s.others s.is))
-    go (fault w left first) q h next = no-log (refused w (at + length l - left) (at + length l - first)) refl h
+    go (fault w left first) q h next = cc
 
-is_written : Imported → Bool
-is_written (Written bytes marks) = true
-is_written (Faulty w at first) = false
-is_written (Refused r) = false
-
-no_import : {P : Type 0} (i : Imported) {bytes marks : ℕ} → is_written i ≡ false → i ≡ Written bytes marks → P
-unfolding is_written
-no_import i f h = never (sym f ∙ ap is_written h)
-
-pub accepted : (text workspace file marks : List ℕ) (bytes many : ℕ) → imported text workspace file marks ≡ Written bytes many → Taken text
-unfolding imported given_log choose is_written log
+pub accepted : (text workspace file marks : List ℕ) (bytes many : ℕ) → imported text workspace file marks ≡ Ok (bytes, many) → Taken text
+unfolding imported given_log choose log
 accepted text workspace file marks bytes many h = go (leb (cells_for text) (length workspace)) (lines 0 (cut text)) refl h
   where
-    go : (b : Bool) (l : Log) → lines 0 (cut text) ≡ l → choose b (given_log file marks l) (Refused BadLimits) ≡ Written bytes many → Taken text
+    go : (b : Bool) (l : Log) → lines 0 (cut text) ≡ l → choose b (given_log file marks l) (Err (Refused BadLimits)) ≡ Ok (bytes, many) → Taken text
     go true (events es) q h = record { what = es; is = q; reads = read-lines 0 (cut text) es q }
-    go true (refused w at first) q h = no_import (Faulty w at first) refl h
-    go false l q h = no_import (Refused BadLimits) refl h
+    go true (refused w at first) q h = cc
+    go false l q h = cc
 
 -- ---- every log that can be written is taken
 
-pub accepts : (es : List Event) → writable_events es ≡ true → (workspace file marks : List ℕ) → cells_for (log_text es) ≤ length workspace → length (trace es) ≤ longest → length (trace es) ≤ length file → length (trace_marks es) ≤ length marks → imported (log_text es) workspace file marks ≡ Written (length (trace es)) (length (trace_marks es))
+pub accepts : (es : List Event) → writable_events es ≡ true → (workspace file marks : List ℕ) → cells_for (log_text es) ≤ length workspace → length (trace es) ≤ longest → length (trace es) ≤ length file → length (trace_marks es) ≤ length marks → imported (log_text es) workspace file marks ≡ Ok (length (trace es), length (trace_marks es))
 unfolding imported given_log given_events
 accepts es w workspace file marks c l f m =
     yes _ (le-leb (cells_for (log_text es)) (length workspace) c)

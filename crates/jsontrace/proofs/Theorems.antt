@@ -1,5 +1,5 @@
 -- What is shown of import and export: what they say goes by lengths and text alone; a case's log is read as its points; and a trace passes rule 1 of the writer
-use Rattle.std.specs.Prelude.{◌≡◌, refl, Bool, true, false, List, [], ◌∷◌, ◌++◌, ℕ, leb, length, take, drop}
+use Rattle.std.specs.Prelude.{◌≡◌, refl, Bool, true, false, List, [], ◌∷◌, ◌++◌, ℕ, leb, length, take, drop, Ok, Err}
 use Rattle.std.proofs.Common.{sym, ◌∙◌, take_at, eq-eqb}
 use Rattle.std.proofs.Math.Path.{ap}
 use Rattle.std.proofs.Math.Option.{Option, none, some}
@@ -11,15 +11,13 @@ use Rattle.meaning.specs.Check.{Checked, check, mosts, string_rules, node_rules}
 use Rattle.laws.specs.Tests.{pass, yes}
 use Rattle.encode.specs.Unsorted.{in_text, finished}
 use Rattle.encode.specs.Write.{over, node_marks, make_refusal}
-use Rattle.encode.proofs.Laws.Read.{never}
 use Rattle.jsontext.specs.Events.{Event, Log, events, refused, log}
-use Rattle.jsontrace.specs.declared.Imported.TheVariants.{Refused as Refused_as_Imported}
-use Rattle.jsontrace.specs.declared.Exported.{Exported}
-use Rattle.jsontrace.specs.declared.Exported.TheVariants.{Written, Ambiguous, Refused}
+use Rattle.jsontrace.specs.declared.ImportError.TheVariants.{Refused as Refused-as-ImportError}
+use Rattle.jsontrace.specs.declared.ExportError.TheVariants.{Ambiguous, Refused}
 use Rattle.jsontrace.specs.Trace.{trace, trace_marks}
 use Rattle.jsontrace.specs.Count.{counted_events, trace_bytes}
 use Rattle.jsontrace.specs.Import.{cells_for, given_events, given_log, imported}
-use Rattle.jsontrace.specs.Export.{point_events, exported, clear_events, given_case, unless_refused, filled_if, export_call}
+use Rattle.jsontrace.specs.Export.{Exported, point_events, exported, clear_events, given_case, unless_refused, filled_if, export_call}
 use Rattle.jsontrace.specs.Writable.{writable_events}
 use Rattle.jsontrace.proofs.Laws.Trace.{trace-bodies, trace-marks, trace-long, marks-long}
 use Rattle.jsontrace.proofs.Laws.Taken.{never_3, never_6}
@@ -53,36 +51,27 @@ record Answered (s output : List ℕ) (n : ℕ) : Type 0 where
   clear : clear_events (point_events s) ≡ true
   long : n ≡ length (exported s)
 
-is_answer : Exported → Bool
-is_answer (Written n) = true
-is_answer Ambiguous = false
-is_answer (Refused r) = false
-
-no_answer : {P : Type 0} (e : Exported) {n : ℕ} → is_answer e ≡ false → e ≡ Written n → P
-unfolding is_answer
-no_answer e f h = never (sym f ∙ ap is_answer h)
-
-answered : (s output : List ℕ) (n : ℕ) → (export_call s output).said ≡ Written n → Answered s output n
-unfolding export_call given_case unless_refused choose is_answer
+answered : (s output : List ℕ) (n : ℕ) → (export_call s output).said ≡ Ok n → Answered s output n
+unfolding export_call given_case unless_refused choose
 answered s output n h = go (check s) (clear_events (point_events s)) (leb (length (exported s)) (length output)) refl refl h
   where
-    go : (r : Option Refusal) (k l : Bool) → check s ≡ r → clear_events (point_events s) ≡ k → unless_refused r (choose k (choose l (Written (length (exported s))) (Refused OutputTooShort)) Ambiguous) ≡ Written n → Answered s output n
+    go : (r : Option Refusal) (k l : Bool) → check s ≡ r → clear_events (point_events s) ≡ k → unless_refused r (choose k (choose l (Ok (length (exported s))) (Err (Refused OutputTooShort))) (Err Ambiguous)) ≡ Ok n → Answered s output n
     go none true true e f h = record { checked = record { passes = e }; clear = f; long = cc }
-    go none true false e f h = no_answer (Refused OutputTooShort) refl h
-    go none false l e f h = no_answer Ambiguous refl h
-    go (some r) k l e f h = no_answer (Refused r) refl h
+    go none true false e f h = cc
+    go none false l e f h = cc
+    go (some r) k l e f h = cc
 
-pub wrote-points : (s output : List ℕ) (n : ℕ) → (export_call s output).said ≡ Written n → log (take n (export_call s output).output) ≡ events (point_events s)
+pub wrote-points : (s output : List ℕ) (n : ℕ) → (export_call s output).said ≡ Ok n → log (take n (export_call s output).output) ≡ events (point_events s)
 wrote-points s output n h =
     let a = answered s output n h in
     ap log (ap (take n) (wrote s output n h) ∙ take_at (exported s) (drop (length (exported s)) output) n (sym a.long))
     ∙ reads-back s a.checked a.clear
   where
-    wrote : (s output : List ℕ) (n : ℕ) → (export_call s output).said ≡ Written n → (export_call s output).output ≡ exported s ++ drop (length (exported s)) output
+    wrote : (s output : List ℕ) (n : ℕ) → (export_call s output).said ≡ Ok n → (export_call s output).output ≡ exported s ++ drop (length (exported s)) output
     wrote s output n h = unfold export_call in ap (λ (e : Exported). filled_if e (exported s) output) h ∙ (unfold filled_if over in refl)
 
 -- and imported, it gives the trace of these points
-pub import_export : (s : List ℕ) → Checked s → clear_events (point_events s) ≡ true → (workspace file marks : List ℕ) → imported (exported s) workspace file marks ≡ choose (leb (cells_for (exported s)) (length workspace)) (given_events file marks (point_events s)) (Refused_as_Imported BadLimits)
+pub import_export : (s : List ℕ) → Checked s → clear_events (point_events s) ≡ true → (workspace file marks : List ℕ) → imported (exported s) workspace file marks ≡ choose (leb (cells_for (exported s)) (length workspace)) (given_events file marks (point_events s)) (Err (Refused-as-ImportError BadLimits))
 unfolding imported given_log
 import_export s c k workspace file marks = rw (reads-back s c k) refl
 

@@ -1,5 +1,5 @@
 -- A trace word for word, and what the import call says and writes, computed
-use Rattle.std.specs.Prelude.{◌≡◌, refl, true, List, [], ◌∷◌, ◌++◌, map, ℕ, replicate}
+use Rattle.std.specs.Prelude.{◌≡◌, refl, true, List, [], ◌∷◌, ◌++◌, map, ℕ, replicate, Ok, Err}
 use Rattle.meaning.specs.Tests.{◌and◌, ◌or◌, choose, only_if, or_else}
 use Rattle.meaning.specs.Text.{before, first, follow, next, ended as ended·Text}
 use Rattle.meaning.specs.Equal.{is_digit, same_list}
@@ -15,11 +15,10 @@ use Rattle.jsontext.specs.Values.{numeral, begins, due, after_part, items, unles
 use Rattle.jsontext.specs.Events.{comma, closing, triple, unless_none, field_readers, is_field, field_by, with, found, have, whole, complete, event, ended, line, onto, cut, with_event, lines, log}
 use Rattle.meaning.specs.declared.Refusal.TheVariants.{BadLimits, OutputTooShort}
 use Rattle.jsontext.specs.declared.Fault.TheVariants.{BadField}
-use Rattle.jsontrace.specs.declared.Imported.{Imported}
-use Rattle.jsontrace.specs.declared.Imported.TheVariants.{Written, Faulty, Refused}
+use Rattle.jsontrace.specs.declared.ImportError.TheVariants.{Faulty, Refused}
 use Rattle.jsontrace.specs.Order.{insert_part, ordered, ordered_maybe, item_before, insert_item, ordered_entities, arranged}
 use Rattle.jsontrace.specs.Trace.{empty, ◌⊕◌, texts, value as value·Trace, members as members·Trace, point, lists, first as first·Trace, past, last_value, low, high, many, holding, after_run, value_adds, maybe_adds, maybe_number, naming, entity_adds, entities_add, event_adds, events_add, bodies_of, tables_of, trace, trace_marks}
-use Rattle.jsontrace.specs.Import.{fault_number, import_number, cells_for, given_events, given_log, imported, workspace_after, events_of, filled_if, import_call}
+use Rattle.jsontrace.specs.Import.{fault_number, import_number, cells_for, Imported, given_events, given_log, imported, workspace_after, events_of, filled_if, import_call}
 
 -- {"time":5,"namespace":["N"],"action":"a","kind":"k","logged":{"b":[true,-1],"a":"x"},"context":{},"entities":[["U","2",{}],["T","1",{"c":null}]]}
 -- {"time":-1,"namespace":[],"action":"a","kind":"k","logged":{},"context":{"e":{"__entity":{"type":"T","id":"1"}}},"principal":"p","resource":{"__extn":{"fn":"decimal","arg":"1.5"}},"entities":[]}
@@ -83,20 +82,20 @@ marked = refl
 lent : ℕ × ℕ × ℕ → Imported
 lent e = imported two_events (replicate e.0 9) (replicate e.1 9) (replicate e.2 9)
 
-lengths : map lent ((86, 624, 7) ∷ (85, 624, 7) ∷ (86, 623, 7) ∷ (86, 624, 6) ∷ (85, 0, 0) ∷ []) ≡ Written 624 7 ∷ Refused BadLimits ∷ Refused OutputTooShort ∷ Refused OutputTooShort ∷ Refused BadLimits ∷ []
+lengths : map lent ((86, 624, 7) ∷ (85, 624, 7) ∷ (86, 623, 7) ∷ (86, 624, 6) ∷ (85, 0, 0) ∷ []) ≡ Ok (624, 7) ∷ Err (Refused BadLimits) ∷ Err (Refused OutputTooShort) ∷ Err (Refused OutputTooShort) ∷ Err (Refused BadLimits) ∷ []
 unfolding all lent
 lengths = refl
 
 -- {}: 10 before the text, the text before 14; the workspace is cleared, the buffers are as they were
-faulty : import_call (123 ∷ 125 ∷ []) (9 ∷ 9 ∷ []) (9 ∷ []) [] ≡ record { said = Faulty BadField 1 1; workspace = 0 ∷ 9 ∷ []; trace = 9 ∷ []; marks = [] }
+faulty : import_call (123 ∷ 125 ∷ []) (9 ∷ 9 ∷ []) (9 ∷ []) [] ≡ record { said = Err (Faulty (record { fault = BadField; at = 1; first = 1 })); workspace = 0 ∷ 9 ∷ []; trace = 9 ∷ []; marks = [] }
 unfolding all
 faulty = refl
 
-unlent : import_call (123 ∷ 125 ∷ []) [] (9 ∷ []) [] ≡ record { said = Refused BadLimits; workspace = []; trace = 9 ∷ []; marks = [] }
+unlent : import_call (123 ∷ 125 ∷ []) [] (9 ∷ []) [] ≡ record { said = Err (Refused BadLimits); workspace = []; trace = 9 ∷ []; marks = [] }
 unfolding all
 unlent = refl
 
 -- no event: contents alone
-no-event : import_call [] [] (replicate 66 9) (9 ∷ []) ≡ record { said = Written 64 0; workspace = []; trace = encoded 0 ([] ∷ [] ∷ [] ∷ [] ∷ [] ∷ [] ∷ [] ∷ []) ++ (9 ∷ 9 ∷ []); marks = 9 ∷ [] }
+no-event : import_call [] [] (replicate 66 9) (9 ∷ []) ≡ record { said = Ok (64, 0); workspace = []; trace = encoded 0 ([] ∷ [] ∷ [] ∷ [] ∷ [] ∷ [] ∷ [] ∷ []) ++ (9 ∷ 9 ∷ []); marks = 9 ∷ [] }
 unfolding all
 no-event = refl

@@ -1,5 +1,5 @@
 -- The export call, for every input: a case's points as events, and what is said and written (J20 to J23)
-use Rattle.std.specs.Prelude.{Bool, true, not, List, [], ◌∷◌, map, ℕ, leb, eqb, length}
+use Rattle.std.specs.Prelude.{Bool, true, not, List, [], ◌∷◌, map, ℕ, leb, eqb, length, Result, Ok, Err}
 use Rattle.std.proofs.Math.Option.{Option, none, some}
 use Rattle.meaning.specs.declared.Refusal.{Refusal}
 use Rattle.meaning.specs.declared.Refusal.TheVariants.{OutputTooShort}
@@ -12,8 +12,8 @@ use Rattle.meaning.specs.Calls.{number_of}
 use Rattle.encode.specs.Write.{over}
 use Rattle.jsontext.specs.Values.{J, Null as Null-as-J, Truth, Int as Int-as-J, Text as Text-as-J, EntityOf, Decimal as Decimal-as-J, Array as Array-as-J, Object as Object-as-J, Parts, end, part, __entity, __extn}
 use Rattle.jsontext.specs.Events.{Item, Event}
-use Rattle.jsontrace.specs.declared.Exported.{Exported}
-use Rattle.jsontrace.specs.declared.Exported.TheVariants.{Written, Ambiguous, Refused}
+use Rattle.jsontrace.specs.declared.ExportError.{ExportError}
+use Rattle.jsontrace.specs.declared.ExportError.TheVariants.{Ambiguous, Refused}
 use Rattle.jsontrace.specs.Text.{log_text}
 
 -- ---- a case's points as events
@@ -121,28 +121,31 @@ clear_events (e ∷ es) = clear_event e and clear_events es
 
 -- ---- the call
 
+-- bytes of the log; or why there is none
+abbrev pub Exported : Type 0
+Exported = Result ℕ ExportError
+
 -- 0 where nothing is refused
 unfoldable pub export_number : Exported → ℕ
-export_number (Written bytes) = 0
-export_number Ambiguous = 25
-export_number (Refused r) = number_of r
+export_number (Ok bytes) = 0
+export_number (Err Ambiguous) = 25
+export_number (Err (Refused r)) = number_of r
 
 -- of a case that passes: 25 before 14
 unfoldable pub given_case : List ℕ → List ℕ → Exported
 given_case s output =
     choose (clear_events (point_events s))
-    (choose (leb (length (exported s)) (length output)) (Written (length (exported s))) (Refused OutputTooShort))
-    Ambiguous
+    (choose (leb (length (exported s)) (length output)) (Ok (length (exported s))) (Err (Refused OutputTooShort)))
+    (Err Ambiguous)
 
 unfoldable pub unless_refused : Option Refusal → Exported → Exported
 unless_refused none said = said
-unless_refused (some r) said = Refused r
+unless_refused (some r) said = Err (Refused r)
 
 -- a buffer changes only on an answer, only in the bytes filled
 unfoldable pub filled_if : Exported → List ℕ → List ℕ → List ℕ
-filled_if (Written bytes) new buffer = over new buffer
-filled_if Ambiguous new buffer = buffer
-filled_if (Refused r) new buffer = buffer
+filled_if (Ok bytes) new buffer = over new buffer
+filled_if (Err e) new buffer = buffer
 
 pub record ExportResult : Type 0 where
   pub said : Exported

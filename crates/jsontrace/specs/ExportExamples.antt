@@ -1,5 +1,5 @@
 -- Two events imported, written and exported; 25 and 14, computed
-use Rattle.std.specs.Prelude.{◌≡◌, refl, true, List, [], ◌∷◌, ◌++◌, map, ℕ, replicate}
+use Rattle.std.specs.Prelude.{◌≡◌, refl, true, List, [], ◌∷◌, ◌++◌, map, ℕ, replicate, Ok, Err}
 use Rattle.std.proofs.Math.Option.{none}
 use Rattle.meaning.specs.declared.Refusal.TheVariants.{BadContents, BadPoints, OutputTooShort}
 use Rattle.meaning.specs.Below.{upto, made}
@@ -12,12 +12,11 @@ use Rattle.encode.specs.Encode.{encoded}
 use Rattle.encode.specs.Join.{insert_new, below, joined}
 use Rattle.encode.specs.Unsorted.{texts, number, value_names, member_names, point_names, node_names, marked, names, renamed, table, tables, parts, finished}
 use Rattle.jsontext.specs.Events.{log}
-use Rattle.jsontrace.specs.declared.Exported.{Exported}
-use Rattle.jsontrace.specs.declared.Exported.TheVariants.{Written, Ambiguous, Refused}
+use Rattle.jsontrace.specs.declared.ExportError.TheVariants.{Ambiguous, Refused}
 use Rattle.jsontrace.specs.Trace.{trace, trace_marks}
 use Rattle.jsontrace.specs.Import.{events_of}
 use Rattle.jsontrace.specs.Text.{hex_byte, escaped_byte, escaped, quoted, decimal_digits, natural, integer, after_first, commas, brackets, braces, pair, shown, maybe_pair, entity_text, field_texts, event_text, log_text}
-use Rattle.jsontrace.specs.Export.{parts_of, members_of, tree_of, tree_at, maybe_tree, item_of, event_of, point_events, exported, form_name, not_form, clear, clear_maybe, clear_items, clear_event, clear_events, given_case, unless_refused, filled_if, export_call}
+use Rattle.jsontrace.specs.Export.{Exported, parts_of, members_of, tree_of, tree_at, maybe_tree, item_of, event_of, point_events, exported, form_name, not_form, clear, clear_maybe, clear_items, clear_event, clear_events, given_case, unless_refused, filled_if, export_call}
 use Rattle.jsontrace.specs.Examples.{all, two_events}
 
 -- the whole definition is computed by
@@ -64,7 +63,7 @@ into : ℕ × ℕ → Exported
 into e = (export_call (logging e.0) (replicate e.1 9)).said
 
 -- a form is told of before a short output; one that no point reaches does not matter
-said : map into ((2, 105) ∷ (2, 104) ∷ (1, 999) ∷ (1, 0) ∷ (0, 0) ∷ []) ≡ Written 105 ∷ Refused OutputTooShort ∷ Ambiguous ∷ Ambiguous ∷ Refused BadPoints ∷ []
+said : map into ((2, 105) ∷ (2, 104) ∷ (1, 999) ∷ (1, 0) ∷ (0, 0) ∷ []) ≡ Ok 105 ∷ Err (Refused OutputTooShort) ∷ Err Ambiguous ∷ Err Ambiguous ∷ Err (Refused BadPoints) ∷ []
 unfolding exports logging into
 said = refl
 
@@ -72,6 +71,6 @@ output : (export_call (logging 2) (replicate 106 9)).output ≡ line ++ (9 ∷ [
 unfolding exports logging line
 output = refl
 
-no-case : export_call [] (9 ∷ []) ≡ record { said = Refused BadContents; output = 9 ∷ [] }
+no-case : export_call [] (9 ∷ []) ≡ record { said = Err (Refused BadContents); output = 9 ∷ [] }
 unfolding exports
 no-case = refl

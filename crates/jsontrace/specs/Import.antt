@@ -1,5 +1,5 @@
 -- The import call, for every input: what is said, and what the workspace, the trace and the marks hold after it (J16)
-use Rattle.std.specs.Prelude.{List, [], ℕ, ◌+◌, ◌/◌, leb, length}
+use Rattle.std.specs.Prelude.{List, [], ℕ, ◌+◌, ◌/◌, leb, length, Result, Ok, Err}
 use Rattle.meaning.specs.declared.Refusal.TheVariants.{TooLarge, BadLimits, OutputTooShort}
 use Rattle.meaning.specs.Tests.{◌and◌, choose}
 use Rattle.meaning.specs.Calls.{number_of, cleared}
@@ -7,9 +7,13 @@ use Rattle.encode.specs.Write.{over}
 use Rattle.jsontext.specs.declared.Fault.{Fault}
 use Rattle.jsontext.specs.declared.Fault.TheVariants.{NotJson, RepeatedName, BadNumber, BadField, TooDeep}
 use Rattle.jsontext.specs.Events.{Event, Log, events, refused, log}
-use Rattle.jsontrace.specs.declared.Imported.{Imported}
-use Rattle.jsontrace.specs.declared.Imported.TheVariants.{Written, Faulty, Refused}
+use Rattle.jsontrace.specs.declared.ImportError.{ImportError}
+use Rattle.jsontrace.specs.declared.ImportError.TheVariants.{Faulty, Refused}
 use Rattle.jsontrace.specs.Trace.{trace, trace_marks}
+
+-- bytes of the trace and of its marks; or why there is none
+abbrev pub Imported : Type 0
+Imported = Result (ℕ × ℕ) ImportError
 
 unfoldable pub fault_number : Fault → ℕ
 fault_number NotJson = 20
@@ -20,9 +24,9 @@ fault_number TooDeep = 24
 
 -- 0 where nothing is refused
 unfoldable pub import_number : Imported → ℕ
-import_number (Written bytes marks) = 0
-import_number (Faulty w at first) = fault_number w
-import_number (Refused r) = number_of r
+import_number (Ok sizes) = 0
+import_number (Err (Faulty bad)) = fault_number bad.fault
+import_number (Err (Refused r)) = number_of r
 
 -- a name takes four bytes of the text at least, with its colon and its value
 unfoldable pub cells_for : List ℕ → ℕ
@@ -39,18 +43,18 @@ module _ (file marks : List ℕ) where
   given_events es =
       choose (leb (length (trace es)) longest)
       (choose (leb (length (trace es)) (length file) and leb (length (trace_marks es)) (length marks))
-      (Written (length (trace es)) (length (trace_marks es)))
-      (Refused OutputTooShort))
-      (Refused TooLarge)
+      (Ok (length (trace es), length (trace_marks es)))
+      (Err (Refused OutputTooShort)))
+      (Err (Refused TooLarge))
 
   unfoldable pub given_log : Log → Imported
   given_log (events es) = given_events es
-  given_log (refused w at before) = Faulty w at before
+  given_log (refused w at before) = Err (Faulty (record { fault = w; at = at; first = before }))
 
 -- and a workspace for the names of open objects: 10 first, then what is wrong with the text
 unfoldable pub imported : List ℕ → List ℕ → List ℕ → List ℕ → Imported
 imported text workspace file marks =
-    choose (leb (cells_for text) (length workspace)) (given_log file marks (log text)) (Refused BadLimits)
+    choose (leb (cells_for text) (length workspace)) (given_log file marks (log text)) (Err (Refused BadLimits))
 
 -- ---- after it
 
@@ -65,9 +69,8 @@ events_of (refused w at before) = []
 
 -- a buffer changes only on an answer, only in the bytes filled
 unfoldable pub filled_if : Imported → List ℕ → List ℕ → List ℕ
-filled_if (Written bytes marks) new buffer = over new buffer
-filled_if (Faulty w at before) new buffer = buffer
-filled_if (Refused r) new buffer = buffer
+filled_if (Ok sizes) new buffer = over new buffer
+filled_if (Err e) new buffer = buffer
 
 pub record ImportResult : Type 0 where
   pub said : Imported

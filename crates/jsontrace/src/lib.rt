@@ -2,21 +2,19 @@
 
 #![tactic(auto)]
 
-use jsontext::Fault;
+use jsontext::Bad;
 use meaning::Refusal;
 
-// bytes of the trace and of its marks; or what is wrong with the text, its place, and for a repeated name the place of the first; or a refusal that is not about the text
+// why there is no trace: what is wrong with the text; or a refusal that is not about the text
 #[derive(Clone, Copy)]
-pub enum Imported {
-    Written(usize, usize),
-    Faulty(Fault, usize, usize),
+pub enum ImportError {
+    Faulty(Bad),
     Refused(Refusal),
 }
 
-// bytes of the text; or an object that would be read as one of Cedar's forms
+// why there is no log: an object that would be read as one of Cedar's forms; or a refusal
 #[derive(Clone, Copy)]
-pub enum Exported {
-    Written(usize),
+pub enum ExportError {
     Ambiguous,
     Refused(Refusal),
 }

@@ -2,7 +2,8 @@
 
 #![tactic(auto)]
 
-ghost use Rattle.std.specs.Prelude.{[], ◌∷◌, ◌++◌, ◌+◌, ◌/◌, ◌<◌, ◌≤◌, min, ◌≡◌, length, get_or, eqb};
+ghost use Rattle.std.specs.Prelude.{[], ◌∷◌, ◌++◌, ◌+◌, ◌/◌, ◌<◌, ◌≤◌, min, ◌≡◌, Bool, length, get_or, eqb};
+ghost use Rattle.meaning.specs.Tests.{◌or◌};
 ghost use Rattle.std.proofs.Common.{to_z};
 ghost use Rattle.std.specs.Int.{w64};
 ghost use Rattle.meaning.specs.Case.{values, text, member_word};
@@ -17,7 +18,7 @@ ghost use Rattle.jsonput.specs.Values.{Read, value_text, text_from, name_text, i
 use encode::copy_at;
 use meaning::{StrNo, ValNo};
 use stringcheck::value_count;
-use tables::{either, halves, member_word, text_of, value_word, wide};
+use tables::{halves, member_word, text_of, value_word};
 
 // ---- bytes and pieces: where the next goes
 
@@ -43,7 +44,7 @@ fn hex_byte(d: u8) -> u8
     requires { d < 16 }
     ensures { result ≡ hex_byte d }
 {
-    if d < 10 { 48 + d } else { 87 + d }
+    if d < 10 { b'0' + d } else { b'a' + (d - 10) }
 }
 
 // \u00 and the first digit
@@ -64,6 +65,13 @@ fn put_control(out: &mut [u8], at: usize, c: u8) -> usize
     put_byte(out, low, hex_byte(c % 16))
 }
 
+// a quotation mark or a backslash, which stand in a string after a backslash
+pub fn is_marked(c: u8) -> bool
+    ensures { ◌≡◌ {A = Bool} result (eqb c 34 or eqb c 92) }
+{
+    c == b'"' || c == b'\\'
+}
+
 fn put_escaped_byte(out: &mut [u8], at: usize, c: u8) -> usize
     requires { at + length (escaped_byte c) ≤ length out.old }
     ensures { Put out.old out.new at (escaped_byte c) result }
@@ -71,8 +79,8 @@ fn put_escaped_byte(out: &mut [u8], at: usize, c: u8) -> usize
     if c < 32 {
         return put_control(out, at, c);
     }
-    if either(c == 34, c == 92) {
-        let next = put_byte(out, at, 92);
+    if is_marked(c) {
+        let next = put_byte(out, at, b'\\');
         return put_byte(out, next, c);
     }
     put_byte(out, at, c)
@@ -83,10 +91,8 @@ fn put_escaped(out: &mut [u8], at: usize, t: &[u8]) -> usize
     ensures { Put out.old out.new at (escaped t.now) result }
 {
     let mut next = at;
-    let mut i = 0;
-    while i < t.len() {
-        next = put_escaped_byte(out, next, t[i]);
-        i += 1;
+    for &c in t {
+        next = put_escaped_byte(out, next, c);
     }
     next
 }
@@ -96,7 +102,7 @@ fn put_opened(out: &mut [u8], at: usize, t: &[u8]) -> usize
     requires { at + length (34 ∷ escaped t.now) ≤ length out.old }
     ensures { Put out.old out.new at (34 ∷ escaped t.now) result }
 {
-    let first = put_byte(out, at, 34);
+    let first = put_byte(out, at, b'"');
     put_escaped(out, first, t)
 }
 
@@ -105,7 +111,7 @@ fn put_quoted(out: &mut [u8], at: usize, t: &[u8]) -> usize
     ensures { Put out.old out.new at (quoted t.now) result }
 {
     let last = put_opened(out, at, t);
-    put_byte(out, last, 34)
+    put_byte(out, last, b'"')
 }
 
 // ---- integers
@@ -114,7 +120,7 @@ fn digit_byte(d: u64) -> u8
     requires { d < 10 }
     ensures { result ≡ 48 + d }
 {
-    48 + (d as u8)
+    b'0' + d as u8
 }
 
 // the higher digits first: at most 20 calls deep
@@ -134,11 +140,12 @@ pub fn put_integer(out: &mut [u8], at: usize, bits: u64) -> usize
     requires { at + length (integer (to_z w64 bits)) ≤ length out.old }
     ensures { Put out.old out.new at (integer (to_z w64 bits)) result }
 {
-    if bits < 9223372036854775808 {
-        return put_natural(out, at, bits);
+    let n = bits.cast_signed();
+    if n < 0 {
+        let first = put_byte(out, at, b'-');
+        return put_natural(out, first, n.unsigned_abs());
     }
-    let first = put_byte(out, at, 45);
-    put_natural(out, first, 18446744073709551615 - bits + 1)
+    put_natural(out, at, n.unsigned_abs())
 }
 
 // ---- strings of the case
@@ -168,9 +175,10 @@ fn put_truth(out: &mut [u8], at: usize, b: u32) -> usize
     ensures { Put out.old out.new at (shown (Truth (eqb b 1))) result }
 {
     if b == 1 {
-        return put_piece(out, at, b"true");
+        put_piece(out, at, b"true")
+    } else {
+        put_piece(out, at, b"false")
     }
-    put_piece(out, at, b"false")
 }
 
 fn put_decimal(s: &[u8], t: StrNo, out: &mut [u8], at: usize) -> usize
@@ -200,7 +208,7 @@ fn put_entity(s: &[u8], t: StrNo, i: StrNo, out: &mut [u8], at: usize) -> usize
     put_piece(out, next, b"}}")
 }
 
-// from its kind and its words
+// from its kind and its words; a number in a match, since the kind is a word of the case file, read here alone
 fn put_leaf(s: &[u8], kind: u32, a: u32, b: u32, out: &mut [u8], at: usize) -> usize
     requires checked { Checked s.now }
     requires kind_bound { kind < 6 }
@@ -223,10 +231,7 @@ pub fn put_comma(out: &mut [u8], at: usize, i: u32) -> usize
     requires { at + length (comma i) ≤ length out.old }
     ensures { Put out.old out.new at (comma i) result }
 {
-    if i == 0 {
-        return at;
-    }
-    put_byte(out, at, 44)
+    if i == 0 { at } else { put_byte(out, at, b',') }
 }
 
 // a member's name with its colon; an array's item has none
@@ -239,7 +244,7 @@ fn put_name(s: &[u8], kind: u32, m: usize, out: &mut [u8], at: usize) -> usize
         return at;
     }
     let next = put_string(s, StrNo(member_word(s, m, 0)), out, at);
-    put_byte(out, next, 58)
+    put_byte(out, next, b':')
 }
 
 // what comes before the value of item i
@@ -269,19 +274,19 @@ fn put_close(out: &mut [u8], at: usize, kind: u32) -> usize
 fn opening_byte(kind: u32) -> u8
     ensures { result ≡ opening kind }
 {
-    if kind == 7 { 123 } else { 91 }
+    if kind == 7 { b'{' } else { b'[' }
 }
 
 fn closing_byte(kind: u32) -> u8
     ensures { result ≡ closing kind }
 {
-    if kind == 7 { 125 } else { 93 }
+    if kind == 7 { b'}' } else { b']' }
 }
 
 fn place(first: u32, i: u32) -> usize
     ensures { result ≡ first + i }
 {
-    wide(first) + wide(i)
+    first as usize + i as usize
 }
 
 // the value of item i of a run
@@ -304,10 +309,11 @@ pub fn words_of(s: &[u8], v: ValNo) -> Words
     requires { Checked s.now }
     ensures { Read s.now v.0 result.kind result.first result.items }
 {
-    let kind = value_word(s, v, 0);
-    let first = value_word(s, v, 1);
-    let items = value_word(s, v, 2);
-    Words { kind, first, items }
+    Words {
+        kind: value_word(s, v, 0),
+        first: value_word(s, v, 1),
+        items: value_word(s, v, 2),
+    }
 }
 
 // item i of a run: what comes before it, then its value
@@ -334,10 +340,8 @@ pub fn put_value(s: &[u8], v: ValNo, out: &mut [u8], at: usize) -> usize
         return put_leaf(s, h.kind, h.first, h.items, out, at);
     }
     let mut next = put_open(out, at, h.kind);
-    let mut i = 0;
-    while i < h.items {
+    for i in 0..h.items {
         next = put_item(s, h.kind, h.first, i, held_by(s, h.first, i), out, next);
-        i += 1;
     }
     put_close(out, next, h.kind)
 }

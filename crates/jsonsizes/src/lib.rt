@@ -12,22 +12,16 @@ ghost use Rattle.jsontext.specs.Values.{Truth};
 ghost use Rattle.jsontrace.specs.Text.{escaped_byte, escaped, natural, integer, shown};
 ghost use Rattle.jsonsizes.specs.Sizes.{item_long, run_long, frame, string_long, value_long, plain_long, leaf_long, Named, Ready, Readies, Sums};
 
-use jsonput::words_of;
+use jsonput::{is_marked, words_of};
 use meaning::{StrNo, ValNo};
 use stringcheck::{string_count, value_count};
-use tables::{either, halves, member_word, text_of, wide};
+use tables::{halves, member_word, text_of};
 
 // the sum, or the limit where that is less
 pub fn capped(a: usize, b: usize, limit: usize) -> usize
     ensures { result ≡ min (a + b) limit }
 {
-    if limit <= a {
-        return limit;
-    }
-    if limit - a <= b {
-        return limit;
-    }
-    a + b
+    a.saturating_add(b).min(limit)
 }
 
 // ---- strings
@@ -38,20 +32,15 @@ fn escaped_byte_size(c: u8) -> usize
     if c < 32 {
         return 6;
     }
-    if either(c == 34, c == 92) {
-        return 2;
-    }
-    1
+    if is_marked(c) { 2 } else { 1 }
 }
 
 fn escaped_size(t: &[u8], limit: usize) -> usize
     ensures { result ≡ min (length (escaped t.now)) limit }
 {
     let mut total = 0;
-    let mut i = 0;
-    while i < t.len() {
-        total = capped(total, escaped_byte_size(t[i]), limit);
-        i += 1;
+    for &c in t {
+        total = capped(total, escaped_byte_size(c), limit);
     }
     total
 }
@@ -70,11 +59,8 @@ pub fn string_sizes(s: &[u8], limit: usize) -> [usize; 16384]
 {
     let n = string_count(s);
     let mut sizes = [0usize; 16384];
-    let mut k = 0;
-    while k < n {
-        let at = wide(k);
-        sizes[at] = string_size(s, StrNo(k), limit);
-        k += 1;
+    for k in 0..n {
+        sizes[k as usize] = string_size(s, StrNo(k), limit);
     }
     sizes
 }
@@ -84,19 +70,15 @@ pub fn string_sizes(s: &[u8], limit: usize) -> [usize; 16384]
 fn natural_size(n: u64) -> usize
     ensures { (result ≡ length (natural n)) × (result ≤ n + 1) }
 {
-    if n < 10 {
-        return 1;
-    }
-    natural_size(n / 10) + 1
+    if n < 10 { 1 } else { natural_size(n / 10) + 1 }
 }
 
 pub fn integer_size(bits: u64) -> usize
     ensures { result ≡ length (integer (to_z w64 bits)) }
 {
-    if bits < 9223372036854775808 {
-        return natural_size(bits);
-    }
-    natural_size(18446744073709551615 - bits + 1) + 1
+    let n = bits.cast_signed();
+    let digits = natural_size(n.unsigned_abs());
+    if n < 0 { digits + 1 } else { digits }
 }
 
 fn truth_size(b: u32) -> usize
@@ -109,8 +91,7 @@ pub fn counted(sizes: &[usize; 16384], n: u32) -> usize
     requires { n < 16384 }
     ensures { result ≡ get_or sizes.now n 0 }
 {
-    let at = wide(n);
-    sizes[at]
+    sizes[n as usize]
 }
 
 // null, a truth, an integer
@@ -182,11 +163,9 @@ fn block_size(
     ensures { result ≡ min (run_long s.now kind at 512) limit }
 {
     let mut total = 0;
-    let mut i = 0;
-    while i < 512 {
+    for i in 0..512 {
         let one = item_size(s, names, sizes, kind, at + i, limit);
         total = capped(total, one, limit);
-        i += 1;
     }
     total
 }
@@ -208,7 +187,7 @@ fn kept_block(
     ensures value { result ≡ min (run_long s.now kind (512 * b) 512) limit }
     ensures sums_2 { Sums s.now limit sums.new }
 {
-    let at = 2 * b + wide(kind);
+    let at = 2 * b + kind as usize;
     let known = sums[at];
     if known != 0 {
         return known;
@@ -239,6 +218,7 @@ fn run_size(
 {
     let mut total = capped(0, start, limit);
     let mut i = 0;
+    // a while: a step is one member or a block of 512, which no range says
     while i < items {
         let at = first + i;
         if at % 512 != 0 || items - i < 512 {
@@ -288,8 +268,8 @@ fn value_size(
         sizes,
         sums,
         h.kind,
-        wide(h.first),
-        wide(h.items),
+        h.first as usize,
+        h.items as usize,
         start,
         limit,
     )
@@ -304,12 +284,8 @@ pub fn value_sizes(s: &[u8], names: &[usize; 16384], limit: usize) -> [usize; 16
     let n = value_count(s);
     let mut sizes = [0usize; 16384];
     let mut sums = [0usize; 2056];
-    let mut v = 0;
-    while v < n {
-        let size = value_size(s, names, &sizes, &mut sums, v, limit);
-        let at = wide(v);
-        sizes[at] = size;
-        v += 1;
+    for v in 0..n {
+        sizes[v as usize] = value_size(s, names, &sizes, &mut sums, v, limit);
     }
     sizes
 }

@@ -1,4 +1,4 @@
-use Prim.Native.Nat.{◌+◌, ◌*◌, ◌-◌}
+use Prim.Native.Nat.{◌+◌, ◌*◌}
 use Rattle.jsonput.specs.Laws.Values.{Holding}
 use Rattle.jsonput.proofs.+put_item_put_value.Given as goal
 
@@ -11,6 +11,3 @@ decreases-put_value l = 2 * l.v.0
 
 abbrev pub invariant-put_value-loop-i : goal.invariant-put_value-loop-i
 invariant-put_value-loop-i l = Holding l.s (2 * l.fn.v.0) l.h.kind l.h.first l.h.items l.initial.out l.out l.initial.next l.i l.next
-
-abbrev pub decreases-put_value-loop-i : goal.decreases-put_value-loop-i
-decreases-put_value-loop-i l = l.h.items - l.i

@@ -8,5 +8,5 @@ returns-then-i-eq0 c = search (comma-none, rules)
 pub put_byte-requires : goal.put_byte-requires
 put_byte-requires c = search (comma-room, rules)
 
-pub returns : goal.returns
-returns c = search (comma-put, rules)
+pub returns-else-i-eq0 : goal.returns-else-i-eq0
+returns-else-i-eq0 c = search (comma-put, rules)

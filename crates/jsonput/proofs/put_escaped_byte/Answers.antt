@@ -8,8 +8,8 @@ put_byte-next-requires c = search (marked-first, rules)
 pub put_byte-requires : goal.put_byte-requires
 put_byte-requires c = search (marked-second, rules)
 
-pub returns-then-either : goal.returns-then-either
-returns-then-either c = search (marked-put, rules)
+pub returns-then-is_marked : goal.returns-then-is_marked
+returns-then-is_marked c = search (marked-put, rules)
 
 pub put_byte-requires-2 : goal.put_byte-requires-2
 put_byte-requires-2 c = search (itself-room, rules)

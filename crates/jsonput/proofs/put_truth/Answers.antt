@@ -8,8 +8,8 @@ put_piece-requires c = search (true-room, rules)
 pub returns-then-b-eq1 : goal.returns-then-b-eq1
 returns-then-b-eq1 c = search (true-put, rules)
 
-pub put_piece-requires-2 : goal.put_piece-requires-2
-put_piece-requires-2 c = search (false-room, rules)
+pub put_piece-requires-else-b-eq1 : goal.put_piece-requires-else-b-eq1
+put_piece-requires-else-b-eq1 c = search (false-room, rules)
 
-pub returns : goal.returns
-returns c = search (false-put, rules)
+pub returns-else-b-eq1 : goal.returns-else-b-eq1
+returns-else-b-eq1 c = search (false-put, rules)

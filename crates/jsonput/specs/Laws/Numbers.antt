@@ -1,7 +1,7 @@
 -- A number in decimal: its last digit after the higher ones, a minus before a negative one
-use Rattle.std.specs.Prelude.{◌≡◌, refl, Bool, true, false, List, [], ◌∷◌, ◌++◌, ℕ, zero, suc, ◌+◌, ◌-◌, ◌/◌, ◌%◌, ◌<◌, ◌≤◌, ltb, length}
-use Rattle.std.proofs.Common.{sym, ap, ◌∙◌, arith, length-append, to_z, lt-ltb, le-ltb, ltb-false}
-use Rattle.std.specs.Int.{w64}
+use Rattle.std.specs.Prelude.{◌≡◌, refl, Bool, true, false, List, [], ◌∷◌, ◌++◌, ℕ, zero, suc, ◌+◌, ◌/◌, ◌%◌, ◌<◌, ◌≤◌, ltb, length, ℤ, pos, negsuc, ◌<ℤ◌, ◌≤ℤ◌, unsigned_abs}
+use Rattle.std.proofs.Common.{sym, ap, ◌∙◌, arith, length-append, lt-ltb, le-ltb, ltb-false}
+use Rattle.std.proofs.lemmas.Int.{ints}
 use Rattle.meaning.specs.Tests.{choose}
 use Rattle.laws.specs.Tests.{yes, no}
 use Rattle.jsontrace.specs.Text.{decimal_digits, natural, integer}
@@ -50,27 +50,18 @@ digits-put n g f room e h = put_as (ap (λ (x : ℕ). natural (n / 10) ++ (x ∷
 
 -- ---- with its sign
 
-pub integer-low : (u : ℕ) → u < 9223372036854775808 → integer (to_z w64 u) ≡ natural u
+pub below_zero : (z : ℤ) → z <ℤ pos 0 → integer z ≡ 45 ∷ natural (unsigned_abs z)
 unfolding integer
-integer-low u h = simp (lt-ltb u 9223372036854775808 h)
+below_zero (pos n) h = absurd (omega (arith, ints))
+below_zero (negsuc n) h = refl
 
-pub integer-high : (u : ℕ) → 9223372036854775808 ≤ u → u < 18446744073709551616 → integer (to_z w64 u) ≡ 45 ∷ natural (18446744073709551615 - u + 1)
+pub above_zero : (z : ℤ) → pos 0 ≤ℤ z → integer z ≡ natural (unsigned_abs z)
 unfolding integer
-integer-high u h k =
-    let z : suc (18446744073709551616 - suc u) ≡ 18446744073709551615 - u + 1 = omega arith in
-    simp (le-ltb u 9223372036854775808 h) (ap (λ (m : ℕ). 45 ∷ natural m) z)
+above_zero (pos n) h = refl
+above_zero (negsuc n) h = absurd (omega (arith, ints))
 
-pub positive-room : (d : List ℕ) (at u : ℕ) → at + length (integer (to_z w64 u)) ≤ length d → u < 9223372036854775808 → at + length (natural u) ≤ length d
-positive-room d at u room h = omega (arith, ap length (integer-low u h))
+pub minus-room : (d : List ℕ) (at : ℕ) (z : ℤ) → at + length (integer z) ≤ length d → z <ℤ pos 0 → at < length d
+minus-room d at z room h = omega (arith, ap length (below_zero z h))
 
-pub positive-put : {d w : List ℕ} {at p : ℕ} (u : ℕ) → Put d w at (natural u) p → u < 9223372036854775808 → Put d w at (integer (to_z w64 u)) p
-positive-put u f h = put_as (sym (integer-low u h)) f
-
-pub minus-room : (d : List ℕ) (at u : ℕ) → at + length (integer (to_z w64 u)) ≤ length d → 9223372036854775808 ≤ u → u < 18446744073709551616 → at < length d
-minus-room d at u room h k = omega (arith, ap length (integer-high u h k))
-
-pub negative-room : (d : List ℕ) {w : List ℕ} {at p : ℕ} (u : ℕ) → Put d w at (45 ∷ []) p → at + length (integer (to_z w64 u)) ≤ length d → 9223372036854775808 ≤ u → u < 18446744073709551616 → p + length (natural (18446744073709551615 - u + 1)) ≤ length w
-negative-room d u f room h k = omega (arith, ap length (integer-high u h k), f.end, f.long)
-
-pub negative-put : {d w w' : List ℕ} {at p q : ℕ} (u : ℕ) → Put w w' p (natural (18446744073709551615 - u + 1)) q → Put d w at (45 ∷ []) p → at + length (integer (to_z w64 u)) ≤ length d → 9223372036854775808 ≤ u → u < 18446744073709551616 → Put d w' at (integer (to_z w64 u)) q
-negative-put u g f room h k = put_as (sym (integer-high u h k)) (put_then f g (omega (arith, ap length (integer-high u h k))))
+pub negative-put : {d w w' : List ℕ} {at p q a : ℕ} (z : ℤ) → Put w w' p (natural a) q → Put d w at (45 ∷ []) p → at + length (integer z) ≤ length d → a ≡ unsigned_abs z → z <ℤ pos 0 → Put d w' at (integer z) q
+negative-put z g f room e h = put_as (ap (λ (n : ℕ). 45 ∷ natural n) e ∙ sym (below_zero z h)) (put_then f g (omega (arith, ap length (below_zero z h), e)))

@@ -1,9 +1,5 @@
 use Rattle.jsonsizes.specs.Laws.Items.{Adding}
-use Prim.Native.Nat.{◌-◌}
 use Rattle.jsonsizes.proofs.block_size.Given as goal
 
 abbrev pub invariant-loop-i : goal.invariant-loop-i
 invariant-loop-i l = Adding l.s l.limit l.kind l.at l.i l.total
-
-abbrev pub decreases-loop-i : goal.decreases-loop-i
-decreases-loop-i l = 512 - l.i

@@ -1,9 +1,5 @@
 use Rattle.jsonsizes.specs.Laws.Tables.{Spelt}
-use Prim.Native.Nat.{◌-◌}
 use Rattle.jsonsizes.proofs.string_sizes.Given as goal
 
 abbrev pub invariant-loop-k : goal.invariant-loop-k
 invariant-loop-k l = Spelt l.s l.limit l.n l.sizes l.k
-
-abbrev pub decreases-loop-k : goal.decreases-loop-k
-decreases-loop-k l = l.n - l.k

@@ -1,9 +1,9 @@
 -- Strings, numbers and values that hold no others, counted up to a limit
-use Rattle.std.specs.Prelude.{◌≡◌, Bool, List, eqb, take}
+use Rattle.std.specs.Prelude.{◌≡◌, Bool, List, eqb, take, ℤ, pos, ◌<ℤ◌, ◌≤ℤ◌, unsigned_abs}
 use Rattle.std.proofs.Math.Path.{refl, sym, ap}
 use Rattle.std.proofs.Common.{◌∙◌, length-append, take_all, to_z}
 use Rattle.std.proofs.Math.Bool.{true, false}
-use Prim.Native.Nat.{ℕ, zero, suc, ◌+◌, ◌*◌, ◌-◌, ◌/◌, ◌<◌, ◌≤◌, min}
+use Prim.Native.Nat.{ℕ, zero, suc, ◌+◌, ◌*◌, ◌/◌, ◌<◌, ◌≤◌, min}
 use native.Mathlib.Omega.{arith}
 use Rattle.std.proofs.Math.Dec.{ltb}
 use Rattle.std.proofs.Math.ListN.{length, get_or}
@@ -19,7 +19,7 @@ use Rattle.jsontext.specs.Values.{Truth, EntityOf, Decimal}
 use Rattle.jsontrace.specs.Text.{escaped_byte, escaped, quoted, natural, integer, shown}
 use Rattle.jsonput.specs.Values.{Read, value_text, text_from, there_of}
 use Rattle.jsonput.specs.Laws.Strings.{control-long, marked-long, itself-long, escaped-step, quoted-long}
-use Rattle.jsonput.specs.Laws.Numbers.{natural-low, high-long, integer-low, integer-high}
+use Rattle.jsonput.specs.Laws.Numbers.{natural-low, high-long, below_zero, above_zero}
 use Rattle.jsonput.specs.Laws.Values.{true-is, false-is, decimal-long, entity-long, null_is, truth_is, int_is, extension-is, string-is, reference_is, value-is}
 use Rattle.jsonsizes.specs.Sizes.{plain_long, leaf_long, string_long, Named}
 
@@ -63,11 +63,11 @@ digit-size n h = sym (ap length (natural-low n h))
 pub digits-size : (n m : ℕ) → 10 ≤ n → m ≡ length (natural (n / 10)) → m + 1 ≡ length (natural n)
 digits-size n m h e = omega (arith, high-long n h)
 
-pub positive-size : (u m : ℕ) → u < 9223372036854775808 → m ≡ length (natural u) → m ≡ length (integer (to_z w64 u))
-positive-size u m h e = e ∙ sym (ap length (integer-low u h))
+pub positive-size : (z : ℤ) (m : ℕ) → pos 0 ≤ℤ z → m ≡ length (natural (unsigned_abs z)) → m ≡ length (integer z)
+positive-size z m h e = e ∙ sym (ap length (above_zero z h))
 
-pub negative-size : (u m : ℕ) → 9223372036854775808 ≤ u → u < 18446744073709551616 → m ≡ length (natural (18446744073709551615 - u + 1)) → m + 1 ≡ length (integer (to_z w64 u))
-negative-size u m h k e = omega (arith, ap length (integer-high u h k))
+pub negative-size : (z : ℤ) (m : ℕ) → z <ℤ pos 0 → m ≡ length (natural (unsigned_abs z)) → m + 1 ≡ length (integer z)
+negative-size z m h e = omega (arith, ap length (below_zero z h))
 
 -- ---- by kind
 

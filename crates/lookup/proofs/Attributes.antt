@@ -19,8 +19,7 @@ use Rattle.meaning.specs.Look.{lookup, bound_at, attributes_of, own_part, suppli
 use Rattle.meaning.specs.Rows.{in_cells}
 use Rattle.meaning.specs.Meaning.{names}
 use Rattle.laws.specs.Tests.{stop, skip, after, and-true}
-use Rattle.lookup.specs.declared.Found.{Found}
-use Rattle.lookup.specs.declared.Found.TheVariants.{At, Nothing}
+use Rattle.std.specs.Prelude.{Option as Maybe, Some, None}
 use Rattle.lookup.specs.Paths.{found_at}
 use Rattle.equality.specs.Places.{open_place, shut-place}
 use Rattle.equality.specs.Places.{value_as}
@@ -63,11 +62,11 @@ module _ (s : List ℕ) (t i first count k : ℕ) (from : EntityFrom s t i first
     pub entity-passed : r ≡ false → EntityFrom s t i first count (k + 1)
     entity-passed e = record { inside = omega arith; rest = sym (entity-open false h (test ∙ e)) }
 
-    pub entity-found : (p u w : ℕ) (v : ValNo) → first ≡ u → u ≡ point_word s p 10 → count ≡ w → w ≡ point_word s p 11 → v.0 ≡ list s (first + 3 * k + 2) → r ≡ true → found_at (At v) ≡ attributes_of t i (point_at s p).entities
+    pub entity-found : (p u w : ℕ) (v : ValNo) → first ≡ u → u ≡ point_word s p 10 → count ≡ w → w ≡ point_word s p 11 → v.0 ≡ list s (first + 3 * k + 2) → r ≡ true → found_at (Some v) ≡ attributes_of t i (point_at s p).entities
     unfolding found_at
     entity-found p u w v ef eu ec ew ev e = ap some ev ∙ sym (ap (attributes_of t i) (entities-are s p first count u w ef eu ec ew) ∙ entity-open true h (test ∙ e))
 
-pub entity-none : (s : List ℕ) (t i first count k p u w : ℕ) → EntityFrom s t i first count k → first ≡ u → u ≡ point_word s p 10 → count ≡ w → w ≡ point_word s p 11 → count ≤ k → found_at Nothing ≡ attributes_of t i (point_at s p).entities
+pub entity-none : (s : List ℕ) (t i first count k p u w : ℕ) → EntityFrom s t i first count k → first ≡ u → u ≡ point_word s p 10 → count ≡ w → w ≡ point_word s p 11 → count ≤ k → found_at None ≡ attributes_of t i (point_at s p).entities
 unfolding found_at attributes_of
 entity-none s t i first count k p u w from ef eu ec ew h =
     ap (λ (l : List ℕ). attributes_of t i (map (entity_at s) l)) (sym (shut-place (first + 3 * k) 3 count k h)) ∙ from.rest
@@ -164,12 +163,12 @@ module _ (s : List ℕ) (t i : ℕ) (path : Run) (first n : ℕ) (one : path.cou
 
 -- ---- supplied, or its own
 
-module _ (s : List ℕ) (object : Found) (o : Option ℕ) (path : List ℕ) (eo : found_at object ≡ o) where
-  pub supplied-none : object ≡ Nothing → in_cells 0 0 ≡ supplied (case_of s) o path
+module _ (s : List ℕ) (object : Maybe ValNo) (o : Option ℕ) (path : List ℕ) (eo : found_at object ≡ o) where
+  pub supplied-none : object ≡ None → in_cells 0 0 ≡ supplied (case_of s) o path
   unfolding supplied found_at in_cells pick
   supplied-none e = let z : o ≡ none = sym eo ∙ ap found_at e in rw z refl
 
-  pub supplied-found : (v : ValNo) (tag bits : ℕ) → object ≡ At v → in_cells tag bits ≡ bound_at (case_of s) (lookup (case_of s) v.0 path) → in_cells tag bits ≡ supplied (case_of s) o path
+  pub supplied-found : (v : ValNo) (tag bits : ℕ) → object ≡ Some v → in_cells tag bits ≡ bound_at (case_of s) (lookup (case_of s) v.0 path) → in_cells tag bits ≡ supplied (case_of s) o path
   unfolding supplied found_at
   supplied-found v tag bits ev h = let z : o ≡ some v.0 = sym eo ∙ ap found_at ev in h ∙ rw z refl
 

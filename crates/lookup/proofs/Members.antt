@@ -17,7 +17,7 @@ use Rattle.laws.specs.Tests.{both, all-at}
 use Rattle.laws.specs.Bodies.{body-word, body-beyond, body-ends, wholes}
 use Rattle.laws.specs.Values.{runs}
 use Rattle.laws.specs.Checked.{checked-bodies, checked-values}
-use Rattle.lookup.specs.declared.Found.TheVariants.{At, Nothing}
+use Rattle.std.specs.Prelude.{Option as Maybe, Some, None}
 use Rattle.lookup.specs.Paths.{found_at}
 use Rattle.equality.specs.Places.{value_as}
 use Rattle.lookup.proofs.Rising.{numbers-rise}
@@ -37,7 +37,7 @@ no-members part (suc (suc (suc (suc (suc (suc zero)))))) a b h = refl
 no-members part (suc (suc (suc (suc (suc (suc (suc zero))))))) a b h = absurd (h refl)
 no-members part (suc (suc (suc (suc (suc (suc (suc (suc k)))))))) a b h = refl
 
-pub no-object : (s : List ℕ) (v n k : ℕ) → k ≡ value_word s v 0 → (k ≡ 7 → ⊥) → found_at Nothing ≡ named n (members (value_at s v))
+pub no-object : (s : List ℕ) (v n k : ℕ) → k ≡ value_word s v 0 → (k ≡ 7 → ⊥) → found_at None ≡ named n (members (value_at s v))
 unfolding found_at value_at named
 no-object s v n k ek ne = sym (ap (named n) (no-members (part_at s) (value_word s v 0) (value_word s v 1) (value_word s v 2) (λ e. ne (ek ∙ e))))
 
@@ -138,7 +138,7 @@ module _ (s : List ℕ) (v kind x y first count : ℕ) (ef : first ≡ x) (ex : 
     pub members-under : named n (members (value_at s v)) ≡ under (name_at s table) (held_at s table) n first count
     members-under = ap (named n) members-are ∙ named-under n g.run count first (omega arith)
 
-    pub among_none : left ≤ 0 → found_at Nothing ≡ named n (members (value_at s v))
+    pub among_none : left ≤ 0 → found_at None ≡ named n (members (value_at s v))
     unfolding found_at
     among_none h = sym (members-under ∙ nothing-under g.part h)
 
@@ -150,7 +150,7 @@ module _ {s : List ℕ} {n table first count at left : ℕ} (g : Among s n table
   pub upper-half : here ≤ n → (n ≡ here → ⊥) → Among s n table first count (at + left / 2 + 1) (left - left / 2 - 1)
   upper-half most ne = record { run = g.run; part = upper-part g.part k more (omega (arith, eh)) (λ e. ne (e ∙ sym eh)) }
 
-  pub middle-found : (v kind x y : ℕ) → first ≡ x → x ≡ value_word s v 1 → count ≡ y → y ≡ value_word s v 2 → kind ≡ value_word s v 0 → kind ≡ 7 → (u : ValNo) → n ≡ here → u.0 ≡ get_or (words s) (table + 2 * (at + left / 2) + 1) 0 → found_at (At u) ≡ named n (members (value_at s v))
+  pub middle-found : (v kind x y : ℕ) → first ≡ x → x ≡ value_word s v 1 → count ≡ y → y ≡ value_word s v 2 → kind ≡ value_word s v 0 → kind ≡ 7 → (u : ValNo) → n ≡ here → u.0 ≡ get_or (words s) (table + 2 * (at + left / 2) + 1) 0 → found_at (Some u) ≡ named n (members (value_at s v))
   unfolding found_at
   middle-found v kind x y ef ex ec ey ek e7 u e eu =
       ap some eu ∙ sym (members-under s v kind x y first count ef ex ec ey ek e7 g ∙ middle-under g.part k more (e ∙ eh))

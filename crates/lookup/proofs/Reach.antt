@@ -16,8 +16,7 @@ use Rattle.meaning.specs.Look.{named, members, descend, lookup, bound_at, field_
 use Rattle.meaning.specs.Rows.{in_cells}
 use Rattle.meaning.specs.Meaning.{names, same_event}
 use Rattle.laws.specs.Tests.{stop, skip, pass, after, and-true}
-use Rattle.lookup.specs.declared.Found.{Found}
-use Rattle.lookup.specs.declared.Found.TheVariants.{At, Nothing}
+use Rattle.std.specs.Prelude.{Option as Maybe, Some, None}
 use Rattle.lookup.specs.Paths.{found_at}
 use Rattle.equality.specs.Places.{open_place, shut-place}
 
@@ -48,19 +47,19 @@ module _ (s : List ℕ) (first count v at i : ℕ) (from : DescendFrom s first c
       let cut : map (list s) (places (first + i) 1 (count - i)) ≡ list s (first + i) ∷ map (list s) (places (first + (i + 1)) 1 (count - (i + 1))) = ap (map (list s)) (open_place (first + i) 1 count i (first + (i + 1)) h x) in
       sym from.rest ∙ ap (descend (case_of s) at) cut ∙ descend-by s at (list s (first + i)) (map (list s) (places (first + (i + 1)) 1 (count - (i + 1)))) o e
 
-  module _ (name : ℕ) (found : Found) (h : i < count) (en : name ≡ list s (first + i)) (ef : found_at found ≡ named name (members (value_at s at))) where
+  module _ (name : ℕ) (found : Maybe ValNo) (h : i < count) (en : name ≡ list s (first + i)) (ef : found_at found ≡ named name (members (value_at s at))) where
     reached : named (list s (first + i)) (members (value_at s at)) ≡ found_at found
     reached = sym (ef ∙ rw en refl)
 
-    pub name-found : (u : ValNo) → found ≡ At u → DescendFrom s first count v u.0 (i + 1)
+    pub name-found : (u : ValNo) → found ≡ Some u → DescendFrom s first count v u.0 (i + 1)
     unfolding found_at
     name-found u e = record { inside = omega arith; rest = sym (name_open (some u.0) h (reached ∙ ap found_at e)) }
 
-    pub name-none : (path : Run) → first ≡ path.first → count ≡ path.count → found ≡ Nothing → found_at Nothing ≡ descend (case_of s) v (names (case_of s) path)
+    pub name-none : (path : Run) → first ≡ path.first → count ≡ path.count → found ≡ None → found_at None ≡ descend (case_of s) v (names (case_of s) path)
     unfolding found_at
     name-none path e1 e2 e = sym (ap (descend (case_of s) v) (names-are s path first count e1 e2) ∙ name_open none h (reached ∙ ap found_at e))
 
-  pub names-end : (path : Run) (u : ValNo) → first ≡ path.first → count ≡ path.count → u.0 ≡ at → count ≤ i → found_at (At u) ≡ descend (case_of s) v (names (case_of s) path)
+  pub names-end : (path : Run) (u : ValNo) → first ≡ path.first → count ≡ path.count → u.0 ≡ at → count ≤ i → found_at (Some u) ≡ descend (case_of s) v (names (case_of s) path)
   unfolding found_at descend
   names-end path u e1 e2 eu h =
       ap some eu ∙ ap (λ (l : List ℕ). descend (case_of s) at (map (list s) l)) (sym (shut-place (first + i) 1 count i h)) ∙ from.rest
@@ -68,12 +67,12 @@ module _ (s : List ℕ) (first count v at i : ℕ) (from : DescendFrom s first c
 
 -- ---- cells of what is found
 
-module _ (s : List ℕ) (found : Found) (tag bits : ℕ) where
-  pub bound-found : (v : ValNo) → found ≡ At v → in_cells tag bits ≡ some (bound_of v.0 (value_at s v.0)) → in_cells tag bits ≡ bound_at (case_of s) (found_at found)
+module _ (s : List ℕ) (found : Maybe ValNo) (tag bits : ℕ) where
+  pub bound-found : (v : ValNo) → found ≡ Some v → in_cells tag bits ≡ some (bound_of v.0 (value_at s v.0)) → in_cells tag bits ≡ bound_at (case_of s) (found_at found)
   unfolding bound_at found_at case_of
   bound-found v e h = rw e h
 
-  pub bound-none : found ≡ Nothing → in_cells 0 0 ≡ bound_at (case_of s) (found_at found)
+  pub bound-none : found ≡ None → in_cells 0 0 ≡ bound_at (case_of s) (found_at found)
   unfolding bound_at found_at in_cells pick
   bound-none e = rw e refl
 

@@ -25,8 +25,7 @@ use Rattle.laws.specs.Text.{same-list, not_equal, not-before}
 use Rattle.laws.specs.Search.{Rising, joined, onward, longest, search_by, search, taken, taken_none, longest-none, one_more}
 use Rattle.laws.specs.Searched.{strings-rise, members-rise, lookup-is, search_is, called-number, called-nowhere, names_of, path-plain}
 use Rattle.equality.specs.Places.{open_place}
-use Rattle.lookup.specs.declared.Found.{Found}
-use Rattle.lookup.specs.declared.Found.TheVariants.{At, Nothing}
+use Rattle.std.specs.Prelude.{Option as Maybe, Some, None}
 use Rattle.lookup.specs.declared.Span.{Span}
 use Rattle.lookup.specs.Paths.{found_at}
 use Rattle.lookup.specs.Dotted.{rest, begins, more, behind_name, from_name, joins, goes_on, may_join, plain_names, key_of, Failed, Ready, Spans, Sought, Missed}
@@ -181,22 +180,22 @@ some_left : (s : List ℕ) (path : Run) (from : ℕ) → from < path.count → 0
 some_left s path from h = omega (arith, ap length (rest_open s path from h))
 
 -- at the path's end
-pub sought_end : {s t : List ℕ} {path : Run} {from w : ℕ} {v : ValNo} → Checked s → Failed s path t → from ≡ w → w ≡ path.count → Sought s path t v.0 from (At v)
+pub sought_end : {s t : List ℕ} {path : Run} {from w : ℕ} {v : ValNo} → Checked s → Failed s path t → from ≡ w → w ≡ path.count → Sought s path t v.0 from (Some v)
 unfolding found_at
 sought_end {s} {t} {path} {from} {w} {v} c k e f =
     record { kept = k; found = sym (ap (search (case_of s) v.0) (rest-shut s path from (omega arith)) ∙ search-ends s c v.0) }
 
 -- what is known to lead nowhere
-pub sought_known : {s t : List ℕ} {path : Run} (v from key : ℕ) (r : Bool) → Failed s path t → r ≡ eqb (get_or t (key % 3989) 0) key → r ≡ true → key ≡ key_of v from → from < 4294967295 → Sought s path t v from Nothing
+pub sought_known : {s t : List ℕ} {path : Run} (v from key : ℕ) (r : Bool) → Failed s path t → r ≡ eqb (get_or t (key % 3989) 0) key → r ≡ true → key ≡ key_of v from → from < 4294967295 → Sought s path t v from None
 unfolding found_at
 sought_known v from key r k er e ek small =
     record { kept = k; found = sym (k.nowhere (key % 3989) v from (omega arith) (eqb-true _ _ (sym er ∙ e) ∙ ek)) }
 
 -- what was found, and what was not
-pub sought_same : {s t : List ℕ} {path : Run} {v from : ℕ} {found : Found} (u : ValNo) → Sought s path t v from found → found ≡ At u → Sought s path t v from (At u)
+pub sought_same : {s t : List ℕ} {path : Run} {v from : ℕ} {found : Maybe ValNo} (u : ValNo) → Sought s path t v from found → found ≡ Some u → Sought s path t v from (Some u)
 sought_same u o e = rw (← e) o
 
-pub sought_none : {s t : List ℕ} {path : Run} {v from : ℕ} {found : Found} → found ≡ Nothing → Sought s path t v from found → Missed s path t v from
+pub sought_none : {s t : List ℕ} {path : Run} {v from : ℕ} {found : Maybe ValNo} → found ≡ None → Sought s path t v from found → Missed s path t v from
 sought_none e o = rw (← e) o
 
 -- how far there is to go
@@ -271,7 +270,7 @@ module _ {s t : List ℕ} {path : Run} {from first end m : ℕ} (g : Seeking s p
     unfolding given
     seeking_skip e = record { checked = g.checked; kept = g.kept; left = g.left; low = omega arith; high = omega (arith, g.high); rises = g.rises; nowhere = gives ∙ rw e refl }
 
-    module _ {w : List ℕ} {u : ℕ} {found : Found} (ne : k ≡ 0 → ⊥) (eu : u ≡ member_word s (m - 1) 1) (o : Sought s path w u (from + k) found) where
+    module _ {w : List ℕ} {u : ℕ} {found : Maybe ValNo} (ne : k ≡ 0 → ⊥) (eu : u ≡ member_word s (m - 1) 1) (o : Sought s path w u (from + k) found) where
       below : seek s (rest s path from) (part s (m - 1) (end - (m - 1))) ≡ found_at found
       unfolding given
       below = gives ∙ go k refl
@@ -280,11 +279,11 @@ module _ {s t : List ℕ} {path : Run} {from first end m : ℕ} (g : Seeking s p
           go zero e = absurd (ne e)
           go (suc j) e = ap (search (case_of s) (member_word s (m - 1) 1)) (rest-drop s path (suc j) from) ∙ rw (← eu, ← e) (sym o.found)
 
-      pub seeking_nothing : found ≡ Nothing → Seeking s path w from first end (m - 1)
+      pub seeking_nothing : found ≡ None → Seeking s path w from first end (m - 1)
       unfolding found_at
       seeking_nothing e = record { checked = g.checked; kept = o.kept; left = g.left; low = omega arith; high = omega (arith, g.high); rises = g.rises; nowhere = below ∙ ap found_at e }
 
-      reached : (x : ValNo) → found ≡ At x → seek s (rest s path from) (part s first (end - first)) ≡ some x.0
+      reached : (x : ValNo) → found ≡ Some x → seek s (rest s path from) (part s first (end - first)) ≡ some x.0
       unfolding found_at
       reached x e =
           let a : first + (m - 1 - first) ≡ m - 1 = omega arith in
@@ -296,11 +295,11 @@ module _ {s t : List ℕ} {path : Run} {from m : ℕ} (v : ℕ) (r : Span) (g : 
   sought_so : (o : Option ℕ) → seek s (rest s path from) (part s r.first (r.end - r.first)) ≡ o → o ≡ search (case_of s) v (rest s path from)
   sought_so o e = sym (search_seeks s g.checked v (rest s path from) (some-names g) ∙ ap (seek s (rest s path from)) p.all ∙ e)
 
-  pub seeking_over : m ≤ r.first → Sought s path t v from Nothing
+  pub seeking_over : m ≤ r.first → Sought s path t v from None
   unfolding found_at
   seeking_over h = record { kept = g.kept; found = sought_so none (over g h) }
 
-  pub seeking_found : r.first < m → {name k : ℕ} → name ≡ member_word s (m - 1) 0 → k ≡ joins (case_of s) (text s name) (rest s path from) → (k ≡ 0 → ⊥) → {w : List ℕ} {u : ℕ} {found : Found} → u ≡ member_word s (m - 1) 1 → Sought s path w u (from + k) found → (x : ValNo) → found ≡ At x → Sought s path w v from (At x)
+  pub seeking_found : r.first < m → {name k : ℕ} → name ≡ member_word s (m - 1) 0 → k ≡ joins (case_of s) (text s name) (rest s path from) → (k ≡ 0 → ⊥) → {w : List ℕ} {u : ℕ} {found : Maybe ValNo} → u ≡ member_word s (m - 1) 1 → Sought s path w u (from + k) found → (x : ValNo) → found ≡ Some x → Sought s path w v from (Some x)
   unfolding found_at
   seeking_found h en ek ne eu o x e = record { kept = o.kept; found = sought_so (some x.0) (reached g h en ek ne eu o x e) }
 
@@ -440,18 +439,18 @@ module _ (s : List ℕ) (path : Run) (v : ValNo) (from w : ℕ) (c : Checked s) 
     pub from-string : name < strings s
     from-string = rw is_name at (path-name c path h from less)
 
-    module _ (join : Bool) (ej : join ≡ may_join s name) (off : join ≡ false) (found : Found) (e : found_at found ≡ named name (members (value_at s v.0))) where
+    module _ (join : Bool) (ej : join ≡ may_join s name) (off : join ≡ false) (found : Maybe ValNo) (e : found_at found ≡ named name (members (value_at s v.0))) where
       stepped : search (case_of s) v.0 (rest s path from) ≡ onward (search (case_of s)) (found_at found) (rest s path (from + 1))
       stepped =
           ap (search (case_of s) v.0) (rest_open s path from less ∙ ap (λ (n : ℕ). n ∷ rest s path (from + 1)) is_name)
           ∙ plain_step c name from-string v.0 (sym ej ∙ off) (rest s path (from + 1))
           ∙ ap (λ (o : Option ℕ). onward (search (case_of s)) o (rest s path (from + 1))) (sym e)
 
-      pub from_found : (u : ValNo) → found ≡ At u → (tag bits : ℕ) → in_cells tag bits ≡ bound_at (case_of s) (search (case_of s) u.0 (rest s path (from + 1))) → in_cells tag bits ≡ bound_at (case_of s) (search (case_of s) v.0 (rest s path from))
+      pub from_found : (u : ValNo) → found ≡ Some u → (tag bits : ℕ) → in_cells tag bits ≡ bound_at (case_of s) (search (case_of s) u.0 (rest s path (from + 1))) → in_cells tag bits ≡ bound_at (case_of s) (search (case_of s) v.0 (rest s path from))
       unfolding found_at onward
       from_found u q tag bits h = h ∙ ap (bound_at (case_of s)) (sym (stepped ∙ rw q refl))
 
-      pub from-none : found ≡ Nothing → in_cells 0 0 ≡ bound_at (case_of s) (search (case_of s) v.0 (rest s path from))
+      pub from-none : found ≡ None → in_cells 0 0 ≡ bound_at (case_of s) (search (case_of s) v.0 (rest s path from))
       unfolding found_at onward bound_at in_cells pick
       from-none q = let z : search (case_of s) v.0 (rest s path from) ≡ none = stepped ∙ rw q refl in rw z refl
 

@@ -1,7 +1,8 @@
 -- Names with dots: the names that are left, a text that joins some of them, the string behind a name, and a table of what led nowhere
-use Rattle.std.specs.Prelude.{◌≡◌, Bool, true, false, not, List, [], ◌∷◌, map, ℕ, zero, suc, ◌+◌, ◌*◌, ◌-◌, ◌<◌, ◌≤◌, eqb, ltb, leb, length, get_or, drop}
+use Rattle.std.specs.Prelude.{◌≡◌, Bool, true, false, not, List, [], ◌∷◌, map, ℕ, zero, suc, ◌+◌, ◌*◌, ◌-◌, ◌<◌, ◌≤◌, eqb, ltb, leb, length, get_or, drop, Option as Maybe, None}
 use Rattle.std.proofs.Math.Option.{none}
 use Rattle.meaning.specs.declared.Run.{Run}
+use Rattle.meaning.specs.declared.ValNo.{ValNo}
 use Rattle.meaning.specs.Tests.{◌and◌, choose}
 use Rattle.meaning.specs.Case.{Case, strings, list, text, places, part_at, value_at, case_of}
 use Rattle.meaning.specs.Check.{Checked}
@@ -9,8 +10,6 @@ use Rattle.meaning.specs.Look.{members}
 use Rattle.laws.specs.Search.{search}
 use Rattle.lookup.specs.declared.After.{After}
 use Rattle.lookup.specs.declared.After.TheVariants.{End, Dot, Other}
-use Rattle.lookup.specs.declared.Found.{Found}
-use Rattle.lookup.specs.declared.Found.TheVariants.{Nothing}
 use Rattle.lookup.specs.declared.Span.{Span}
 use Rattle.lookup.specs.Paths.{found_at}
 
@@ -100,10 +99,10 @@ pub record Spans (s : List ℕ) (v : ℕ) (r : Span) : Type 0 where
   pub all : members (value_at s v) ≡ map (part_at s) (places r.first 1 (r.end - r.first))
 
 -- v was searched by the names from `from` on
-pub record Sought (s : List ℕ) (path : Run) (t : List ℕ) (v from : ℕ) (r : Found) : Type 0 where
+pub record Sought (s : List ℕ) (path : Run) (t : List ℕ) (v from : ℕ) (r : Maybe ValNo) : Type 0 where
   pub kept : Failed s path t
   pub found : found_at r ≡ search (case_of s) v (rest s path from)
 
 -- v leads nowhere by them
 abbrev pub Missed : List ℕ → Run → List ℕ → ℕ → ℕ → Type 0
-Missed s path t v from = Sought s path t v from Nothing
+Missed s path t v from = Sought s path t v from None

@@ -2,18 +2,9 @@
 
 #![tactic(auto)]
 
-use meaning::ValNo;
-
 mod paths;
 
 pub use paths::{context_at, field_at, path_descend, same_event, scope_at};
-
-// a value that a path reaches
-#[derive(Clone, Copy)]
-pub enum Found {
-    At(ValNo),
-    Nothing,
-}
 
 // what is behind a name in a text: the end, a dot and the byte after it, or something else
 #[derive(Clone, Copy)]

@@ -12,7 +12,7 @@ ghost use Rattle.laws.specs.Search.{search};
 ghost use Rattle.lookup.specs.Paths.{found_at};
 ghost use Rattle.lookup.specs.Dotted.{rest, begins, joins, Behind, goes_on, may_join, plain_names, key_of, Failed, Ready, Spans, Sought, Missed};
 
-use crate::{After, Found, Span};
+use crate::{After, Span};
 use equality::{binding_of, long};
 use meaning::{Binding, Root, Run, StrNo, ValNo};
 use tables::{both, list_at, member_word, offset_of, point_word, value_word, wide, word_at};
@@ -20,12 +20,12 @@ use tables::{both, list_at, member_word, offset_of, point_word, value_word, wide
 // ---- objects
 
 // the value under name n in value v; members rise by name, so half of what is left goes at each turn
-fn member_named(s: &[u8], v: ValNo, n: StrNo) -> Found
+fn member_named(s: &[u8], v: ValNo, n: StrNo) -> Option<ValNo>
     requires { Checked s.now }
     ensures { found_at result ≡ named n.0 (members (value_at s.now v.0)) }
 {
     if value_word(s, v, 0) != 7 {
-        return Found::Nothing;
+        return None;
     }
     let name = n.0;
     // a checked object's run lies in its table, so its words are read with no test
@@ -38,7 +38,7 @@ fn member_named(s: &[u8], v: ValNo, n: StrNo) -> Found
         let word = table + 2 * middle;
         let here = word_at(s, word);
         if name == here {
-            return Found::At(ValNo(word_at(s, word + 1)));
+            return Some(ValNo(word_at(s, word + 1)));
         }
         if name < here {
             left = half;
@@ -47,41 +47,29 @@ fn member_named(s: &[u8], v: ValNo, n: StrNo) -> Found
             left = left - half - 1;
         }
     }
-    Found::Nothing
+    None
 }
 
 // the value that a path reaches from value v
-pub fn path_descend(s: &[u8], v: ValNo, path: Run) -> Found
+pub fn path_descend(s: &[u8], v: ValNo, path: Run) -> Option<ValNo>
     requires { Checked s.now }
     ensures { found_at result ≡ descend (case_of s.now) v.0 (names (case_of s.now) path) }
 {
     let first = wide(path.first);
-    let count = wide(path.count);
     let mut at = v;
-    let mut i = 0;
-    while i < count {
-        let name = list_at(s, first + i);
-        let found = member_named(s, at, StrNo(name));
-        match found {
-            Found::At(u) => {
-                at = u;
-                i += 1;
-            }
-            Found::Nothing => {
-                return Found::Nothing;
-            }
-        }
+    for i in 0..wide(path.count) {
+        at = member_named(s, at, StrNo(list_at(s, first + i)))?;
     }
-    Found::At(at)
+    Some(at)
 }
 
-fn binding_found(s: &[u8], found: Found) -> Binding
+fn binding_found(s: &[u8], found: Option<ValNo>) -> Binding
     requires { Checked s.now }
     ensures { in_cells result.tag result.bits ≡ bound_at (case_of s.now) (found_at found) }
 {
     match found {
-        Found::At(v) => binding_of(s, v),
-        Found::Nothing => Binding { tag: 0, bits: 0 },
+        Some(v) => binding_of(s, v),
+        None => Binding { tag: 0, bits: 0 },
     }
 }
 
@@ -233,31 +221,31 @@ fn members_of(s: &[u8], v: ValNo) -> Span
 
 // from value v by the names from `from` on; what leads nowhere is kept
 #[cycle(look_look_in)]
-fn look(s: &[u8], failed: &mut [u64], path: Run, v: ValNo, from: usize) -> Found
+fn look(s: &[u8], failed: &mut [u64], path: Run, v: ValNo, from: usize) -> Option<ValNo>
     requires checked { Checked s.now }
     requires failed { Failed s.now path failed.old }
     requires from_le_count { from ≤ path.count }
     ensures { Sought s.now path failed.new v.0 from result }
 {
     if from == wide(path.count) {
-        return Found::At(v);
+        return Some(v);
     }
     if known(failed, key_of(v, from)) {
-        return Found::Nothing;
+        return None;
     }
     let found = look_in(s, failed, path, v, from);
     match found {
-        Found::At(u) => Found::At(u),
-        Found::Nothing => {
+        Some(u) => Some(u),
+        None => {
             note(s, failed, path, v, from);
-            Found::Nothing
+            None
         }
     }
 }
 
 // the last member that leads to the path's end
 #[cycle(look_look_in)]
-fn look_in(s: &[u8], failed: &mut [u64], path: Run, v: ValNo, from: usize) -> Found
+fn look_in(s: &[u8], failed: &mut [u64], path: Run, v: ValNo, from: usize) -> Option<ValNo>
     requires { Ready s.now path failed.old from }
     ensures { Sought s.now path failed.new v.0 from result }
 {
@@ -274,15 +262,15 @@ fn look_in(s: &[u8], failed: &mut [u64], path: Run, v: ValNo, from: usize) -> Fo
         let u = member_word(s, m, 1);
         let found = look(s, failed, path, ValNo(u), from + k);
         match found {
-            Found::At(w) => return Found::At(w),
-            Found::Nothing => {}
+            Some(w) => return Some(w),
+            None => {}
         }
     }
-    Found::Nothing
+    None
 }
 
 // the table is large: the caller calls itself, so that it is not compiled into the caller's frame
-fn look_far(s: &[u8], path: Run, v: ValNo, from: usize) -> Found
+fn look_far(s: &[u8], path: Run, v: ValNo, from: usize) -> Option<ValNo>
     requires checked { Checked s.now }
     requires from_le_count { from ≤ path.count }
     ensures { found_at result ≡ search (case_of s.now) v.0 (rest s.now path from) }
@@ -308,8 +296,8 @@ fn look_from(s: &[u8], path: Run, v: ValNo, from: usize) -> Binding
     }
     let found = member_named(s, v, StrNo(name));
     match found {
-        Found::At(u) => look_from(s, path, u, from + 1),
-        Found::Nothing => Binding { tag: 0, bits: 0 },
+        Some(u) => look_from(s, path, u, from + 1),
+        None => Binding { tag: 0, bits: 0 },
     }
 }
 
@@ -367,7 +355,7 @@ pub fn context_at(s: &[u8], p: usize, path: Run) -> Binding
 }
 
 // the attribute object that point p has of an entity
-fn attributes_of(s: &[u8], p: usize, t: StrNo, i: StrNo) -> Found
+fn attributes_of(s: &[u8], p: usize, t: StrNo, i: StrNo) -> Option<ValNo>
     requires { bodies s.now ≡ true }
     ensures { found_at result ≡ attributes_of t.0 i.0 (point_at s.now p).entities }
 {
@@ -381,11 +369,11 @@ fn attributes_of(s: &[u8], p: usize, t: StrNo, i: StrNo) -> Found
         let type_at = list_at(s, at);
         let id_at = list_at(s, at + 1);
         if both(kind == type_at, id == id_at) {
-            return Found::At(ValNo(list_at(s, at + 2)));
+            return Some(ValNo(list_at(s, at + 2)));
         }
         k += 1;
     }
-    Found::Nothing
+    None
 }
 
 fn is_id(s: &[u8]) -> bool
@@ -447,8 +435,8 @@ fn supplied(s: &[u8], p: usize, t: StrNo, i: StrNo, path: Run) -> Binding
 {
     let object = attributes_of(s, p, t, i);
     match object {
-        Found::At(v) => path_lookup(s, v, path),
-        Found::Nothing => Binding { tag: 0, bits: 0 },
+        Some(v) => path_lookup(s, v, path),
+        None => Binding { tag: 0, bits: 0 },
     }
 }
 

@@ -8,25 +8,25 @@ ghost use Rattle.std.specs.Int.{w64};
 ghost use Rattle.meaning.specs.Number.{seconds_of};
 
 // a string's number, in the strings' order
-#[derive(Clone, Copy)]
+#[derive(Clone, Copy, PartialEq, Eq)]
 pub struct StrNo(pub u32);
 
 // a value's number
-#[derive(Clone, Copy)]
+#[derive(Clone, Copy, PartialEq, Eq)]
 pub struct ValNo(pub u32);
 
 // a node's number
-#[derive(Clone, Copy)]
+#[derive(Clone, Copy, PartialEq, Eq)]
 pub struct NodeNo(pub u32);
 
 // a run of a table: its first record, and how many items
-#[derive(Clone, Copy)]
+#[derive(Clone, Copy, PartialEq, Eq)]
 pub struct Run {
     pub first: u32,
     pub count: u32,
 }
 
-#[derive(Clone, Copy)]
+#[derive(Clone, Copy, PartialEq, Eq)]
 pub enum TimeUnit {
     Seconds,
     Minutes,
@@ -57,21 +57,21 @@ impl TimeUnit {
 }
 
 // a window's length: the 64 bits of a signed amount, and its unit
-#[derive(Clone, Copy)]
+#[derive(Clone, Copy, PartialEq, Eq)]
 pub struct Interval {
     pub amount: u64,
     pub unit: TimeUnit,
 }
 
 // where a time lies, seen from another: in the window, before it, or later than the time seen from
-#[derive(Clone, Copy)]
+#[derive(Clone, Copy, PartialEq, Eq)]
 pub enum Window {
     Inside,
     TooOld,
     Later,
 }
 
-#[derive(Clone, Copy)]
+#[derive(Clone, Copy, PartialEq, Eq)]
 pub enum CmpOp {
     Le,
     Lt,
@@ -81,14 +81,14 @@ pub enum CmpOp {
     NotEq,
 }
 
-#[derive(Clone, Copy)]
+#[derive(Clone, Copy, PartialEq, Eq)]
 pub enum ArithOp {
     Add,
     Sub,
     Mul,
 }
 
-#[derive(Clone, Copy)]
+#[derive(Clone, Copy, PartialEq, Eq)]
 pub enum Root {
     Principal,
     Resource,
@@ -132,7 +132,7 @@ pub enum Node {
 }
 
 // a variable's two cells: 0,0 unbound; 1 and an integer's bits; 2 and a value's number; 3 and a string's number
-#[derive(Clone, Copy)]
+#[derive(Clone, Copy, PartialEq, Eq)]
 pub struct Binding {
     pub tag: u64,
     pub bits: u64,
@@ -175,7 +175,7 @@ pub enum Due {
 }
 
 // what a call says no with, in the order of their numbers
-#[derive(Clone, Copy)]
+#[derive(Clone, Copy, PartialEq, Eq)]
 pub enum Refusal {
     BadContents,
     TooLarge,

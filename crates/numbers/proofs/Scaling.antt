@@ -1,6 +1,6 @@
 -- A decimal's parts, put together: the cut at the point, the sign, the scaled number, and two decimals compared
 use mathlib.Core.Path.{◌≡◌, refl, sym, ◌∙◌, ap}
-use mathlib.Core.Bool.{Bool, true, false, not}
+use mathlib.Core.Bool.{Bool, true, false, not, cond, ◌&&◌}
 use mathlib.Core.List.{List, [], ◌∷◌, ◌++◌, append_assoc}
 use mathlib.Core.Option.{Option, none, some}
 use Prim.Native.Nat.{ℕ, zero, suc, ◌+◌, ◌*◌, ◌-◌, ◌^◌, ◌<◌, ◌≤◌, min}
@@ -10,23 +10,21 @@ use native.Mathlib.Nat.{mul-le-mul}
 use lib.Dec.{eqb, ltb, leb}
 use lib.ListN.{length, take, drop, length-drop}
 use lib.Seq.{take_all}
-use lib.IntN.{ℤ, pos, neg_ℤ}
+use lib.IntN.{ℤ, pos, negsuc, neg_ℤ, ◌-ℤ◌}
 use lib.Signed.{mag}
-use mir.Val.{to_z, Fits}
-use mir.Facts.{of_z-to_z}
+use mir.Val.{to_z, of_z, Fits, SFits}
+use mir.Facts.{of_z-to_z, to_z-of_z}
 use mir.Syntax.{w64}
-use borrow.Author.Tests.{leb-true, leb-false, lt-leb, le-leb, le-ltb, ltb-true, ne_eqb, eqb-true, eqb-false, not-true, not-false}
+use borrow.Author.Tests.{leb-true, leb-false, lt-leb, le-leb, lt-ltb, le-ltb, ltb-true, ltb-false, ne_eqb, eq-eqb, eqb-true, eqb-false, not-true, not-false}
 use Rattle.meaning.specs.Tests.{◌and◌, only_if}
-use Rattle.meaning.specs.Number.{clamp}
 use Rattle.meaning.specs.Case.{case_of, text}
-use Rattle.laws.specs.Number.{bias_inj, bias-clamp, clamp-fits}
-use Rattle.laws.specs.Tests.{both, stop, skip, pass, and-true}
+use Rattle.laws.specs.Tests.{both, stop, skip, after, and-true}
 use Rattle.meaning.specs.Equal.{digits, natural, cut, unsigned, scaled, decimal, decimal_key, same_list}
-use Rattle.numbers.specs.declared.Decimal.{Decimal}
-use Rattle.numbers.specs.declared.Decimal.TheVariants.{Scaled, NotDecimal}
+use Rattle.std.specs.Prelude.{Option as Maybe, Some, None, SomeIff, position}
+use Rattle.std.specs.List.{position_or_len, starts_with}
 use Rattle.numbers.specs.Numbers.{signed_by}
-use Rattle.numbers.specs.Decimals.{decimal_of, point_in, is_minus, unsigned_of}
-use Rattle.numbers.proofs.Reading.{digit-fits, point-here, point-later}
+use Rattle.numbers.specs.Decimals.{decimal_of, unsigned_of}
+use Rattle.numbers.proofs.Reading.{digit-fits}
 use Rattle.laws.specs.Text.{list_same}
 use Rattle.numbers.specs.Keys.{number-key, text-key, key-some, key-none}
 
@@ -80,6 +78,16 @@ append-none : (l : List ℕ) → l ++ [] ≡ l
 append-none [] = refl
 append-none (x ∷ l) = ap (λ (t : List ℕ). x ∷ t) (append-none l)
 
+-- where the first point stands, or the length
+abbrev point_in : List ℕ → ℕ
+point_in s = position_or_len (λ b. eqb b 46) s
+
+point-here : (b : ℕ) (s : List ℕ) → b ≡ 46 → point_in (b ∷ s) ≡ 0
+point-here b s e = rw (eq-eqb b 46 e) refl
+
+point-later : (b : ℕ) (s : List ℕ) → (b ≡ 46 → ⊥) → point_in (b ∷ s) ≡ suc (point_in s)
+point-later b s e = rw (ne_eqb b 46 e) (omega arith)
+
 cut-none : (before l : List ℕ) → length l ≤ point_in l → cut before l ≡ none
 unfolding cut
 cut-none before [] h = refl
@@ -100,24 +108,34 @@ cut-some before (b ∷ l) h = go (eqb b 46) refl (λ k. cut-some (before ++ (b �
         let p : point_in (b ∷ l) ≡ suc (point_in l) = point-later b l (eqb-false b 46 e) in
         f (omega arith) ∙ rw (p, append_assoc before (b ∷ []) (take (point_in l) l)) refl
 
-module _ (minus : Bool) (s : List ℕ) (p : ℕ) (ep : p ≡ point_in s) where
-  pub unsigned-none : length s ≤ p → decimal_of NotDecimal ≡ unsigned_of minus s
-  unfolding decimal_of unsigned_of
-  unsigned-none h = let q : length s ≤ point_in s = omega arith in sym (ap (λ (o : Option (List ℕ × List ℕ)). elim o as (λ o. Option ℤ) [ none ↦ none | some parts ↦ scaled minus parts.0 parts.1 ]) (cut-none [] s q))
+module _ (minus : Bool) (s : List ℕ) (o : Maybe ℕ) (eo : o ≡ position (λ b. eqb b 46) s) where
+  missed : o ≡ None → length s ≤ point_in s
+  missed e = go (ltb (point_in s) (length s)) refl (sym eo ∙ e)
+    where
+      go : (t : Bool) → ltb (point_in s) (length s) ≡ t → cond t (Some (point_in s)) None ≡ None → length s ≤ point_in s
+      go true q f = cc
+      go false q f = ltb-false _ _ q
 
-  pub unsigned-some : (r : Decimal) → p < length s → decimal_of r ≡ scaled minus (take p s) (take (length s - (p + 1)) (drop (p + 1) s)) → decimal_of r ≡ unsigned_of minus s
+  pub point-at : (p : ℕ) → o ≡ Some p → (p < length s) × (p ≡ point_in s)
+  point-at p e = go (ltb (point_in s) (length s)) refl (sym eo ∙ e)
+    where
+      go : (t : Bool) → ltb (point_in s) (length s) ≡ t → cond t (Some (point_in s)) None ≡ Some p → (p < length s) × (p ≡ point_in s)
+      go true q f = let h : point_in s < length s = ltb-true _ _ q in let e : point_in s ≡ p = cc in (omega arith, omega arith)
+      go false q f = cc
+
+  pub unsigned-none : o ≡ None → decimal_of None ≡ unsigned_of minus s
+  unfolding decimal_of unsigned_of
+  unsigned-none e = sym (ap (λ (o : Option (List ℕ × List ℕ)). elim o as (λ o. Option ℤ) [ none ↦ none | some parts ↦ scaled minus parts.0 parts.1 ]) (cut-none [] s (missed e)))
+
+  pub unsigned-some : (p : ℕ) (r : Maybe ℕ) → o ≡ Some p → decimal_of r ≡ scaled minus (take p s) (take (length s - (p + 1)) (drop (p + 1) s)) → decimal_of r ≡ unsigned_of minus s
   unfolding unsigned_of
-  unsigned-some r h e =
+  unsigned-some p r k e =
+      let at = point-at p k in
       let q : point_in s < length s = omega arith in
-      let same : scaled minus (take p s) (take (length s - (p + 1)) (drop (p + 1) s)) ≡ scaled minus (take (point_in s) s) (drop (suc (point_in s)) s) = rw (tail-is s (p + 1), add-one p, ep) refl in
+      let same : scaled minus (take p s) (take (length s - (p + 1)) (drop (p + 1) s)) ≡ scaled minus (take (point_in s) s) (drop (suc (point_in s)) s) = rw (tail-is s (p + 1), add-one p, at.1) refl in
       e ∙ same ∙ sym (ap (λ (o : Option (List ℕ × List ℕ)). elim o as (λ o. Option ℤ) [ none ↦ none | some parts ↦ scaled minus parts.0 parts.1 ]) (cut-some [] s q))
 
 -- ---- the sign
-
-pub minus-long : (s : List ℕ) (r : Bool) → r ≡ is_minus s → r ≡ true → 1 ≤ length s
-unfolding is_minus
-minus-long [] r e f = let z : ◌≡◌ {A = Bool} true false = sym f ∙ e in let y : ◌≡◌ {A = ℕ} 0 1 = cc in absurd (omega arith)
-minus-long (b ∷ s) r e f = omega arith
 
 split : ℕ → List ℕ → Bool → Bool × List ℕ
 split b s true = (true, s)
@@ -131,15 +149,52 @@ first-is b s t e = ap (split b s) (sym e) ∙ by (eqb b 45)
     by true = refl
     by false = refl
 
-pub decimal-minus : (s : List ℕ) (r : Bool) (d : Decimal) → r ≡ is_minus s → r ≡ true → decimal_of d ≡ unsigned_of true (take (length s - 1) (drop 1 s)) → decimal_of d ≡ decimal s
-unfolding is_minus decimal unsigned_of split
-decimal-minus [] r d e f h = let z : ◌≡◌ {A = Bool} true false = sym f ∙ e in let y : ◌≡◌ {A = ℕ} 0 1 = cc in absurd (omega arith)
-decimal-minus (b ∷ s) r d e f h = h ∙ rw (tail-is (b ∷ s) 1) refl ∙ ap (λ (u : Bool × List ℕ). unsigned_of u.0 u.1) (first-is b s true (sym e ∙ f))
+minus_is : (b : ℕ) (s : List ℕ) (t : Bool) → starts_with eqb (b ∷ s) (45 ∷ []) ≡ t → eqb b 45 ≡ t
+minus_is b s t e = go (eqb 45 b) refl e
+  where
+    go : (u : Bool) → eqb 45 b ≡ u → (u && true) ≡ t → eqb b 45 ≡ t
+    go true q f = eq-eqb b 45 (sym (eqb-true 45 b q)) ∙ f
+    go false q f = ne_eqb b 45 (λ h. eqb-false 45 b q (sym h)) ∙ f
 
-pub decimal-plus : (s : List ℕ) (r : Bool) (d : Decimal) → r ≡ is_minus s → r ≡ false → decimal_of d ≡ unsigned_of false s → decimal_of d ≡ decimal s
-unfolding is_minus decimal unsigned_of unsigned split
+pub decimal-minus : (s : List ℕ) (r : Bool) (d : Maybe ℕ) → r ≡ starts_with eqb s (45 ∷ []) → r ≡ true → decimal_of d ≡ unsigned_of true (take (length s - 1) (drop 1 s)) → decimal_of d ≡ decimal s
+unfolding decimal unsigned_of split
+decimal-minus [] r d e f h = cc
+decimal-minus (b ∷ s) r d e f h = h ∙ rw (tail-is (b ∷ s) 1) refl ∙ ap (λ (u : Bool × List ℕ). unsigned_of u.0 u.1) (first-is b s true (minus_is b s true (sym e ∙ f)))
+
+pub decimal-plus : (s : List ℕ) (r : Bool) (d : Maybe ℕ) → r ≡ starts_with eqb s (45 ∷ []) → r ≡ false → decimal_of d ≡ unsigned_of false s → decimal_of d ≡ decimal s
+unfolding decimal unsigned_of unsigned split
 decimal-plus [] r d e f h = h
-decimal-plus (b ∷ s) r d e f h = h ∙ ap (λ (u : Bool × List ℕ). unsigned_of u.0 u.1) (first-is b s false (sym e ∙ f))
+decimal-plus (b ∷ s) r d e f h = h ∙ ap (λ (u : Bool × List ℕ). unsigned_of u.0 u.1) (first-is b s false (minus_is b s false (sym e ∙ f)))
+
+-- the sign put to a number, where 64 bits hold it
+module _ (minus : Bool) (n : ℕ) where
+  fit_is : (z : ℤ) → z ≡ signed_by minus n → (t : Bool) → (t ≡ true → mag z < 9223372036854775808) → (t ≡ false → mag z < 9223372036854775808 → ⊥) → only_if t z ≡ only_if (ltb (mag (signed_by minus n)) 9223372036854775808) (signed_by minus n)
+  fit_is z e true f g = rw (← e, lt-ltb (mag z) 9223372036854775808 (f refl)) refl
+  fit_is z e false f g = rw (← e, le-ltb (mag z) 9223372036854775808 (omega (arith, g refl))) refl
+
+  pub no_room : (z : ℤ) (o : Maybe ℤ) → z ≡ signed_by minus n → SomeIff o (SFits w64 z) z → o ≡ None → decimal_of None ≡ only_if (ltb (mag (signed_by minus n)) 9223372036854775808) (signed_by minus n)
+  unfolding decimal_of only_if
+  no_room z None e h k = fit_is z e false (λ q. cc) (λ q l. h (record { sfits = l }))
+  no_room z (Some x) e h k = cc
+
+  pub room : (z x : ℤ) (o : Maybe ℤ) (bits : ℕ) → z ≡ signed_by minus n → SomeIff o (SFits w64 z) z → o ≡ Some x → bits ≡ of_z w64 (to_z w64 (of_z w64 x)) → decimal_of (Some bits) ≡ only_if (ltb (mag (signed_by minus n)) 9223372036854775808) (signed_by minus n)
+  unfolding decimal_of only_if
+  room z x None bits e h k b = cc
+  room z x (Some y) bits e h k b =
+      let same : x ≡ z = cc in
+      let fits : SFits w64 z = h.0 in
+      let back : to_z w64 (of_z w64 z) ≡ z = to_z-of_z fits in
+      let bits-are : to_z w64 bits ≡ z = rw (b, same, back, back) refl in
+      ap some bits-are ∙ fit_is z e true (λ q. fits.sfits) (λ q. cc)
+
+pub taken : (minus : Bool) (n : ℕ) → minus ≡ true → pos 0 -ℤ pos n ≡ signed_by minus n
+unfolding signed_by
+taken minus zero e = rw e refl
+taken minus (suc n) e = rw (e, lt-ltb 0 (suc n) (omega arith)) (ap negsuc (omega arith))
+
+pub added : (minus : Bool) (n : ℕ) → minus ≡ false → pos (0 + n) ≡ signed_by minus n
+unfolding signed_by
+added minus n e = rw e (ap pos (omega arith))
 
 -- ---- the scaled number
 
@@ -182,65 +237,65 @@ capped_same minus w f e =
     let l = ltb-true (mag (signed_by minus (min 1000000000000000 w * 10000 + f))) 9223372036854775808 e in
     omega (arith, larger minus (min 1000000000000000 w * 10000 + f))
 
-clamp-same : (z : ℤ) → mag z < 9223372036854775808 → clamp z ≡ z
-clamp-same z h = bias_inj (clamp z) z (clamp-fits z) h (bias-clamp z)
+some-there : (l : List ℕ) (v : Bool) → v ≡ eqb (length l) 0 → v ≡ false → leb 1 (length l) ≡ true
+some-there l v e f = let h : length l ≡ 0 → ⊥ = eqb-false _ _ (sym e ∙ f) in le-leb 1 (length l) (omega arith)
 
 module _ (minus : Bool) (w f : List ℕ) where
-  refused : tests minus w f ≡ false → decimal_of NotDecimal ≡ scaled minus w f
+  refused : tests minus w f ≡ false → decimal_of None ≡ scaled minus w f
   unfolding decimal_of only_if
   refused e = sym (scaled-is minus w f ∙ rw e refl)
 
-  pub no_whole : length w ≡ 0 → decimal_of NotDecimal ≡ scaled minus w f
+  pub no_whole : length w ≡ 0 → decimal_of None ≡ scaled minus w f
   no_whole e = refused (skip (digits w) (skip (digits f) (stop _ (lt-leb 1 (length w) (omega arith)))))
 
-  pub no_fraction : length f ≡ 0 → decimal_of NotDecimal ≡ scaled minus w f
+  pub no_fraction : length f ≡ 0 → decimal_of None ≡ scaled minus w f
   no_fraction e = refused (skip (digits w) (skip (digits f) (skip (leb 1 (length w)) (stop _ (lt-leb 1 (length f) (omega arith))))))
 
-  pub long_fraction : 4 < length f → decimal_of NotDecimal ≡ scaled minus w f
+  pub long_fraction : 4 < length f → decimal_of None ≡ scaled minus w f
   long_fraction e = refused (skip (digits w) (skip (digits f) (skip (leb 1 (length w)) (skip (leb 1 (length f)) (stop _ (lt-leb (length f) 4 e))))))
 
-  pub no-digits : (r : Bool) → r ≡ digits w → not r ≡ true → decimal_of NotDecimal ≡ scaled minus w f
+  pub no-digits : (r : Bool) → r ≡ digits w → not r ≡ true → decimal_of None ≡ scaled minus w f
   no-digits r e q = refused (stop _ (sym e ∙ not-true r q))
 
-  pub no-digits-after : (r : Bool) → r ≡ digits f → not r ≡ true → decimal_of NotDecimal ≡ scaled minus w f
+  pub no-digits-after : (r : Bool) → r ≡ digits f → not r ≡ true → decimal_of None ≡ scaled minus w f
   no-digits-after r e q = refused (skip (digits w) (stop _ (sym e ∙ not-true r q)))
 
   -- the last test, on the code's numbers
-  module _ (a b : ℕ) (ea : a ≡ min 1000000000000000 (natural 0 w)) (eb : b ≡ natural 0 f * 10 ^ (4 - length f))
-      (t : Bool) (et : t ≡ ltb (mag (signed_by minus (a * 10000 + b))) 9223372036854775808) where
-    test_is : t ≡ ltb (mag (signed_by minus (number w f))) 9223372036854775808
-    test_is = et ∙ rw (ea, eb) (capped_test minus (natural 0 w) (natural 0 f * 10 ^ (4 - length f)))
+  module _ (a b : ℕ) (ea : a ≡ min 1000000000000000 (natural 0 w)) (eb : b ≡ natural 0 f * 10 ^ (4 - length f)) where
+    test_is : ltb (mag (signed_by minus (a * 10000 + b))) 9223372036854775808 ≡ ltb (mag (signed_by minus (number w f))) 9223372036854775808
+    test_is = rw (ea, eb) (capped_test minus (natural 0 w) (natural 0 f * 10 ^ (4 - length f)))
 
-    pub too_large : not t ≡ true → decimal_of NotDecimal ≡ scaled minus w f
-    too_large q = refused (skip (digits w) (skip (digits f) (skip (leb 1 (length w)) (skip (leb 1 (length f)) (skip (leb (length f) 4) (sym test_is ∙ not-true t q))))))
+    pub reads : (r : Maybe ℕ) (p q : Bool) → (v x : Bool) → v ≡ eqb (length w) 0 → v ≡ false → x ≡ eqb (length f) 0 → x ≡ false → length f ≤ 4 → p ≡ digits w → not p ≡ false → q ≡ digits f → not q ≡ false → decimal_of r ≡ only_if (ltb (mag (signed_by minus (a * 10000 + b))) 9223372036854775808) (signed_by minus (a * 10000 + b)) → decimal_of r ≡ scaled minus w f
+    unfolding only_if
+    reads r p q v x ev nv ex nx l ep np eq nq e = e ∙ go (ltb (mag (signed_by minus (a * 10000 + b))) 9223372036854775808) refl ∙ sym (scaled-is minus w f)
+      where
+        all : (t : Bool) → ltb (mag (signed_by minus (a * 10000 + b))) 9223372036854775808 ≡ t → tests minus w f ≡ t
+        all t e = after (sym ep ∙ not-false p np) ∙ after (sym eq ∙ not-false q nq) ∙ after (some-there w v ev nv) ∙ after (some-there f x ex nx) ∙ after (le-leb (length f) 4 l) ∙ sym test_is ∙ e
 
-    pub reads : (bits : ℕ) (p q : Bool) → (length w ≡ 0 → ⊥) → (length f ≡ 0 → ⊥) → length f ≤ 4 → p ≡ digits w → not p ≡ false → q ≡ digits f → not q ≡ false → not t ≡ false → to_z w64 bits ≡ clamp (signed_by minus (a * 10000 + b)) → decimal_of (Scaled bits) ≡ scaled minus w f
-    unfolding decimal_of only_if
-    reads bits p q hw hf l ep np eq nq nt e =
-        let yes-t : ltb (mag (signed_by minus (a * 10000 + b))) 9223372036854775808 ≡ true = sym et ∙ not-false t nt in
-        let all : tests minus w f ≡ true = pass (sym ep ∙ not-false p np) (pass (sym eq ∙ not-false q nq) (pass (le-leb 1 (length w) (omega arith)) (pass (le-leb 1 (length f) (omega arith)) (pass (le-leb (length f) 4 l) (sym test_is ∙ not-false t nt))))) in
-        let same : a * 10000 + b ≡ number w f = rw (ea, eb) (capped_same minus (natural 0 w) (natural 0 f * 10 ^ (4 - length f)) (rw (ea, eb) at yes-t)) in
-        let z : to_z w64 bits ≡ signed_by minus (number w f) = e ∙ clamp-same (signed_by minus (a * 10000 + b)) (ltb-true _ _ yes-t) ∙ ap (λ (n : ℕ). signed_by minus n) same in
-        ap some z ∙ sym (scaled-is minus w f ∙ rw all refl)
+        go : (t : Bool) → ltb (mag (signed_by minus (a * 10000 + b))) 9223372036854775808 ≡ t → ◌≡◌ {A = Option ℤ} (only_if t (signed_by minus (a * 10000 + b))) (only_if (tests minus w f) (signed_by minus (number w f)))
+        go true h = rw (all true h) (ap (λ (n : ℕ). some (signed_by minus n)) (rw (ea, eb) (capped_same minus (natural 0 w) (natural 0 f * 10 ^ (4 - length f)) (rw (ea, eb) at h))))
+        go false h = rw (all false h) refl
 
 -- ---- two decimals
 
-module _ (s : List ℕ) (m n : ℕ) (x y : Decimal) (tx ty : List ℕ) (ex : tx ≡ text s m) (ey : ty ≡ text s n) (dx : decimal_of x ≡ decimal tx) (dy : decimal_of y ≡ decimal ty) where
-  pub decimals_both : (p q : ℕ) → Fits w64 p → Fits w64 q → x ≡ Scaled p → y ≡ Scaled q → eqb p q ≡ same_list (decimal_key (case_of s) m) (decimal_key (case_of s) n)
+module _ (s : List ℕ) (m n : ℕ) (x y : Maybe ℕ) (tx ty : List ℕ) (ex : tx ≡ text s m) (ey : ty ≡ text s n) (dx : decimal_of x ≡ decimal tx) (dy : decimal_of y ≡ decimal ty) where
+  pub decimals_both : (p q : ℕ) → Fits w64 p → Fits w64 q → x ≡ Some p → y ≡ Some q → eqb p q ≡ same_list (decimal_key (case_of s) m) (decimal_key (case_of s) n)
   unfolding same_list ◌and◌
   decimals_both p q hp hq ep eq =
       sym (rw (key-some s m x tx ex dx p ep, key-some s n y ty ey dy q eq, of_z-to_z {w = w64} {n = p} hp, of_z-to_z {w = w64} {n = q} hq) (and-true (eqb p q)))
 
-  pub decimals_left : (p : ℕ) → x ≡ Scaled p → y ≡ NotDecimal → false ≡ same_list (decimal_key (case_of s) m) (decimal_key (case_of s) n)
+  pub decimals_left : (p : ℕ) → x ≡ Some p → y ≡ None → false ≡ same_list (decimal_key (case_of s) m) (decimal_key (case_of s) n)
   unfolding same_list ◌and◌
   decimals_left p ep e = sym (rw (key-some s m x tx ex dx p ep, key-none s n y ty ey dy e) refl)
 
-  pub decimals_text : (m ≡ n → ⊥) → x ≡ NotDecimal → false ≡ same_list (decimal_key (case_of s) m) (decimal_key (case_of s) n)
-  decimals_text ne e = sym (rw (key-none s m x tx ex dx e) (go (decimal_of y) refl))
+module _ (s : List ℕ) (m n : ℕ) (x : Maybe ℕ) (tx : List ℕ) (ex : tx ≡ text s m) (dx : decimal_of x ≡ decimal tx) where
+  pub decimals_text : (m ≡ n → ⊥) → x ≡ None → false ≡ same_list (decimal_key (case_of s) m) (decimal_key (case_of s) n)
+  unfolding decimal_key case_of same_list ◌and◌
+  decimals_text ne e = sym (rw (key-none s m x tx ex dx e) (go (decimal (text s n))))
     where
-      go : (o : Option ℤ) → decimal_of y ≡ o → same_list (1 ∷ m ∷ []) (decimal_key (case_of s) n) ≡ false
-      go none q = rw (text-key s n y ty ey dy q) (unfold same_list ◌and◌ in rw (ne_eqb m n ne) refl)
-      go (some z) q = rw (number-key s n y ty ey dy z q) (unfold same_list ◌and◌ in refl)
+      go : (o : Option ℤ) → same_list (1 ∷ m ∷ []) (elim o as (λ d. List ℕ) [ none ↦ 1 ∷ n ∷ [] | some z ↦ 0 ∷ of_z w64 z ∷ [] ]) ≡ false
+      go none = rw (ne_eqb m n ne) refl
+      go (some z) = refl
 
 pub decimals_same : (s : List ℕ) (m n : ℕ) → m ≡ n → true ≡ same_list (decimal_key (case_of s) m) (decimal_key (case_of s) n)
 decimals_same s m n e = sym (list_same (decimal_key (case_of s) m) (decimal_key (case_of s) n) (ap (decimal_key (case_of s)) e))

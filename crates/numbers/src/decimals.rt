@@ -3,41 +3,24 @@ ghost use Rattle.std.specs.Prelude.{◌≡◌, Bool, true, ◌*◌, ◌^◌, ◌
 ghost use Rattle.std.specs.Int.Signed.{mag};
 ghost use Rattle.meaning.specs.Case.{case_of};
 ghost use Rattle.meaning.specs.Check.{Checked};
+ghost use Rattle.meaning.specs.Tests.{only_if};
 ghost use Rattle.meaning.specs.Equal.{is_digit, digits, natural as naturalOf, scaled as scaledOf, decimal, decimal_key, same_list};
 ghost use Rattle.numbers.specs.Numbers.{signed_by};
-ghost use Rattle.numbers.specs.Decimals.{decimal_of, point_in, is_minus, unsigned_of};
+ghost use Rattle.numbers.specs.Decimals.{decimal_of, unsigned_of};
 
-use crate::Decimal;
-use crate::integers::with_sign;
 use meaning::StrNo;
-
-fn is_digit(b: u8) -> bool
-    ensures { ◌≡◌ {A = Bool} result (is_digit b) }
-{
-    if b < 48 {
-        return false;
-    }
-    b <= 57
-}
 
 fn is_digits(s: &[u8]) -> bool
     ensures { ◌≡◌ {A = Bool} result (digits s.now) }
 {
-    let mut i = 0;
-    while i < s.len() {
-        if !is_digit(s[i]) {
-            return false;
-        }
-        i += 1;
-    }
-    true
+    s.iter().all(|b| b.is_ascii_digit())
 }
 
 fn digit(b: u8) -> u64
     requires { is_digit b ≡ true }
     ensures { (result ≡ b - 48) × (result ≤ 9) }
 {
-    (b as u64) - 48
+    u64::from(b - b'0')
 }
 
 // what digits say, at most 10^15: that is beyond a decimal's whole part
@@ -45,30 +28,14 @@ fn natural(s: &[u8]) -> u64
     requires { digits s.now ≡ true }
     ensures { result ≡ min 1000000000000000 (naturalOf 0 s.now) }
 {
-    let mut n: u64 = 0;
-    let mut i = 0;
-    while i < s.len() {
+    let mut n = 0;
+    for b in s {
         if 100000000000000 <= n {
             return 1000000000000000;
         }
-        n = 10 * n + digit(s[i]);
-        i += 1;
+        n = 10 * n + digit(*b);
     }
     n
-}
-
-// where the first point stands, or the length
-fn point_in(s: &[u8]) -> usize
-    ensures { result ≡ point_in s.now }
-{
-    let mut i = 0;
-    while i < s.len() {
-        if s[i] == b'.' {
-            return i;
-        }
-        i += 1;
-    }
-    i
 }
 
 // the digits after the point, as ten thousandths
@@ -87,71 +54,46 @@ fn fraction(s: &[u8]) -> u64
     }
 }
 
-fn fits(minus: bool, n: u64) -> bool
-    ensures { ◌≡◌ {A = Bool} result (ltb (mag (signed_by minus n)) (2 ^ 63)) }
+// the bits of a number by its sign and magnitude, where 64 bits hold it
+fn with_sign(minus: bool, n: u64) -> Option<u64>
+    ensures { decimal_of result ≡ only_if (ltb (mag (signed_by minus n)) (2 ^ 63)) (signed_by minus n) }
 {
-    if minus {
-        return n <= 9223372036854775808;
-    }
-    n < 9223372036854775808
+    let signed = if minus {
+        0i64.checked_sub_unsigned(n)
+    } else {
+        0i64.checked_add_unsigned(n)
+    };
+    Some(signed?.cast_unsigned())
 }
 
-fn scaled<'a>(minus: bool, whole: &'a [u8], frac: &'a [u8]) -> Decimal
+fn scaled(minus: bool, whole: &[u8], frac: &[u8]) -> Option<u64>
     ensures { decimal_of result ≡ scaledOf minus whole.now frac.now }
 {
-    if whole.len() == 0 {
-        return Decimal::NotDecimal;
+    if whole.is_empty() || frac.is_empty() || 4 < frac.len() {
+        return None;
     }
-    if frac.len() == 0 {
-        return Decimal::NotDecimal;
+    if !is_digits(whole) || !is_digits(frac) {
+        return None;
     }
-    if 4 < frac.len() {
-        return Decimal::NotDecimal;
-    }
-    if !is_digits(whole) {
-        return Decimal::NotDecimal;
-    }
-    if !is_digits(frac) {
-        return Decimal::NotDecimal;
-    }
-    let n = natural(whole) * 10000 + fraction(frac);
-    if !fits(minus, n) {
-        return Decimal::NotDecimal;
-    }
-    let bits = with_sign(minus, n);
-    Decimal::Scaled(bits)
+    with_sign(minus, natural(whole) * 10000 + fraction(frac))
 }
 
-fn read_unsigned(minus: bool, s: &[u8]) -> Decimal
+fn read_unsigned(minus: bool, s: &[u8]) -> Option<u64>
     ensures { decimal_of result ≡ unsigned_of minus s.now }
 {
-    let p = point_in(s);
-    if s.len() <= p {
-        return Decimal::NotDecimal;
-    }
-    let q = p + 1;
-    let whole = &s[..p];
-    let frac = &s[q..];
-    scaled(minus, whole, frac)
+    let p = s.iter().position(|b| *b == b'.')?;
+    scaled(minus, &s[..p], &s[p + 1..])
 }
 
-fn is_minus(s: &[u8]) -> bool
-    ensures { ◌≡◌ {A = Bool} result (is_minus s.now) }
-{
-    if s.len() == 0 {
-        return false;
-    }
-    s[0] == b'-'
-}
-
-pub fn cedar_decimal_value(s: &[u8]) -> Decimal
+// what a text reads as: the 64 bits of the number scaled by 10,000
+pub fn cedar_decimal_value(s: &[u8]) -> Option<u64>
     ensures { decimal_of result ≡ decimal s.now }
 {
-    if is_minus(s) {
-        let rest = &s[1..];
-        return read_unsigned(true, rest);
+    if s.starts_with(b"-") {
+        read_unsigned(true, &s[1..])
+    } else {
+        read_unsigned(false, s)
     }
-    read_unsigned(false, s)
 }
 
 // two decimals by their strings: by scaled number where both read, else by text, which strings of the same number share
@@ -159,16 +101,14 @@ pub fn decimal_eq(s: &[u8], a: StrNo, b: StrNo) -> bool
     requires { Checked s.now }
     ensures { ◌≡◌ {A = Bool} result (same_list (decimal_key (case_of s.now) a.0) (decimal_key (case_of s.now) b.0)) }
 {
-    if a.0 == b.0 {
+    if a == b {
         return true;
     }
-    let x = cedar_decimal_value(tables::text_of(s, a));
-    let y = cedar_decimal_value(tables::text_of(s, b));
-    match x {
-        Decimal::Scaled(p) => match y {
-            Decimal::Scaled(q) => p == q,
-            Decimal::NotDecimal => false,
-        },
-        Decimal::NotDecimal => false,
-    }
+    let Some(x) = cedar_decimal_value(tables::text_of(s, a)) else {
+        return false;
+    };
+    let Some(y) = cedar_decimal_value(tables::text_of(s, b)) else {
+        return false;
+    };
+    x == y
 }

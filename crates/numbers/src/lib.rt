@@ -7,10 +7,3 @@ mod integers;
 
 pub use decimals::{cedar_decimal_value, decimal_eq};
 pub use integers::{calculate, ordered, seconds, window};
-
-// what a text reads as: the 64 bits of the number scaled by 10,000
-#[derive(Clone, Copy)]
-pub enum Decimal {
-    Scaled(u64),
-    NotDecimal,
-}

@@ -19,8 +19,8 @@ returns-then-may_join t c = search (bound-so, rules)
 pub look_from-requires : goal.look_from-requires
 look_from-requires t c = (search rules, (search rules, (search rules, search rules)))
 
-pub returns-in-At : goal.returns-in-At
-returns-in-At t c = search (from_found, rules)
+pub returns-in-Some : goal.returns-in-Some
+returns-in-Some t c = search (from_found, rules)
 
-pub returns-in-Nothing : goal.returns-in-Nothing
-returns-in-Nothing t c = search (from-none, rules)
+pub returns-in-None : goal.returns-in-None
+returns-in-None t c = search (from-none, rules)

@@ -15,8 +15,8 @@ look-look_in-found-requires t c = (search (look_in_falls, rules), search (ready,
 pub look-note-requires-clause-missed : goal.look-note-requires-clause-missed
 look-note-requires-clause-missed t c = search (sought_none, rules)
 
-pub look-returns-in-At : goal.look-returns-in-At
-look-returns-in-At t c = search (sought_same, rules)
+pub look-returns-in-Some : goal.look-returns-in-Some
+look-returns-in-Some t c = search (sought_same, rules)
 
 pub look_in-loop-m-init : goal.look_in-loop-m-init
 look_in-loop-m-init t c = (search (seeking_start, rules), search rules)
@@ -33,8 +33,8 @@ look_in-member_word-u-requires t c = search (checked-bodies, rules)
 pub look_in-look-found-requires : goal.look_in-look-found-requires
 look_in-look-found-requires t c = (search (look-falls, rules), (search rules, (search rules, search rules)))
 
-pub look_in-returns-in-At : goal.look_in-returns-in-At
-look_in-returns-in-At t c = search (seeking_found, rules)
+pub look_in-returns-in-Some : goal.look_in-returns-in-Some
+look_in-returns-in-Some t c = search (seeking_found, rules)
 
 pub look_in-loop-m-preserved : goal.look_in-loop-m-preserved
 look_in-loop-m-preserved t c = (search (seeking_nothing, rules), search rules)

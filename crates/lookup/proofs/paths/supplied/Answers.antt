@@ -6,8 +6,8 @@ use Rattle.lookup.proofs.paths.supplied.Goals as goal
 pub attributes_of-object-requires : goal.attributes_of-object-requires
 attributes_of-object-requires c = search (checked-bodies, rules)
 
-pub returns-in-At : goal.returns-in-At
-returns-in-At c = search (supplied-found, rules)
+pub returns-in-Some : goal.returns-in-Some
+returns-in-Some c = search (supplied-found, rules)
 
-pub returns-in-Nothing : goal.returns-in-Nothing
-returns-in-Nothing c = search (supplied-none, rules)
+pub returns-in-None : goal.returns-in-None
+returns-in-None c = search (supplied-none, rules)

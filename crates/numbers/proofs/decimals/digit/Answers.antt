@@ -3,8 +3,8 @@ use native.Mathlib.Omega.{arith}
 use Rattle.numbers.proofs.Reading.{digit-fits}
 use Rattle.numbers.proofs.decimals.digit.Goals as goal
 
-pub overflow_sub-result : goal.overflow_sub-result
-overflow_sub-result c = omega (arith, digit-fits c.args.b c.requires)
+pub overflow_sub-b : goal.overflow_sub-b
+overflow_sub-b c = omega (arith, digit-fits c.args.b c.requires)
 
 pub returns : goal.returns
 returns c = (search rules, omega (arith, digit-fits c.args.b c.requires))

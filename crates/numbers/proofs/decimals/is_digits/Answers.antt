@@ -1,15 +1,9 @@
-use Rattle.std.proofs.Common.{rules}
-use Rattle.numbers.proofs.Reading.{digits-start, digits-no, digits-yes, digits-end}
+use Rattle.std.proofs.Common.{rules, tests, ◌∙◌}
+use Rattle.std.proofs.lemmas.Iterator.{YieldsList-from_slice}
+use Rattle.std.proofs.lemmas.Iterator.Search.{all_from_yields_List}
+use Rattle.std.specs.Char.{is_ascii_digit}
+use Rattle.numbers.proofs.Reading.{all_digits}
 use Rattle.numbers.proofs.decimals.is_digits.Goals as goal
 
-pub loop-i-init : goal.loop-i-init
-loop-i-init c = search (digits-start, rules)
-
-pub returns-then-not-is_digit : goal.returns-then-not-is_digit
-returns-then-not-is_digit c = search (digits-no, rules)
-
-pub loop-i-preserved : goal.loop-i-preserved
-loop-i-preserved c = search (digits-yes, rules)
-
 pub returns : goal.returns
-returns c = search (digits-end, rules)
+returns c = all_from_yields_List is_ascii_digit _ _ _ c.all.ensures.ran (YieldsList-from_slice c.args.s.now cc) (λ x b q k. search (rules, tests)) ∙ all_digits c.args.s.now

@@ -1,6 +1,7 @@
 use Rattle.std.proofs.Common.{rules}
-use Rattle.numbers.proofs.Saturates.{seconds-is}
+use Rattle.meaning.specs.Number.{seconds}
 use Rattle.numbers.proofs.integers.seconds.Goals as goal
 
 pub returns : goal.returns
-returns c = search (seconds-is, rules)
+unfolding seconds
+returns c = search rules

@@ -1,12 +1,18 @@
-use Rattle.std.proofs.Common.{rules}
-use Rattle.laws.specs.Window.{window-later, window-inside, window-old}
+use Rattle.std.proofs.Common.{arith}
+use Rattle.std.proofs.lemmas.Int.{ints, to_z-of_z}
+use Rattle.meaning.specs.Number.{window, calculate}
+use Rattle.meaning.specs.Tests.{choose}
+use Rattle.numbers.proofs.Saturates.{clamp_is}
 use Rattle.numbers.proofs.integers.window.Goals as goal
 
-pub returns-then-a-b : goal.returns-then-a-b
-returns-then-a-b c = search (window-later, rules)
+pub returns-then-past-lt0 : goal.returns-then-past-lt0
+unfolding window calculate choose
+returns-then-past-lt0 c = rw clamp_is (grind (arith, ints, to_z-of_z))
 
-pub returns-then-distance-s : goal.returns-then-distance-s
-returns-then-distance-s c = search (window-inside, rules)
+pub returns-then-past-cast_signed : goal.returns-then-past-cast_signed
+unfolding window calculate choose
+returns-then-past-cast_signed c = rw clamp_is (grind (arith, ints, to_z-of_z))
 
-pub returns : goal.returns
-returns c = search (window-old, rules)
+pub returns-else-past-cast_signed : goal.returns-else-past-cast_signed
+unfolding window calculate choose
+returns-else-past-cast_signed c = rw clamp_is (grind (arith, ints, to_z-of_z))

@@ -27,8 +27,7 @@ use Rattle.meaning.specs.Meaning.{Meaning, Question, meaning, meaning_of, term a
 use Rattle.laws.specs.Walk.{give_bind}
 use Rattle.laws.specs.Meaning.{meaning-is}
 use Rattle.laws.specs.Checked.{lower-child}
-use Rattle.matching.specs.declared.Settled.{Settled}
-use Rattle.matching.specs.declared.Settled.TheVariants.{Is, Open}
+use Rattle.std.specs.Prelude.{Option as Answer, Some, None}
 use Rattle.matching.specs.Asking.{asking, leaf_value, integer_in, combined, nodes_most, Sought, term, sides, sought_in, Free, TellsOf, Tells, Known, Settles}
 use Rattle.matching.specs.Laws.{Leaf, leaf-walks, leaf-is, int-no, told}
 
@@ -127,31 +126,31 @@ zeros (suc n) zero = refl
 zeros (suc n) (suc k) = zeros n k
 
 module _ {s : List ℕ} {asked : ℕ} {env : Env} where
-  pub tells_open : {x : Sought} → Checked s → TellsOf s asked env x Open
+  pub tells_open : {x : Sought} → Checked s → TellsOf s asked env x None
   tells_open checked = record { checked = checked; says = tt }
 
-  pub tells-leaf : {b : Binding} (checked : Checked s) (t : ℕ) {nd : Node} → nd ≡ node_at s t → Leaf nd → in_cells b.tag b.bits ≡ leaf_value s asked env nd → Tells s asked env t (Is b)
+  pub tells-leaf : {b : Binding} (checked : Checked s) (t : ℕ) {nd : Node} → nd ≡ node_at s t → Leaf nd → in_cells b.tag b.bits ≡ leaf_value s asked env nd → Tells s asked env t (Some b)
   tells-leaf checked t is h k = record { checked = checked; says = free-leaf checked t is _ h k }
 
   -- of the node what is told of its sides
-  pub tells-sides : {t : ℕ} {nd : Node} {op : ArithOp} {l r : NodeNo} (v : Settled) → TellsOf s asked env (sides op l.0 r.0) v → nd ≡ Arithmetic op l r → nd ≡ node_at s t → Tells s asked env t v
-  tells-sides {t} (Is b) g kind is = record { checked = g.checked; says = free-sides g.checked t is kind g.says }
-  tells-sides Open g kind is = tells_open g.checked
+  pub tells-sides : {t : ℕ} {nd : Node} {op : ArithOp} {l r : NodeNo} (v : Answer Binding) → TellsOf s asked env (sides op l.0 r.0) v → nd ≡ Arithmetic op l r → nd ≡ node_at s t → Tells s asked env t v
+  tells-sides {t} (Some b) g kind is = record { checked = g.checked; says = free-sides g.checked t is kind g.says }
+  tells-sides None g kind is = tells_open g.checked
 
   -- left is no Int
-  none_told : {op : ArithOp} {l r : ℕ} {u : Settled} {a : Binding} {y : Bool} → Tells s asked env l u → u ≡ Is a → y ≡ is_some (integer_in (in_cells a.tag a.bits)) → y ≡ false → TellsOf s asked env (sides op l r) (Is (record { tag = 0; bits = 0 }))
+  none_told : {op : ArithOp} {l r : ℕ} {a : Binding} {y : Bool} → Tells s asked env l (Some a) → y ≡ is_some (integer_in (in_cells a.tag a.bits)) → y ≡ false → TellsOf s asked env (sides op l r) (Some (record { tag = 0; bits = 0 }))
   unfolding in_cells pick
-  none_told g q p h = record { checked = g.checked; says = sides-none (told g q) (sym p ∙ h) }
+  none_told g p h = record { checked = g.checked; says = sides-none g.says (sym p ∙ h) }
 
-  both_told : {op : ArithOp} {l r : ℕ} {u w : Settled} {a b v : Binding} → in_cells v.tag v.bits ≡ combined op (integer_in (in_cells a.tag a.bits)) (integer_in (in_cells b.tag b.bits)) → w ≡ Is b → Tells s asked env r w → u ≡ Is a → Tells s asked env l u → TellsOf s asked env (sides op l r) (Is v)
-  both_told {op} {l} {r} e z d q g = record { checked = g.checked; says = subst (Free s asked env (sides op l r)) (sym e) (sides-both (told g q) (told d z)) }
+  both_told : {op : ArithOp} {l r : ℕ} {a b v : Binding} → in_cells v.tag v.bits ≡ combined op (integer_in (in_cells a.tag a.bits)) (integer_in (in_cells b.tag b.bits)) → Tells s asked env r (Some b) → Tells s asked env l (Some a) → TellsOf s asked env (sides op l r) (Some v)
+  both_told {op} {l} {r} e d g = record { checked = g.checked; says = subst (Free s asked env (sides op l r)) (sym e) (sides-both g.says d.says) }
 
-  pub tells_none : {t : ℕ} {nd : Node} {op : ArithOp} {l r : NodeNo} {u : Settled} {a : Binding} {y : Bool} → nd ≡ node_at s t → nd ≡ Arithmetic op l r → Tells s asked env l.0 u → u ≡ Is a → y ≡ is_some (integer_in (in_cells a.tag a.bits)) → y ≡ false → Tells s asked env t (Is (record { tag = 0; bits = 0 }))
-  tells_none is kind g q p h = tells-sides _ (none_told g q p h) kind is
+  pub tells_none : {t : ℕ} {nd : Node} {op : ArithOp} {l r : NodeNo} {a : Binding} {y : Bool} → nd ≡ node_at s t → nd ≡ Arithmetic op l r → Tells s asked env l.0 (Some a) → y ≡ is_some (integer_in (in_cells a.tag a.bits)) → y ≡ false → Tells s asked env t (Some (record { tag = 0; bits = 0 }))
+  tells_none is kind g p h = tells-sides _ (none_told g p h) kind is
 
   -- the premises as they are found: what was combined, right, left, the node
-  pub tells_both : {op : ArithOp} {l r : NodeNo} {u w : Settled} {a b v : Binding} {nd : Node} {t : ℕ} → in_cells v.tag v.bits ≡ combined op (integer_in (in_cells a.tag a.bits)) (integer_in (in_cells b.tag b.bits)) → w ≡ Is b → Tells s asked env r.0 w → u ≡ Is a → Tells s asked env l.0 u → nd ≡ Arithmetic op l r → nd ≡ node_at s t → Tells s asked env t (Is v)
-  tells_both e z d q g kind is = tells-sides _ (both_told e z d q g) kind is
+  pub tells_both : {op : ArithOp} {l r : NodeNo} {a b v : Binding} {nd : Node} {t : ℕ} → in_cells v.tag v.bits ≡ combined op (integer_in (in_cells a.tag a.bits)) (integer_in (in_cells b.tag b.bits)) → Tells s asked env r.0 (Some b) → Tells s asked env l.0 (Some a) → nd ≡ Arithmetic op l r → nd ≡ node_at s t → Tells s asked env t (Some v)
+  tells_both e d g kind is = tells-sides _ (both_told e d g) kind is
 
   -- ---- the table
 
@@ -169,34 +168,34 @@ module _ {s : List ℕ} {asked : ℕ} {env : Env} where
           rw i (known.int k (sym m ∙ h))
 
   module _ {marks ints : List ℕ} where
-    pub settles_open : {x : Sought} → Checked s → Known s asked env marks ints → Settles s asked env x marks ints Open
+    pub settles_open : {x : Sought} → Checked s → Known s asked env marks ints → Settles s asked env x marks ints None
     settles_open checked known = record { tells = tells_open checked; known = known }
 
-    pub open_after : {x y : Sought} {u : Settled} → Settles s asked env x marks ints u → Settles s asked env y marks ints Open
+    pub open_after : {x y : Sought} {u : Answer Binding} → Settles s asked env x marks ints u → Settles s asked env y marks ints None
     open_after g = settles_open g.tells.checked g.known
 
-    pub settles_marked : {t at : ℕ} → Checked s → Known s asked env marks ints → at ≡ t → get_or marks at 0 ≡ 1 → Settles s asked env (term t) marks ints (Is (record { tag = 1; bits = get_or ints at 0 }))
+    pub settles_marked : {t at : ℕ} → Checked s → Known s asked env marks ints → at ≡ t → get_or marks at 0 ≡ 1 → Settles s asked env (term t) marks ints (Some (record { tag = 1; bits = get_or ints at 0 }))
     settles_marked {t} {at} checked known e h = record { tells = record { checked = checked; says = subst (λ (t : ℕ). Free s asked env (term t) (in_cells 1 (get_or ints at 0))) e (known.int at h) }; known = known }
 
-    pub settles_leaf : {b : Binding} (checked : Checked s) (t : ℕ) {nd : Node} → nd ≡ node_at s t → Known s asked env marks ints → Leaf nd → in_cells b.tag b.bits ≡ leaf_value s asked env nd → Settles s asked env (term t) marks ints (Is b)
+    pub settles_leaf : {b : Binding} (checked : Checked s) (t : ℕ) {nd : Node} → nd ≡ node_at s t → Known s asked env marks ints → Leaf nd → in_cells b.tag b.bits ≡ leaf_value s asked env nd → Settles s asked env (term t) marks ints (Some b)
     settles_leaf checked t is known h k = record { tells = tells-leaf checked t is h k; known = known }
 
     -- ---- two sides
 
-    pub settles_none : {op : ArithOp} {l r : NodeNo} {u : Settled} {a : Binding} {y : Bool} → Settles s asked env (term l.0) marks ints u → u ≡ Is a → y ≡ is_some (integer_in (in_cells a.tag a.bits)) → y ≡ false → Settles s asked env (sides op l.0 r.0) marks ints (Is (record { tag = 0; bits = 0 }))
-    settles_none g q p h = record { tells = none_told g.tells q p h; known = g.known }
+    pub settles_none : {op : ArithOp} {l r : NodeNo} {a : Binding} {y : Bool} → Settles s asked env (term l.0) marks ints (Some a) → y ≡ is_some (integer_in (in_cells a.tag a.bits)) → y ≡ false → Settles s asked env (sides op l.0 r.0) marks ints (Some (record { tag = 0; bits = 0 }))
+    settles_none g p h = record { tells = none_told g.tells p h; known = g.known }
 
-    pub settles_both : {op : ArithOp} {l r : NodeNo} {marks₁ ints₁ : List ℕ} {u w : Settled} {a b v : Binding} → in_cells v.tag v.bits ≡ combined op (integer_in (in_cells a.tag a.bits)) (integer_in (in_cells b.tag b.bits)) → w ≡ Is b → Settles s asked env (term r.0) marks ints w → u ≡ Is a → Settles s asked env (term l.0) marks₁ ints₁ u → Settles s asked env (sides op l.0 r.0) marks ints (Is v)
-    settles_both e z d q g = record { tells = both_told e z d.tells q g.tells; known = d.known }
+    pub settles_both : {op : ArithOp} {l r : NodeNo} {marks₁ ints₁ : List ℕ} {a b v : Binding} → in_cells v.tag v.bits ≡ combined op (integer_in (in_cells a.tag a.bits)) (integer_in (in_cells b.tag b.bits)) → Settles s asked env (term r.0) marks ints (Some b) → Settles s asked env (term l.0) marks₁ ints₁ (Some a) → Settles s asked env (sides op l.0 r.0) marks ints (Some v)
+    settles_both e d g = record { tells = both_told e d.tells g.tells; known = d.known }
 
     -- ---- the node above them
 
-    module _ {op : ArithOp} {l r : NodeNo} {w : Settled} {v : Binding} {nd : Node} {t : ℕ} (g : Settles s asked env (sides op l.0 r.0) marks ints w) (q : w ≡ Is v) (kind : nd ≡ Arithmetic op l r) (is : nd ≡ node_at s t) where
-      pub settles_sides : Settles s asked env (term t) marks ints (Is v)
-      settles_sides = record { tells = subst (Tells s asked env t) q (tells-sides w g.tells kind is); known = g.known }
+    module _ {op : ArithOp} {l r : NodeNo} {v : Binding} {nd : Node} {t : ℕ} (g : Settles s asked env (sides op l.0 r.0) marks ints (Some v)) (kind : nd ≡ Arithmetic op l r) (is : nd ≡ node_at s t) where
+      pub settles_sides : Settles s asked env (term t) marks ints (Some v)
+      settles_sides = record { tells = tells-sides (Some v) g.tells kind is; known = g.known }
 
       -- an Int is kept
-      pub settles_kept : {at : ℕ} → at ≡ t → at < nodes_most → v.tag ≡ 1 → Settles s asked env (term t) (set marks at 1) (set ints at v.bits) (Is v)
+      pub settles_kept : {at : ℕ} → at ≡ t → at < nodes_most → v.tag ≡ 1 → Settles s asked env (term t) (set marks at 1) (set ints at v.bits) (Some v)
       settles_kept {at} here lt one =
           let f : Free s asked env (term t) (in_cells v.tag v.bits) = settles_sides.tells.says in
           let h : Free s asked env (term at) (in_cells 1 v.bits) = rw (here, ← one) f in

@@ -20,7 +20,7 @@ use Rattle.meaning.specs.Equal.{Bound, bound_of}
 use Rattle.meaning.specs.Look.{context_at, scope_at}
 use Rattle.meaning.specs.Rows.{at, row_of, in_cells}
 use Rattle.meaning.specs.Meaning.{Question, Shape, anything, variable, resolved, names, unbound}
-use Rattle.matching.specs.declared.Variable.TheVariants.{Is, Not as NotAny}
+use Rattle.std.specs.Prelude.{Some, None}
 use Rattle.matching.specs.Asking.{Standing, asking, leaf_value, shape_of, is_variable, Fixes, unbound_at, variable_of}
 use Rattle.laws.specs.Searched.{context-path, scope_path}
 use Rattle.matching.specs.Laws.{shape_is}
@@ -133,14 +133,14 @@ module _ {s : List ℕ} (checked : Checked s) (env : Env) (t : ℕ) (nd : Node) 
       let here : p ≡ is_some (at (row_of env) x) = f ∙ ap is_some (e ∙ ap (at (row_of env)) q) in
       ap (λ (p : Bool). only_if (not p) x) here ∙ sym (by_shape ∙ ap (λ (n : Node). unbound (asking s 0 env 0) (shape_of n)) v)
 
-  pub side_bound : (x w : ℕ) (b : Option Bound) (p : Bool) → nd ≡ Variable x → w ≡ x → b ≡ at (row_of env) w → p ≡ is_some b → p ≡ true → variable_of NotAny ≡ unbound_at s env t
+  pub side_bound : (x w : ℕ) (b : Option Bound) (p : Bool) → nd ≡ Variable x → w ≡ x → b ≡ at (row_of env) w → p ≡ is_some b → p ≡ true → variable_of None ≡ unbound_at s env t
   unfolding variable_of only_if
   side_bound x w b p v q e f h = rw h at (by-variable x w b p v q e f)
 
-  pub side_unbound : (x w : ℕ) (b : Option Bound) (p : Bool) → nd ≡ Variable x → w ≡ x → b ≡ at (row_of env) w → p ≡ is_some b → p ≡ false → variable_of (Is x) ≡ unbound_at s env t
+  pub side_unbound : (x w : ℕ) (b : Option Bound) (p : Bool) → nd ≡ Variable x → w ≡ x → b ≡ at (row_of env) w → p ≡ is_some b → p ≡ false → variable_of (Some x) ≡ unbound_at s env t
   unfolding variable_of only_if
   side_unbound x w b p v q e f h = rw h at (by-variable x w b p v q e f)
 
-  pub side_other : Constant nd → variable_of NotAny ≡ unbound_at s env t
+  pub side_other : Constant nd → variable_of None ≡ unbound_at s env t
   unfolding variable_of
   side_other h = sym (by_shape ∙ not-unbound (asking s 0 env 0) (shape_of nd) (constant nd h))

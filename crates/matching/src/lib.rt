@@ -2,7 +2,7 @@
 
 #![tactic(auto)]
 
-use meaning::{Binding, Env};
+use meaning::Binding;
 
 mod once;
 mod points;
@@ -14,38 +14,10 @@ pub use points::previous_point;
 pub use predicates::{match_args, tp_row};
 pub use sides::{arithmetic, compare, fixed_of, is_int, leaf_of, resolve_leaf, unbound_variable};
 
-// a row of newly bound variables, if yes
-#[derive(Clone, Copy)]
-pub struct Matched {
-    pub yes: bool,
-    pub row: Env,
-}
-
 // what a field asks of the row: it is as it was, or a variable is newly bound; or the field does not fit
 #[derive(Clone, Copy)]
 pub enum Fits {
     No,
     Yes,
     Binds(u32, Binding),
-}
-
-// an unbound variable, or what is none
-#[derive(Clone, Copy)]
-pub enum Variable {
-    Is(u32),
-    Not,
-}
-
-// a point that was sought, if there is one
-#[derive(Clone, Copy)]
-pub enum Earlier {
-    At(usize),
-    Nowhere,
-}
-
-// what a term resolves to with no walk, or open
-#[derive(Clone, Copy)]
-pub enum Settled {
-    Is(Binding),
-    Open,
 }

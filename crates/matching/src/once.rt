@@ -3,7 +3,6 @@ ghost use Rattle.meaning.specs.Check.{Checked};
 ghost use Rattle.rows.specs.Slots.{Sized};
 ghost use Rattle.matching.specs.Asking.{term, sides, Tells, TellsOf, Known, Settles};
 
-use super::Settled;
 use super::sides::{arithmetic, is_int, leaf_of};
 use meaning::{ArithOp, Binding, Env, Node, NodeNo};
 use tables::{node_word, wide};
@@ -23,7 +22,7 @@ fn settle(
     t: NodeNo,
     marks: &mut [u8; NODES],
     ints: &mut [u64; NODES],
-) -> Settled
+) -> Option<Binding>
     requires checked { Checked s.now }
     requires sized { Sized env }
     requires known { Known s.now asked env marks.old ints.old }
@@ -31,27 +30,25 @@ fn settle(
 {
     let node = tables::node_at(s, t);
     match node {
-        Node::Aggregate(_) => Settled::Open,
+        Node::Aggregate(_) => None,
         Node::Arithmetic(op, l, r) => {
             let at = wide(t.0);
             if NODES <= at {
-                return Settled::Open;
+                return None;
             }
             if marks[at] == 1 {
                 let bits = ints[at];
-                return Settled::Is(Binding { tag: 1, bits });
+                return Some(Binding { tag: 1, bits });
             }
-            let Settled::Is(v) = settle_sides(s, asked, env, op, l, r, marks, ints) else {
-                return Settled::Open;
-            };
+            let v = settle_sides(s, asked, env, op, l, r, marks, ints)?;
             if v.tag == 1 {
                 marks[at] = 1;
                 ints[at] = v.bits;
-                return Settled::Is(v);
+                return Some(v);
             }
-            Settled::Is(v)
+            Some(v)
         }
-        _ => Settled::Is(leaf_of(s, asked, env, node)),
+        _ => Some(leaf_of(s, asked, env, node)),
     }
 }
 
@@ -66,27 +63,29 @@ fn settle_sides(
     r: NodeNo,
     marks: &mut [u8; NODES],
     ints: &mut [u64; NODES],
-) -> Settled
+) -> Option<Binding>
     requires checked { Checked s.now }
     requires sized { Sized env }
     requires known { Known s.now asked env marks.old ints.old }
     ensures { Settles s.now asked env (sides op l.0 r.0) marks.new ints.new result }
 {
-    let Settled::Is(a) = settle(s, asked, env, l, marks, ints) else {
-        return Settled::Open;
-    };
-    if !is_int(a) {
-        return Settled::Is(Binding { tag: 0, bits: 0 });
+    let left = settle(s, asked, env, l, marks, ints)?;
+    if !is_int(left) {
+        return Some(Binding { tag: 0, bits: 0 });
     }
-    let Settled::Is(b) = settle(s, asked, env, r, marks, ints) else {
-        return Settled::Open;
-    };
-    let v = arithmetic(op, a, b);
-    Settled::Is(v)
+    let right = settle(s, asked, env, r, marks, ints)?;
+    Some(arithmetic(op, left, right))
 }
 
 // with a new table
-fn settle_once(s: &[u8], asked: usize, env: Env, op: ArithOp, l: NodeNo, r: NodeNo) -> Settled
+fn settle_once(
+    s: &[u8],
+    asked: usize,
+    env: Env,
+    op: ArithOp,
+    l: NodeNo,
+    r: NodeNo,
+) -> Option<Binding>
     requires checked { Checked s.now }
     requires sized { Sized env }
     ensures { TellsOf s.now asked env (sides op l.0 r.0) result }
@@ -100,46 +99,36 @@ fn settle_once(s: &[u8], asked: usize, env: Env, op: ArithOp, l: NodeNo, r: Node
 pub fn nests(s: &[u8], l: NodeNo, r: NodeNo) -> bool
     requires { Checked s.now }
 {
-    if node_word(s, l, 0) == ARITHMETIC {
-        return true;
-    }
-    node_word(s, r, 0) == ARITHMETIC
+    node_word(s, l, 0) == ARITHMETIC || node_word(s, r, 0) == ARITHMETIC
 }
 
 // both sides are arithmetic: only there can a term below be met twice for each time above
 fn branches(s: &[u8], l: NodeNo, r: NodeNo) -> bool
     requires { Checked s.now }
 {
-    if node_word(s, l, 0) == ARITHMETIC {
-        return node_word(s, r, 0) == ARITHMETIC;
-    }
-    false
+    node_word(s, l, 0) == ARITHMETIC && node_word(s, r, 0) == ARITHMETIC
 }
 
 // what term t resolves to with no walk: left before right, open where it comes to an aggregate
-pub fn calculated(s: &[u8], asked: usize, env: Env, t: NodeNo) -> Settled
+pub fn calculated(s: &[u8], asked: usize, env: Env, t: NodeNo) -> Option<Binding>
     requires checked { Checked s.now }
     requires sized { Sized env }
     ensures { Tells s.now asked env t.0 result }
 {
     let node = tables::node_at(s, t);
     match node {
-        Node::Aggregate(_) => Settled::Open,
+        Node::Aggregate(_) => None,
         Node::Arithmetic(op, l, r) => {
             if branches(s, l, r) {
                 return settle_once(s, asked, env, op, l, r);
             }
-            let Settled::Is(a) = calculated(s, asked, env, l) else {
-                return Settled::Open;
-            };
+            let a = calculated(s, asked, env, l)?;
             if !is_int(a) {
-                return Settled::Is(Binding { tag: 0, bits: 0 });
+                return Some(Binding { tag: 0, bits: 0 });
             }
-            let Settled::Is(b) = calculated(s, asked, env, r) else {
-                return Settled::Open;
-            };
-            Settled::Is(arithmetic(op, a, b))
+            let b = calculated(s, asked, env, r)?;
+            Some(arithmetic(op, a, b))
         }
-        _ => Settled::Is(leaf_of(s, asked, env, node)),
+        _ => Some(leaf_of(s, asked, env, node)),
     }
 }

@@ -9,7 +9,6 @@ ghost use Rattle.numbers.specs.Numbers.{orders};
 ghost use Rattle.rows.specs.Slots.{Sized};
 ghost use Rattle.matching.specs.Asking.{Standing, leaf_value, Fixes, unbound_at, variable_of, integer_in, combined};
 
-use super::Variable;
 use meaning::{ArithOp, Binding, CmpOp, Env, Node, NodeNo};
 use tables::wide;
 
@@ -52,21 +51,18 @@ pub fn resolve_leaf(s: &[u8], asked: usize, env: Env, t: NodeNo) -> Binding
 }
 
 // the variable that a side is, where it is unbound
-pub fn unbound_variable(s: &[u8], env: Env, t: NodeNo) -> Variable
+pub fn unbound_variable(s: &[u8], env: Env, t: NodeNo) -> Option<u32>
     requires checked { Checked s.now }
     requires sized { Sized env }
     ensures { variable_of result ≡ unbound_at s.now env t.0 }
 {
-    let node = tables::node_at(s, t);
-    match node {
-        Node::Variable(x) => {
-            let bound = rows::env::bound_at(env, wide(x));
-            if rows::is_bound(bound) {
-                return Variable::Not;
-            }
-            Variable::Is(x)
-        }
-        _ => Variable::Not,
+    let Node::Variable(x) = tables::node_at(s, t) else {
+        return None;
+    };
+    if rows::is_bound(rows::env::bound_at(env, wide(x))) {
+        None
+    } else {
+        Some(x)
     }
 }
 

@@ -14,8 +14,8 @@ returns-then-branches t c = search (tells-sides, rules)
 pub calculated-requires : goal.calculated-requires
 calculated-requires t c = search (left-falls, rules)
 
-pub returns-in_default-calculated : goal.returns-in_default-calculated
-returns-in_default-calculated t c = search (tells_open, rules)
+pub returns-in_err-a-in-Arithmetic : goal.returns-in_err-a-in-Arithmetic
+returns-in_err-a-in-Arithmetic t c = search (tells_open, rules)
 
 pub returns-then-not-is_int : goal.returns-then-not-is_int
 returns-then-not-is_int t c = search (tells_none, not-true, rules)
@@ -23,8 +23,8 @@ returns-then-not-is_int t c = search (tells_none, not-true, rules)
 pub calculated-requires-in-Arithmetic : goal.calculated-requires-in-Arithmetic
 calculated-requires-in-Arithmetic t c = search (right-falls, rules)
 
-pub returns-in_default-calculated-2 : goal.returns-in_default-calculated-2
-returns-in_default-calculated-2 t c = search (tells_open, rules)
+pub returns-in_err-b-in-Arithmetic : goal.returns-in_err-b-in-Arithmetic
+returns-in_err-b-in-Arithmetic t c = search (tells_open, rules)
 
 pub leaf_of-requires : goal.leaf_of-requires
 leaf_of-requires t c = search (stands, rules)
@@ -32,8 +32,8 @@ leaf_of-requires t c = search (stands, rules)
 pub returns-in-Aggregate : goal.returns-in-Aggregate
 returns-in-Aggregate t c = search (tells_open, rules)
 
-pub returns-in-Is-calculated : goal.returns-in-Is-calculated
-returns-in-Is-calculated t c = search (tells_both, rules)
+pub returns-in_ok-b-in-Arithmetic : goal.returns-in_ok-b-in-Arithmetic
+returns-in_ok-b-in-Arithmetic t c = tells_both c.arithmetic.ensures c.in_ok-b-in-Arithmetic.ensures c.in_ok-a-in-Arithmetic.ensures c.in-Arithmetic.is c.node_at-node.ensures
 
 pub returns-in_default : goal.returns-in_default
 returns-in_default t c = search (tells-leaf, rules)

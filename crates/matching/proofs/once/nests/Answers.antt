@@ -5,5 +5,5 @@ use Rattle.matching.proofs.once.nests.Goals as goal
 pub node_word-requires : goal.node_word-requires
 node_word-requires c = search (checked-bodies, rules)
 
-pub node_word-requires-2 : goal.node_word-requires-2
-node_word-requires-2 c = search (checked-bodies, rules)
+pub node_word-requires-else-node_word-eq-ARITHMETIC : goal.node_word-requires-else-node_word-eq-ARITHMETIC
+node_word-requires-else-node_word-eq-ARITHMETIC c = search (checked-bodies, rules)

@@ -1,4 +1,6 @@
 -- A new name in a run, and a run put into another name by name
+use Rattle.std.specs.Prelude.{Result, Ok, Err}
+use Rattle.std.specs.declared.cmp.Ordering.TheVariants.{Less}
 use mathlib.Core.Path.{◌≡◌, refl, sym, ap, subst, ◌∙◌}
 use mathlib.Core.Bool.{Bool, true, false}
 use mathlib.Core.List.{List}
@@ -7,10 +9,7 @@ use native.Mathlib.Omega.{arith}
 use lib.Dec.{ltb}
 use lib.ListN.{length, get_or}
 use borrow.Author.Tests.{ltb-true, ltb-false}
-use Rattle.jsonread.specs.declared.names.Order.TheVariants.{Less}
 use Rattle.jsonread.specs.Spelling.{order_of}
-use Rattle.jsonnames.specs.declared.Place.{Place}
-use Rattle.jsonnames.specs.declared.Place.TheVariants.{There, Before}
 use Rattle.jsonnames.specs.Sorted.{Spells, Named, Rises, Between, FindTold, Inserted}
 use Rattle.jsonnames.specs.Merges.{Has, Pair, Merged}
 use Rattle.jsonnames.specs.Runs.{Came, new, old}
@@ -158,17 +157,17 @@ module _ {line names after : List ℕ} {low mid high j : ℕ} (g : Putting line 
     pub put-place : get_or after j 0 ≤ length line
     put-place = named.spells.within
 
-    module _ {y : Place} (f : FindTold line after low j (get_or after j 0) y) where
-      pub put-within : {cell : ℕ} → y ≡ Before cell → cell ≤ j
+    module _ {y : Result ℕ ℕ} (f : FindTold line after low j (get_or after j 0) y) where
+      pub put-within : {cell : ℕ} → y ≡ Err cell → cell ≤ j
       put-within e = f.within _ e
 
-      pub put-there : {p : ℕ} → y ≡ There p → Merged line names after low high
+      pub put-there : {p : ℕ} → y ≡ Ok p → Merged line names after low high
       put-there e =
           let d = f.there _ e named.name named.spells in
           let o = g.old d.cell d.from d.below in
           absurd (g.pair.differ o.cell j named.name o.from o.below h (moved_to (sym (o.is ∙ d.is)) d.spells) (moved_to (g.left j (omega arith) h) named.spells))
 
-      pub put_on : {cell : ℕ} {next : List ℕ} → y ≡ Before cell → Inserted cell j (get_or after j 0) after next → Putting line names next low mid high (j + 1)
+      pub put_on : {cell : ℕ} {next : List ℕ} → y ≡ Err cell → Inserted cell j (get_or after j 0) after next → Putting line names next low mid high (j + 1)
       put_on {cell} {next} e i =
           let a = f.from _ e in
           let w = f.within _ e in

@@ -1,4 +1,7 @@
 -- A name is looked for by halving
+use Rattle.std.specs.Prelude.{Ok, Err}
+use Rattle.std.specs.declared.cmp.Ordering.{Ordering}
+use Rattle.std.specs.declared.cmp.Ordering.TheVariants.{Less, Equal, Greater}
 use mathlib.Core.Path.{◌≡◌, refl, sym, ap, subst, ◌∙◌}
 use mathlib.Core.Bool.{Bool, true, false}
 use mathlib.Core.List.{List}
@@ -7,10 +10,7 @@ use native.Mathlib.Omega.{arith}
 use lib.Dec.{ltb}
 use lib.ListN.{length, get_or}
 use borrow.Author.Tests.{ltb-true, ltb-false}
-use Rattle.jsonread.specs.declared.names.Order.{Order}
-use Rattle.jsonread.specs.declared.names.Order.TheVariants.{Less, Same, More}
 use Rattle.jsonread.specs.Spelling.{order_of, OrderTold}
-use Rattle.jsonnames.specs.declared.Place.TheVariants.{There, Before}
 use Rattle.jsonnames.specs.Sorted.{Spells, Named, Rises, FindTold}
 use Rattle.jsonnames.proofs.Order.{order-equal, order_flip, order-on}
 
@@ -43,7 +43,7 @@ half-start r h =
     }
 
 module _ {line names : List ℕ} {first end at low high : ℕ} (g : Halving line names first end at low high) where
-  pub half-none : high ≤ low → FindTold line names first end at (Before low)
+  pub half-none : high ≤ low → FindTold line names first end at (Err low)
   half-none h =
       let e : high ≡ low = omega (arith, g.between) in
       record {
@@ -72,11 +72,11 @@ module _ {line names : List ℕ} {first end at low high : ℕ} (g : Halving line
     pub half_place : get_or names mid 0 ≤ length line
     half_place = named.spells.within
 
-    module _ {r : Order} (t : OrderTold line (get_or names mid 0) at r) where
-      tells : {o : Order} → r ≡ o → (n : List ℕ) → Spells line at n → order_of named.name n ≡ o
+    module _ {r : Ordering} (t : OrderTold line (get_or names mid 0) at r) where
+      tells : {o : Ordering} → r ≡ o → (n : List ℕ) → Spells line at n → order_of named.name n ≡ o
       tells e n s = sym (t named.name n named.spells.rest s.rest named.spells.is s.is) ∙ e
 
-      pub half-same : r ≡ Same → FindTold line names first end at (There (get_or names mid 0))
+      pub half-same : r ≡ Equal → FindTold line names first end at (Ok (get_or names mid 0))
       half-same e =
           record {
             there =
@@ -124,7 +124,7 @@ module _ {line names : List ℕ} {first end at low high : ℕ} (g : Halving line
             more = g.more;
           }
 
-      pub half-more : r ≡ More → Halving line names first end at low mid
+      pub half-more : r ≡ Greater → Halving line names first end at low mid
       half-more e =
           record {
             sorted = g.sorted;

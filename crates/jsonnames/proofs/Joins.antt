@@ -1,4 +1,6 @@
 -- Two runs become one, the upper one set aside
+use Rattle.std.specs.declared.cmp.Ordering.{Ordering}
+use Rattle.std.specs.declared.cmp.Ordering.TheVariants.{Less, Equal, Greater}
 use mathlib.Core.Path.{◌≡◌, refl, sym, ap, subst, ◌∙◌}
 use mathlib.Core.Bool.{Bool, true, false}
 use mathlib.Core.List.{List}
@@ -8,8 +10,6 @@ use lib.Dec.{ltb}
 use lib.ListN.{length, get_or, set, length-set}
 use lib.Seq.{get_or-set_same, get_or-set_other}
 use borrow.Author.Tests.{ltb-true, ltb-false}
-use Rattle.jsonread.specs.declared.names.Order.{Order}
-use Rattle.jsonread.specs.declared.names.Order.TheVariants.{Less, Same, More}
 use Rattle.jsonread.specs.Spelling.{order_of, OrderTold}
 use Rattle.jsonnames.specs.Sorted.{Spells, Named, Rises}
 use Rattle.jsonnames.specs.Merges.{Has, Pair, Aside, CopyTold, LaterDue, LaterTold, OrderedTold, Merged}
@@ -97,18 +97,18 @@ merged_none o e =
 
 -- ---- which is later
 
-tells : {line : List ℕ} (p at : ℕ) {o : Order} → OrderTold line p at o → (x : Order) → o ≡ x → (m n : List ℕ) → Spells line p m → Spells line at n → order_of m n ≡ x
+tells : {line : List ℕ} (p at : ℕ) {o : Ordering} → OrderTold line p at o → (x : Ordering) → o ≡ x → (m n : List ℕ) → Spells line p m → Spells line at n → order_of m n ≡ x
 tells p at t x e m n s u = sym (t m n s.rest u.rest s.is u.is) ∙ e
 
-module _ {line : List ℕ} {p at : ℕ} {o : Order} (t : OrderTold line p at o) where
-  pub later_more : o ≡ More → LaterTold line p at false
-  later_more e = record { more = λ e. absurd (let z : ◌≡◌ {A = ℕ} 0 1 = cc in omega arith); less = λ z m n s u d. order_flip m n (tells p at t More e m n s u) }
+module _ {line : List ℕ} {p at : ℕ} {o : Ordering} (t : OrderTold line p at o) where
+  pub later_more : o ≡ Greater → LaterTold line p at false
+  later_more e = record { more = λ e. absurd (let z : ◌≡◌ {A = ℕ} 0 1 = cc in omega arith); less = λ z m n s u d. order_flip m n (tells p at t Greater e m n s u) }
 
   pub later-less : o ≡ Less → LaterTold line p at true
   later-less e = record { more = λ z m n s u. tells p at t Less e m n s u; less = λ e. absurd (let z : ◌≡◌ {A = ℕ} 0 1 = cc in omega arith) }
 
-  pub later_same : o ≡ Same → LaterTold line p at false
-  later_same e = record { more = λ e. absurd (let z : ◌≡◌ {A = ℕ} 0 1 = cc in omega arith); less = λ z m n s u d. absurd (d (order-equal m n (tells p at t Same e m n s u))) }
+  pub later_same : o ≡ Equal → LaterTold line p at false
+  later_same e = record { more = λ e. absurd (let z : ◌≡◌ {A = ℕ} 0 1 = cc in omega arith); less = λ z m n s u d. absurd (d (order-equal m n (tells p at t Equal e m n s u))) }
 
 -- up to a name less than another, all are less
 pub up_to : {line names : List ℕ} {low high : ℕ} → Rises line names low high → (a : ℕ) → a < high → (o n : List ℕ) → Spells line (get_or names a 0) o → order_of o n ≡ Less → (y : ℕ) (m : List ℕ) → low ≤ y → y ≤ a → Spells line (get_or names y 0) m → order_of m n ≡ Less

@@ -1,4 +1,5 @@
 -- A name looked for in one run after another
+use Rattle.std.specs.Prelude.{Some, None, Result, Ok, Err}
 use mathlib.Core.Path.{◌≡◌, refl, sym, ap, subst, ◌∙◌}
 use mathlib.Core.Bool.{Bool, true, false}
 use mathlib.Core.List.{List}
@@ -9,9 +10,6 @@ use mir.Syntax.{w64}
 use lib.Dec.{ltb, eqb}
 use lib.ListN.{length, get_or}
 use borrow.Author.Tests.{ltb-true, ltb-false, eqb-true, eqb-false}
-use Rattle.jsonnames.specs.declared.Place.{Place}
-use Rattle.jsonnames.specs.declared.Place.TheVariants.{There, Before}
-use Rattle.jsonnames.specs.declared.runs.Known.TheVariants.{There as Stands, New}
 use Rattle.jsonnames.specs.Sorted.{Spells, Named, Rises, Runs, FindTold, Lacks}
 use Rattle.jsonnames.specs.Merges.{LaterDue, LaterTold}
 use Rattle.jsonnames.specs.Runs.{LastDue, LastTold, Looked, LookTold}
@@ -25,7 +23,7 @@ one_of_lem n h = omega (arith, h)
 -- ---- the last run
 
 module _ {line names : List ℕ} {size count high at : ℕ} (d : LastDue line names size count high at) where
-  pub last-even : count % 2 ≡ 0 → LastTold line names size count high at (Before high)
+  pub last-even : count % 2 ≡ 0 → LastTold line names size count high at (Err high)
   last-even h =
       record {
         odd = λ p z. absurd (let z : ◌≡◌ {A = ℕ} 0 1 = cc in omega arith);
@@ -51,7 +49,7 @@ module _ {line names : List ℕ} {size count high at : ℕ} (d : LastDue line na
     pub last-later : LaterDue line (get_or names (high - 1) 0) at
     last-later = record { other = last-named.spells.within; place = d.place }
 
-    pub last-past : {r : Bool} → LaterTold line (get_or names (high - 1) 0) at r → r ≡ true → LastTold line names size count high at (Before (high - size))
+    pub last-past : {r : Bool} → LaterTold line (get_or names (high - 1) 0) at r → r ≡ true → LastTold line names size count high at (Err (high - size))
     last-past t e =
         record {
           odd = λ q z. absurd (let z : ◌≡◌ {A = ℕ} 0 1 = cc in omega arith);
@@ -62,18 +60,18 @@ module _ {line names : List ℕ} {size count high at : ℕ} (d : LastDue line na
           none = λ k z o. absurd (n o);
         }
 
-    module _ {y : Place} (f : FindTold line names (high - size) high at y) where
-      pub last-there : {p : ℕ} → y ≡ There p → LastTold line names size count high at (There p)
+    module _ {y : Result ℕ ℕ} (f : FindTold line names (high - size) high at y) where
+      pub last-there : {p : ℕ} → y ≡ Ok p → LastTold line names size count high at (Ok p)
       last-there {p} e =
           record {
             odd = λ q z. is_odd;
-            there = λ q z. let x : p ≡ q = cc in f.there q (e ∙ ap There x);
+            there = λ q z. let x : p ≡ q = cc in f.there q (e ∙ ap Ok x);
             passed = λ k z. absurd (let z : ◌≡◌ {A = ℕ} 0 1 = cc in omega arith);
             lacks = λ k z. absurd (let z : ◌≡◌ {A = ℕ} 0 1 = cc in omega arith);
             none = λ k z. absurd (let z : ◌≡◌ {A = ℕ} 0 1 = cc in omega arith);
           }
 
-      pub last-lacks : {cell : ℕ} → y ≡ Before cell → LastTold line names size count high at (Before (high - size))
+      pub last-lacks : {cell : ℕ} → y ≡ Err cell → LastTold line names size count high at (Err (high - size))
       last-lacks e =
           record {
             odd = λ q z. absurd (let z : ◌≡◌ {A = ℕ} 0 1 = cc in omega arith);
@@ -102,7 +100,7 @@ module _ {line names : List ℕ} {first stop at : ℕ} (d : Looked line names fi
   look-start = record { runs = d.runs; to = omega arith; within = d.within; place = d.place; some = omega arith; lacks = λ n s k f h u. absurd (omega arith) }
 
 module _ {line names : List ℕ} {first stop at size count high : ℕ} (g : Looking line names first stop at size count high) where
-  pub look_none : count ≤ 0 → LookTold line names first stop at New
+  pub look_none : count ≤ 0 → LookTold line names first stop at None
   look_none h =
       let e : high ≡ first = runs_none g.runs (omega arith) in
       record {
@@ -120,18 +118,18 @@ module _ {line names : List ℕ} {first stop at size count high : ℕ} (g : Look
     pub look-fits : length names * 8 < 2 ^ 63 → Fits w64 (size + size)
     look-fits l = record { fits = omega (arith, size_room, g.to, g.within) }
 
-    module _ {y : Place} (t : LastTold line names size count high at y) where
-      pub look-there : {p : ℕ} → y ≡ There p → LookTold line names first stop at (Stands p)
+    module _ {y : Result ℕ ℕ} (t : LastTold line names size count high at y) where
+      pub look-there : {p : ℕ} → y ≡ Ok p → LookTold line names first stop at (Some p)
       look-there {p} e =
           record {
             there = λ q z n s.
                 let x : p ≡ q = cc in
-                let w = t.there q (e ∙ ap There x) n s in
+                let w = t.there q (e ∙ ap Ok x) n s in
                 record { cell = w.cell; from = omega (arith, w.from, runs-from (runs-odd g.runs (t.odd p e)).others); below = omega (arith, w.below, g.to); is = w.is; spells = w.spells };
             new = λ z. absurd (let z : ◌≡◌ {A = ℕ} 0 1 = cc in omega arith);
           }
 
-      pub look-on : {k : ℕ} → y ≡ Before k → Looking line names first stop at (size + size) (count / 2) k
+      pub look-on : {k : ℕ} → y ≡ Err k → Looking line names first stop at (size + size) (count / 2) k
       look-on {k} e =
           go (eqb (count % 2) 0) refl
         where

@@ -1,4 +1,5 @@
 -- The order of names
+use Rattle.std.specs.declared.cmp.Ordering.TheVariants.{Less, Equal, Greater}
 use mathlib.Core.Path.{◌≡◌, refl, sym, ◌∙◌}
 use mathlib.Core.Bool.{Bool, true, false}
 use mathlib.Core.List.{List, [], ◌∷◌}
@@ -7,7 +8,6 @@ use native.Mathlib.Omega.{arith}
 use lib.Dec.{ltb}
 use borrow.Author.Tests.{lt-ltb, le-ltb, ltb-true, ltb-false}
 use Rattle.laws.specs.Tests.{yes, no as otherwise}
-use Rattle.jsonread.specs.declared.names.Order.TheVariants.{Less, Same, More}
 use Rattle.jsonread.specs.Spelling.{order_of}
 
 -- the order of two bytes, and what follows them
@@ -29,7 +29,7 @@ on-lower : (a b : ℕ) (s t : List ℕ) → a < b → order_of (a ∷ s) (b ∷ 
 unfolding order_of
 on-lower a b s t h = yes _ (lt-ltb a b h)
 
-on-higher : (a b : ℕ) (s t : List ℕ) → b < a → order_of (a ∷ s) (b ∷ t) ≡ More
+on-higher : (a b : ℕ) (s t : List ℕ) → b < a → order_of (a ∷ s) (b ∷ t) ≡ Greater
 unfolding order_of
 on-higher a b s t h = otherwise _ (le-ltb a b (omega arith)) (yes _ (lt-ltb b a h))
 
@@ -37,16 +37,16 @@ on-equal : (a b : ℕ) (s t : List ℕ) → a ≡ b → order_of (a ∷ s) (b �
 unfolding order_of
 on-equal a b s t e = otherwise _ (le-ltb a b (omega arith)) (otherwise _ (le-ltb b a (omega arith)) refl)
 
-less-same : {A : Type 0} → Less ≡ Same → A
+less-same : {A : Type 0} → Less ≡ Equal → A
 less-same e = absurd (let z : ◌≡◌ {A = ℕ} 0 1 = cc in omega arith)
 
-less-more : {A : Type 0} → Less ≡ More → A
+less-more : {A : Type 0} → Less ≡ Greater → A
 less-more e = absurd (let z : ◌≡◌ {A = ℕ} 0 1 = cc in omega arith)
 
-more_same : {A : Type 0} → More ≡ Same → A
+more_same : {A : Type 0} → Greater ≡ Equal → A
 more_same e = absurd (let z : ◌≡◌ {A = ℕ} 0 1 = cc in omega arith)
 
-pub order-equal : (s t : List ℕ) → order_of s t ≡ Same → s ≡ t
+pub order-equal : (s t : List ℕ) → order_of s t ≡ Equal → s ≡ t
 unfolding order_of
 order-equal [] [] e = refl
 order-equal [] (b ∷ t) e = less-same e
@@ -58,7 +58,7 @@ order-equal (a ∷ s) (b ∷ t) e =
       | equal h ↦ let k : s ≡ t = order-equal s t (sym (on-equal a b s t h) ∙ e) in cc
     ]
 
-pub order_flip : (s t : List ℕ) → order_of s t ≡ More → order_of t s ≡ Less
+pub order_flip : (s t : List ℕ) → order_of s t ≡ Greater → order_of t s ≡ Less
 unfolding order_of
 order_flip [] [] e = more_same (sym e)
 order_flip [] (b ∷ t) e = less-more e

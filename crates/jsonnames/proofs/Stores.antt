@@ -1,4 +1,5 @@
 -- A name put into the last run, which may be full then
+use Rattle.std.specs.Prelude.{Option, Some, None, Result, Ok, Err}
 use mathlib.Core.Path.{◌≡◌, refl, sym, ap, subst, ◌∙◌}
 use mathlib.Core.Bool.{Bool, true, false}
 use mathlib.Core.List.{List}
@@ -7,10 +8,6 @@ use native.Mathlib.Omega.{arith}
 use lib.Dec.{ltb}
 use lib.ListN.{length, get_or}
 use borrow.Author.Tests.{ltb-true, ltb-false}
-use Rattle.jsonnames.specs.declared.Place.{Place}
-use Rattle.jsonnames.specs.declared.Place.TheVariants.{There, Before}
-use Rattle.jsonnames.specs.declared.runs.Known.{Known}
-use Rattle.jsonnames.specs.declared.runs.Known.TheVariants.{There as Stands, New}
 use Rattle.jsonnames.specs.Sorted.{Spells, Named, Rises, Runs, Differ, edge, Sorted, Lacks, FindTold, Inserted}
 use Rattle.jsonnames.specs.Merges.{Has}
 use Rattle.jsonnames.specs.Runs.{Looked, LookTold, CarryDue, Carried, PutDue, Came, new, old, Stored}
@@ -61,19 +58,19 @@ module _ {line names : List ℕ} {first end at : ℕ} (s : Sorted line names fir
       let z : (end - first) / 16 ≡ (edge first end - first) / 16 = omega (arith, s.from) in
       record { runs = subst (λ (k : ℕ). Runs line names first 16 k (edge first end)) z s.runs; within = omega (arith, s.within); place = n.spells.within }
 
-  module _ {y : Known} (l : LookTold line names first (edge first end) at y) where
-    pub store_there : {p : ℕ} → y ≡ Stands p → Stored line names names first end at (Stands p)
+  module _ {y : Option ℕ} (l : LookTold line names first (edge first end) at y) where
+    pub store_there : {p : ℕ} → y ≡ Some p → Stored line names names first end at (Some p)
     store_there {p} e =
         record {
           there = λ q z m u.
               let x : p ≡ q = cc in
-              let w = l.there q (e ∙ ap Stands x) m u in
+              let w = l.there q (e ∙ ap Some x) m u in
               record { cell = w.cell; from = w.from; below = omega (arith, w.below); is = w.is; spells = w.spells };
           same = λ q z. refl;
           new = λ z. absurd (let z : ◌≡◌ {A = ℕ} 0 1 = cc in omega arith);
         }
 
-    pub store_due : y ≡ New → end < length names → PutDue line names first (edge first end) end at
+    pub store_due : y ≡ None → end < length names → PutDue line names first (edge first end) end at
     store_due e r = record { sorted = s; last-is = refl; room = r; named = n; lacks = λ m u. l.new e m u }
 
 -- ---- put into the last run
@@ -88,22 +85,22 @@ module _ {line names : List ℕ} {first last end at : ℕ} (d : PutDue line name
   from_last : first ≤ last
   from_last = omega (arith, d.last-is, d.sorted.from)
 
-  module _ {y : Place} (f : FindTold line names last end at y) where
-    pub put-there : {p : ℕ} → y ≡ There p → Stored line names names first end at (Stands p)
+  module _ {y : Result ℕ ℕ} (f : FindTold line names last end at y) where
+    pub put-there : {p : ℕ} → y ≡ Ok p → Stored line names names first end at (Some p)
     put-there {p} e =
         record {
           there = λ q z m u.
               let x : p ≡ q = cc in
-              let w = f.there q (e ∙ ap There x) m u in
+              let w = f.there q (e ∙ ap Ok x) m u in
               record { cell = w.cell; from = omega (arith, w.from, from_last); below = w.below; is = w.is; spells = w.spells };
           same = λ q z. refl;
           new = λ z. absurd (let z : ◌≡◌ {A = ℕ} 0 1 = cc in omega arith);
         }
 
-    pub put-within : {cell : ℕ} → y ≡ Before cell → cell ≤ end
+    pub put-within : {cell : ℕ} → y ≡ Err cell → cell ≤ end
     put-within e = f.within _ e
 
-    module _ {cell : ℕ} {after : List ℕ} (e : y ≡ Before cell) (i : Inserted cell end at names after) where
+    module _ {cell : ℕ} {after : List ℕ} (e : y ≡ Err cell) (i : Inserted cell end at names after) where
       from : last ≤ cell
       from = f.from _ e
 
@@ -149,7 +146,7 @@ module _ {line names : List ℕ} {first last end at : ℕ} (d : PutDue line name
       coming : (k : ℕ) → first ≤ k → k < end + 1 → Came names first end at (get_or after k 0)
       coming k a h = inserted_came (omega (arith, from, from_last)) within i k a h
 
-      pub put-grown : (end - last ≡ 15 → ⊥) → Stored line names after first end at New
+      pub put-grown : (end - last ≡ 15 → ⊥) → Stored line names after first end at None
       put-grown n =
           record {
             there = λ p z. absurd (let z : ◌≡◌ {A = ℕ} 0 1 = cc in omega arith);
@@ -190,7 +187,7 @@ module _ {line names : List ℕ} {first last end at : ℕ} (d : PutDue line name
               runs = subst (λ (k : ℕ). Runs line after first 16 ((end + 1 - 16 - first) / 16) k) z (subst (λ (k : ℕ). Runs line after first 16 k last) b running);
             }
 
-        pub put-carried : {final : List ℕ} → Carried line after final first (end + 1) → Stored line names final first end at New
+        pub put-carried : {final : List ℕ} → Carried line after final first (end + 1) → Stored line names final first end at None
         put-carried {final} c =
             record {
               there = λ p z. absurd (let z : ◌≡◌ {A = ℕ} 0 1 = cc in omega arith);

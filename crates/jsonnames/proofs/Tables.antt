@@ -1,4 +1,5 @@
 -- A name that was read, among those that the definition has seen
+use Rattle.std.specs.Prelude.{Option, Some, None, Result, Ok, Err}
 use mathlib.Core.Path.{◌≡◌, refl, sym, ap, subst, ◌∙◌}
 use mathlib.Core.Bool.{Bool, true, false}
 use mathlib.Core.List.{List, [], ◌∷◌}
@@ -11,16 +12,12 @@ use borrow.Author.Tests.{eq-eqb, eqb-true}
 use Rattle.meaning.specs.Tests.{◌and◌}
 use Rattle.laws.specs.Tests.{both, yes, no as otherwise}
 use Rattle.meaning.specs.Equal.{same_list}
-use Rattle.jsontext.specs.declared.Fault.{Fault}
 use Rattle.jsontext.specs.declared.Fault.TheVariants.{RepeatedName}
-use Rattle.jsontext.specs.declared.Step.{Step}
-use Rattle.jsontext.specs.declared.Step.TheVariants.{At, Bad}
+use Rattle.jsontext.specs.declared.Bad.{Bad}
 use Rattle.jsontext.specs.Strings.{string}
 use Rattle.jsontext.specs.Values.{Name, before}
 use Rattle.jsonread.specs.Told.{Told}
-use Rattle.jsonnames.specs.declared.runs.Known.{Known}
-use Rattle.jsonnames.specs.declared.runs.Known.TheVariants.{There, New}
-use Rattle.jsonnames.specs.Sorted.{Spells, Named, Holds, Lacks, Table, Kept, Repeated, unread, again, Entered}
+use Rattle.jsonnames.specs.Sorted.{Spells, Named, Holds, Lacks, Table, Kept, Repeated, unread, again, Entered, Refuses}
 use Rattle.jsonnames.specs.Runs.{new, old, Grown, Stored}
 use Rattle.jsonnames.proofs.Halves.{spells_one, moved_to}
 
@@ -86,34 +83,37 @@ module _ {line names after : List ℕ} {first end at : ℕ} {n : List ℕ} (s : 
 
 -- ---- a name is read, looked for and kept
 
-module _ {line : List ℕ} {at : ℕ} {x : Step} (t : Told line at x (string (drop at line))) (h : at ≤ length line) where
-  pub enter-unread : {names : List ℕ} {first end : ℕ} {w : Fault} {p q : ℕ} → x ≡ Bad w p q → Entered line names names first end at (Bad w p q)
-  enter-unread {w = w} {p} {q} e =
+module _ {line : List ℕ} {at : ℕ} {x : Result ℕ Bad} (t : Told line at x (string (drop at line))) (h : at ≤ length line) where
+  pub enter-unread : {names : List ℕ} {first end : ℕ} {b : Bad} → x ≡ Err b → Entered line names names first end at (Err b)
+  enter-unread e =
       record {
         kept = λ k z. absurd (let z : ◌≡◌ {A = ℕ} 0 1 = cc in omega arith);
-        refused = λ v k l z. unread (t.faulty v k l (e ∙ z));
-        same = λ v k l z. refl;
+        refused = λ v z. unread (t.faulty v (e ∙ z));
+        same = λ v z. refl;
       }
 
-  module _ {e : ℕ} (a : x ≡ At e) where
+  module _ {e : ℕ} (a : x ≡ Ok e) where
     spelt : Spells line at (t.stands _ a).what
     spelt = record { rest = drop e line; within = h; is = (t.stands _ a).is }
 
     pub enter-named : Named line at
     enter-named = record { name = (t.stands _ a).what; spells = spelt }
 
-    module _ {names after : List ℕ} {first end : ℕ} {y : Known} (u : Stored line names after first end at y) where
-      pub enter-again : {o : ℕ} → y ≡ There o → Entered line names after first end at (Bad RepeatedName at o)
+    module _ {names after : List ℕ} {first end : ℕ} {y : Option ℕ} (u : Stored line names after first end at y) where
+      pub enter-again : {o : ℕ} → y ≡ Some o → Entered line names after first end at (Err (record { fault = RepeatedName; at = at; first = o }))
       enter-again {o} z =
           let d = u.there _ z (t.stands _ a).what spelt in
           let p : Repeated line names first end at o = record { name = (t.stands _ a).what; rest = drop e line; place = d.spells.within; is = (t.stands _ a).is; seen = λ seen tb. tb.found o (t.stands _ a).what d } in
           record {
             kept = λ k z. absurd (let z : ◌≡◌ {A = ℕ} 0 1 = cc in omega arith);
-            refused = λ v k l z. let x : o ≡ l = cc in again (cc) (cc) (subst (λ (o : ℕ). Repeated line names first end at o) x p);
-            same = λ v k l q. u.same _ z;
+            refused =
+                λ b q.
+                let x : ◌≡◌ {A = Bad} (record { fault = RepeatedName; at = at; first = o }) b = cc in
+                subst (λ (b : Bad). Refuses line names first end at b) x (again refl refl p);
+            same = λ b q. u.same _ z;
           }
 
-      pub enter-kept : y ≡ New → Entered line names after first end at (At e)
+      pub enter-kept : y ≡ None → Entered line names after first end at (Ok e)
       enter-kept z =
           let s = t.stands _ a in
           let g = u.new z in
@@ -131,6 +131,6 @@ module _ {line : List ℕ} {at : ℕ} {x : Step} (t : Told line at x (string (dr
           in
           record {
             kept = λ k q. let x : e ≡ k = cc in subst (λ (k : ℕ). Kept line names after first end at k) x p;
-            refused = λ v k l q. absurd (let z : ◌≡◌ {A = ℕ} 0 1 = cc in omega arith);
-            same = λ v k l q. absurd (let z : ◌≡◌ {A = ℕ} 0 1 = cc in omega arith);
+            refused = λ b q. absurd (let z : ◌≡◌ {A = ℕ} 0 1 = cc in omega arith);
+            same = λ b q. absurd (let z : ◌≡◌ {A = ℕ} 0 1 = cc in omega arith);
           }

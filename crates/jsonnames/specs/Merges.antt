@@ -1,6 +1,6 @@
 -- Two runs of names that follow one another, and the run that they become
+use Rattle.std.specs.declared.cmp.Ordering.TheVariants.{Less}
 use Rattle.std.specs.Prelude.{◌≡◌, Bool, true, false, List, ℕ, ◌+◌, ◌-◌, ◌<◌, ◌≤◌, length, get_or}
-use Rattle.jsonread.specs.declared.names.Order.TheVariants.{Less}
 use Rattle.jsonread.specs.Spelling.{order_of}
 use Rattle.jsonnames.specs.Sorted.{Spells, Rises, Differ}
 

@@ -1,9 +1,5 @@
 -- A name looked for in all runs, and kept
-use Rattle.std.specs.Prelude.{◌≡◌, List, ℕ, ◌+◌, ◌-◌, ◌/◌, ◌%◌, ◌<◌, ◌≤◌, length, get_or}
-use Rattle.jsonnames.specs.declared.Place.{Place}
-use Rattle.jsonnames.specs.declared.Place.TheVariants.{There as Inside, Before}
-use Rattle.jsonnames.specs.declared.runs.Known.{Known}
-use Rattle.jsonnames.specs.declared.runs.Known.TheVariants.{There, New}
+use Rattle.std.specs.Prelude.{◌≡◌, List, ℕ, ◌+◌, ◌-◌, ◌/◌, ◌%◌, ◌<◌, ◌≤◌, length, get_or, Option, Some, None, Result, Ok, Err}
 use Rattle.jsonnames.specs.Sorted.{Spells, Named, Rises, Runs, Differ, edge, Sorted, Holds, Lacks}
 use Rattle.jsonnames.specs.Merges.{Has}
 
@@ -14,12 +10,12 @@ pub record LastDue (line names : List ℕ) (size count high at : ℕ) : Type 0 w
   pub room : size ≤ high
   pub some : 0 < size
 
-pub record LastTold (line names : List ℕ) (size count high at : ℕ) (r : Place) : Type 0 where
-  pub odd : (p : ℕ) → r ≡ Inside p → count % 2 ≡ 1
-  pub there : (p : ℕ) → r ≡ Inside p → (n : List ℕ) → Spells line at n → Holds line names (high - size) high p n
-  pub passed : (k : ℕ) → r ≡ Before k → count % 2 ≡ 1 → k ≡ high - size
-  pub lacks : (k : ℕ) → r ≡ Before k → count % 2 ≡ 1 → (n : List ℕ) → Spells line at n → Lacks line names (high - size) high n
-  pub none : (k : ℕ) → r ≡ Before k → count % 2 ≡ 0 → k ≡ high
+pub record LastTold (line names : List ℕ) (size count high at : ℕ) (r : Result ℕ ℕ) : Type 0 where
+  pub odd : (p : ℕ) → r ≡ Ok p → count % 2 ≡ 1
+  pub there : (p : ℕ) → r ≡ Ok p → (n : List ℕ) → Spells line at n → Holds line names (high - size) high p n
+  pub passed : (k : ℕ) → r ≡ Err k → count % 2 ≡ 1 → k ≡ high - size
+  pub lacks : (k : ℕ) → r ≡ Err k → count % 2 ≡ 1 → (n : List ℕ) → Spells line at n → Lacks line names (high - size) high n
+  pub none : (k : ℕ) → r ≡ Err k → count % 2 ≡ 0 → k ≡ high
 
 -- runs in which a name is looked for
 pub record Looked (line names : List ℕ) (first stop at : ℕ) : Type 0 where
@@ -27,9 +23,9 @@ pub record Looked (line names : List ℕ) (first stop at : ℕ) : Type 0 where
   pub within : stop ≤ length names
   pub place : at ≤ length line
 
-pub record LookTold (line names : List ℕ) (first stop at : ℕ) (r : Known) : Type 0 where
-  pub there : (p : ℕ) → r ≡ There p → (n : List ℕ) → Spells line at n → Holds line names first stop p n
-  pub new : r ≡ New → (n : List ℕ) → Spells line at n → Lacks line names first stop n
+pub record LookTold (line names : List ℕ) (first stop at : ℕ) (r : Option ℕ) : Type 0 where
+  pub there : (p : ℕ) → r ≡ Some p → (n : List ℕ) → Spells line at n → Holds line names first stop p n
+  pub new : r ≡ None → (n : List ℕ) → Spells line at n → Lacks line names first stop n
 
 -- a last run of sixteen, and runs before it
 pub record CarryDue (line names : List ℕ) (first end : ℕ) : Type 0 where
@@ -72,7 +68,7 @@ pub record Grown (line names after : List ℕ) (first end at : ℕ) : Type 0 whe
   pub came : (k : ℕ) → first ≤ k → k < end + 1 → Came names first end at (get_or after k 0)
 
 -- a name was there, or is kept
-pub record Stored (line names after : List ℕ) (first end at : ℕ) (r : Known) : Type 0 where
-  pub there : (p : ℕ) → r ≡ There p → (n : List ℕ) → Spells line at n → Holds line names first end p n
-  pub same : (p : ℕ) → r ≡ There p → after ≡ names
-  pub new : r ≡ New → Grown line names after first end at
+pub record Stored (line names after : List ℕ) (first end at : ℕ) (r : Option ℕ) : Type 0 where
+  pub there : (p : ℕ) → r ≡ Some p → (n : List ℕ) → Spells line at n → Holds line names first end p n
+  pub same : (p : ℕ) → r ≡ Some p → after ≡ names
+  pub new : r ≡ None → Grown line names after first end at

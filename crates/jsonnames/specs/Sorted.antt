@@ -1,18 +1,14 @@
 -- Names as places in the line, sorted, beside those that the definition has seen
-use Rattle.std.specs.Prelude.{◌≡◌, List, ◌∷◌, ℕ, ◌+◌, ◌-◌, ◌/◌, ◌%◌, ◌<◌, ◌≤◌, length, drop, get_or}
+use Rattle.std.specs.declared.cmp.Ordering.TheVariants.{Less}
+use Rattle.std.specs.Prelude.{◌≡◌, List, ◌∷◌, ℕ, ◌+◌, ◌-◌, ◌/◌, ◌%◌, ◌<◌, ◌≤◌, length, drop, get_or, Result, Ok, Err, Result, Ok, Err}
 use Rattle.std.proofs.Math.Option.{none, some}
-use Rattle.jsontext.specs.declared.Fault.{Fault}
 use Rattle.jsontext.specs.declared.Fault.TheVariants.{RepeatedName}
-use Rattle.jsontext.specs.declared.Step.{Step}
-use Rattle.jsontext.specs.declared.Step.TheVariants.{At, Bad}
+use Rattle.jsontext.specs.declared.Bad.{Bad}
 use Rattle.jsontext.specs.Reading.{got}
 use Rattle.jsontext.specs.Strings.{string}
 use Rattle.jsontext.specs.Values.{Name, before}
 use Rattle.jsonread.specs.Told.{Faulty}
-use Rattle.jsonread.specs.declared.names.Order.TheVariants.{Less}
 use Rattle.jsonread.specs.Spelling.{order_of}
-use Rattle.jsonnames.specs.declared.Place.{Place}
-use Rattle.jsonnames.specs.declared.Place.TheVariants.{There, Before}
 
 -- a string that reads well stands at p and says n
 pub record Spells (line : List ℕ) (p : ℕ) (n : List ℕ) : Type 0 where
@@ -71,11 +67,11 @@ pub record Between (line names : List ℕ) (first end cell : ℕ) (n : List ℕ)
   pub more : (k : ℕ) (m : List ℕ) → cell ≤ k → k < end → Spells line (get_or names k 0) m → order_of n m ≡ Less
 
 -- of a name that stands at `at`
-pub record FindTold (line names : List ℕ) (first end at : ℕ) (r : Place) : Type 0 where
-  pub there : (p : ℕ) → r ≡ There p → (n : List ℕ) → Spells line at n → Holds line names first end p n
-  pub from : (cell : ℕ) → r ≡ Before cell → first ≤ cell
-  pub within : (cell : ℕ) → r ≡ Before cell → cell ≤ end
-  pub before : (cell : ℕ) → r ≡ Before cell → (n : List ℕ) → Spells line at n → Between line names first end cell n
+pub record FindTold (line names : List ℕ) (first end at : ℕ) (r : Result ℕ ℕ) : Type 0 where
+  pub there : (p : ℕ) → r ≡ Ok p → (n : List ℕ) → Spells line at n → Holds line names first end p n
+  pub from : (cell : ℕ) → r ≡ Err cell → first ≤ cell
+  pub within : (cell : ℕ) → r ≡ Err cell → cell ≤ end
+  pub before : (cell : ℕ) → r ≡ Err cell → (n : List ℕ) → Spells line at n → Between line names first end cell n
 
 -- a place stored at a cell, and what stood there up to the end one up
 pub record Inserted (cell end at : ℕ) (names after : List ℕ) : Type 0 where
@@ -111,11 +107,11 @@ pub record Repeated (line names : List ℕ) (first end at q : ℕ) : Type 0 wher
   pub seen : (seen : List Name) → Table line names first end seen → before name seen ≡ some (length line - q)
 
 -- what is wrong with a name
-pub data Refuses (line names : List ℕ) (first end at : ℕ) (w : Fault) (p q : ℕ) : Type 0 where
-  unread : Faulty line w p q (string (drop at line)) → Refuses line names first end at w p q
-  again : w ≡ RepeatedName → p ≡ at → Repeated line names first end at q → Refuses line names first end at w p q
+pub data Refuses (line names : List ℕ) (first end at : ℕ) (b : Bad) : Type 0 where
+  unread : Faulty line b (string (drop at line)) → Refuses line names first end at b
+  again : b.fault ≡ RepeatedName → b.at ≡ at → Repeated line names first end at b.first → Refuses line names first end at b
 
-pub record Entered (line names after : List ℕ) (first end at : ℕ) (r : Step) : Type 0 where
-  pub kept : (e : ℕ) → r ≡ At e → Kept line names after first end at e
-  pub refused : (w : Fault) (p q : ℕ) → r ≡ Bad w p q → Refuses line names first end at w p q
-  pub same : (w : Fault) (p q : ℕ) → r ≡ Bad w p q → after ≡ names
+pub record Entered (line names after : List ℕ) (first end at : ℕ) (r : Result ℕ Bad) : Type 0 where
+  pub kept : (e : ℕ) → r ≡ Ok e → Kept line names after first end at e
+  pub refused : (b : Bad) → r ≡ Err b → Refuses line names first end at b
+  pub same : (b : Bad) → r ≡ Err b → after ≡ names

@@ -8,37 +8,32 @@ pub mod runs;
 ghost use Rattle.std.specs.Prelude.{◌<◌, ◌≤◌, length};
 ghost use Rattle.jsonnames.specs.Sorted.{Rises, FindTold, Inserted};
 
-use jsonread::names::{Order, compare};
+use jsonread::names::compare;
+use std::cmp::Ordering;
 
-// where a name stands, or the cell before which it belongs
-#[derive(Clone, Copy)]
-pub enum Place {
-    There(usize),
-    Before(usize),
-}
-
-// a name that was read, among those of an object
-pub fn find(line: &[u8], names: &[u64], first: usize, end: usize, at: usize) -> Place
+// a name that was read, among those of an object: where it stands, or the cell before which it belongs
+pub fn find(line: &[u8], names: &[u64], first: usize, end: usize, at: usize) -> Result<usize, usize>
     requires rises { Rises line.now names.now first end }
     requires at_in_bounds { at ≤ length line.now }
     ensures { FindTold line.now names.now first end at result }
 {
     let mut low = first;
     let mut high = end;
+    // a while: both ends move, and binary_search_by says nothing by an order of the names themselves
     while low < high {
         let middle = low + (high - low) / 2;
         let other = names[middle] as usize;
         match compare(line, other, at) {
-            Order::Same => return Place::There(other),
-            Order::Less => {
+            Ordering::Equal => return Ok(other),
+            Ordering::Less => {
                 low = middle + 1;
             }
-            Order::More => {
+            Ordering::Greater => {
                 high = middle;
             }
         }
     }
-    Place::Before(low)
+    Err(low)
 }
 
 // room is made at a cell, and the place of a name stored there

@@ -2,8 +2,9 @@
 ghost use Rattle.std.specs.Prelude.{◌≡◌, ◌+◌, ◌-◌, ◌<◌, ◌≤◌, length};
 ghost use Rattle.jsonnames.specs.Merges.{Pair, Aside, CopyTold, LaterDue, LaterTold, OrderedTold, Merged};
 
-use super::{Place, find, insert};
-use jsonread::names::{Order, compare};
+use super::{find, insert};
+use jsonread::names::compare;
+use std::cmp::Ordering;
 
 // the upper run copied behind itself
 fn set_aside(names: &mut [u64], mid: usize, high: usize)
@@ -11,10 +12,8 @@ fn set_aside(names: &mut [u64], mid: usize, high: usize)
     requires mid_in_bounds { high + (high - mid) ≤ length names.old }
     ensures { CopyTold mid high names.old names.new }
 {
-    let mut i = mid;
-    while i < high {
+    for i in mid..high {
         names[high + (i - mid)] = names[i];
-        i += 1;
     }
 }
 
@@ -24,9 +23,9 @@ pub fn comes_last(line: &[u8], p: usize, at: usize) -> bool
     ensures { LaterTold line.now p at result }
 {
     match compare(line, p, at) {
-        Order::More => false,
-        Order::Same => false,
-        Order::Less => true,
+        Ordering::Greater => false,
+        Ordering::Equal => false,
+        Ordering::Less => true,
     }
 }
 
@@ -37,6 +36,7 @@ fn join(line: &[u8], names: &mut [u64], low: usize, mid: usize, high: usize)
 {
     let mut i = mid;
     let mut j = high;
+    // a while: the ends of both runs move down apart
     while mid < j {
         let last = j - 1;
         let at = names[high + (last - mid)];
@@ -62,16 +62,12 @@ fn join_in_place(line: &[u8], names: &mut [u64], low: usize, mid: usize, high: u
     requires { Pair line.now names.old low mid high }
     ensures { Merged line.now names.old names.new low high }
 {
-    let mut j = mid;
-    while j < high {
+    for j in mid..high {
         let at = names[j] as usize;
-        match find(line, names, low, j, at) {
-            Place::There(_) => return,
-            Place::Before(cell) => {
-                insert(names, cell, j, at);
-            }
-        }
-        j += 1;
+        let Err(cell) = find(line, names, low, j, at) else {
+            return;
+        };
+        insert(names, cell, j, at);
     }
 }
 

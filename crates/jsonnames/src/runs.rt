@@ -5,34 +5,34 @@ ghost use Rattle.jsonnames.specs.Merges.{Merged};
 ghost use Rattle.jsonnames.specs.Runs.{LastDue, LastTold, Looked, LookTold, PutDue, CarryDue, Carried, Stored};
 
 use super::merges::{comes_last, merge};
-use super::{Place, find, insert};
-
-// where a name stands, if it is there
-#[derive(Clone, Copy)]
-pub enum Known {
-    There(usize),
-    New,
-}
+use super::{find, insert};
 
 // of so many blocks below `high`, the last one where their number is odd: the name in it, or where the others end
-fn look_last(line: &[u8], names: &[u64], size: usize, count: usize, high: usize, at: usize) -> Place
+fn look_last(
+    line: &[u8],
+    names: &[u64],
+    size: usize,
+    count: usize,
+    high: usize,
+    at: usize,
+) -> Result<usize, usize>
     requires { LastDue line.now names.now size count high at }
     ensures { LastTold line.now names.now size count high at result }
 {
     if count % 2 == 0 {
-        return Place::Before(high);
+        return Err(high);
     }
     if comes_last(line, names[high - 1] as usize, at) {
-        return Place::Before(high - size);
+        return Err(high - size);
     }
     match find(line, names, high - size, high, at) {
-        Place::There(p) => Place::There(p),
-        Place::Before(_) => Place::Before(high - size),
+        Ok(p) => Ok(p),
+        Err(_) => Err(high - size),
     }
 }
 
-// a name looked for in each run below `stop`
-fn look(line: &[u8], names: &[u64], first: usize, stop: usize, at: usize) -> Known
+// a name looked for in each run below `stop`: where it stands
+fn look(line: &[u8], names: &[u64], first: usize, stop: usize, at: usize) -> Option<usize>
     requires { Looked line.now names.now first stop at }
     ensures { LookTold line.now names.now first stop at result }
 {
@@ -41,15 +41,15 @@ fn look(line: &[u8], names: &[u64], first: usize, stop: usize, at: usize) -> Kno
     let mut high = stop;
     while 0 < count {
         match look_last(line, names, size, count, high, at) {
-            Place::There(p) => return Known::There(p),
-            Place::Before(others) => {
+            Ok(p) => return Some(p),
+            Err(others) => {
                 high = others;
                 size += size;
                 count /= 2;
             }
         }
     }
-    Known::New
+    None
 }
 
 // the last run, of sixteen, is merged with the run before it while that is as long
@@ -67,7 +67,7 @@ fn carry(line: &[u8], names: &mut [u64], first: usize, end: usize)
     }
 }
 
-// a name that is in no run before the last one
+// a name that is in no run before the last one: where it stands already, or it is kept
 pub fn put_last(
     line: &[u8],
     names: &mut [u64],
@@ -75,24 +75,24 @@ pub fn put_last(
     edge: usize,
     end: usize,
     at: usize,
-) -> Known
+) -> Option<usize>
     requires { PutDue line.now names.old first edge end at }
     ensures { Stored line.now names.old names.new first end at result }
 {
     match find(line, names, edge, end, at) {
-        Place::There(p) => Known::There(p),
-        Place::Before(cell) => {
+        Ok(p) => Some(p),
+        Err(cell) => {
             insert(names, cell, end, at);
             if end - edge == 15 {
                 carry(line, names, first, end + 1);
             }
-            Known::New
+            None
         }
     }
 }
 
-// a name is kept with the others, if it is not there
-pub fn store(line: &[u8], names: &mut [u64], first: usize, end: usize, at: usize) -> Known
+// a name is kept with the others, if it is not there: where it stands already
+pub fn store(line: &[u8], names: &mut [u64], first: usize, end: usize, at: usize) -> Option<usize>
     requires sorted { Sorted line.now names.old first end }
     requires end_in_bounds { end < length names.old }
     requires named { Named line.now at }
@@ -100,8 +100,8 @@ pub fn store(line: &[u8], names: &mut [u64], first: usize, end: usize, at: usize
 {
     let edge = end - (end - first) % 16;
     match look(line, names, first, edge, at) {
-        Known::There(p) => Known::There(p),
-        Known::New => put_last(line, names, first, edge, end, at),
+        Some(p) => Some(p),
+        None => put_last(line, names, first, edge, end, at),
     }
 }
 

@@ -11,8 +11,8 @@ bounds-names-middle c = search (half-cell, rules)
 pub compare-requires : goal.compare-requires
 compare-requires c = search (half_place, rules)
 
-pub returns-in-Same : goal.returns-in-Same
-returns-in-Same c = search (half-same, rules)
+pub returns-in-Equal : goal.returns-in-Equal
+returns-in-Equal c = search (half-same, rules)
 
 pub loop-low-preserved-in-Less : goal.loop-low-preserved-in-Less
 loop-low-preserved-in-Less c = search (half-less, rules)

@@ -11,8 +11,8 @@ bounds-names-j c = search (put-cell, rules)
 pub find-requires : goal.find-requires
 find-requires c = search (put-place, rules)
 
-pub returns-in-There : goal.returns-in-There
-returns-in-There c = search (put-there, rules)
+pub returns-in_default : goal.returns-in_default
+returns-in_default c = search (put-there, rules)
 
 pub insert-requires : goal.insert-requires
 insert-requires c = search (put-within, put-cell, rules)

@@ -11,8 +11,8 @@ loop-count-init c = search (look-start, rules)
 pub look_last-requires : goal.look_last-requires
 look_last-requires c = search (look-due, rules)
 
-pub returns-in-There : goal.returns-in-There
-returns-in-There c = search (look-there, rules)
+pub returns-in-Ok : goal.returns-in-Ok
+returns-in-Ok c = search (look-there, rules)
 
 pub overflow_add-size : goal.overflow_add-size
 overflow_add-size c = search (look-fits, rules)

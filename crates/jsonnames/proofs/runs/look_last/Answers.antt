@@ -17,8 +17,8 @@ returns-then-comes_last c = search (last-past, rules)
 pub find-requires : goal.find-requires
 find-requires c = search (last-run, rules)
 
-pub returns-in-There : goal.returns-in-There
-returns-in-There c = search (last-there, rules)
+pub returns-in-Ok : goal.returns-in-Ok
+returns-in-Ok c = search (last-there, rules)
 
-pub returns-in-Before : goal.returns-in-Before
-returns-in-Before c = search (last-lacks, rules)
+pub returns-in-Err : goal.returns-in-Err
+returns-in-Err c = search (last-lacks, rules)

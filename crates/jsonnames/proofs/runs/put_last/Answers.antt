@@ -11,8 +11,8 @@ insert-requires c = search (put-within, rules)
 pub carry-requires : goal.carry-requires
 carry-requires c = search (put_carry, rules)
 
-pub returns-in-There : goal.returns-in-There
-returns-in-There c = search (put-there, rules)
+pub returns-in-Ok : goal.returns-in-Ok
+returns-in-Ok c = search (put-there, rules)
 
 pub returns-then-end-edge-eq15 : goal.returns-then-end-edge-eq15
 returns-then-end-edge-eq15 c = search (put-carried, rules)

@@ -8,5 +8,5 @@ look-requires c = search (store_look, rules)
 pub put_last-requires : goal.put_last-requires
 put_last-requires c = search (store_due, rules)
 
-pub returns-in-There : goal.returns-in-There
-returns-in-There c = search (store_there, rules)
+pub returns-in-Some : goal.returns-in-Some
+returns-in-Some c = search (store_there, rules)

@@ -1,16 +1,17 @@
 -- Cells that stay: the tables of names in them stay
-use mathlib.Core.Path.{◌≡◌, refl, sym, ◌∙◌}
+use Rattle.std.specs.Prelude.{Result, Ok}
+use mathlib.Core.Path.{◌≡◌, refl, sym, ap, ◌∙◌}
 use mathlib.Core.List.{List}
 use Prim.Native.Nat.{ℕ, ◌≤◌}
 use native.Mathlib.Omega.{arith}
 use lib.ListN.{length}
-use Rattle.jsontext.specs.declared.Step.{Step}
-use Rattle.jsontext.specs.declared.Step.TheVariants.{At}
+use Rattle.jsontext.specs.declared.Bad.{Bad}
 use Rattle.jsontext.specs.Reading.{Read}
 use Rattle.jsontext.specs.Values.{Name}
 use Rattle.jsonnames.specs.Sorted.{Table}
 use Rattle.jsonnames.proofs.Stays.{sorted-kept}
 use Rattle.jsonmarks.specs.Marks.{Below}
+use Rattle.jsonkeys.specs.declared.Turn.{Turn}
 use Rattle.jsonkeys.specs.Keys.{Passed}
 
 pub below_self : {line : List ℕ} {used : ℕ} {names : List ℕ} → Below line used names names
@@ -38,8 +39,12 @@ table_kept b t =
     }
 
 -- what a part that was passed leaves
-pub passed-within : {A : Type 0} {line names last : List ℕ} {used at e : ℕ} {r : Step} {m : Read A} → r ≡ At e → Passed line names last used at r m → e ≤ length line
+pub passed-within : {A : Type 0} {line names last : List ℕ} {used at e : ℕ} {r : Result ℕ Bad} {m : Read A} → r ≡ Ok e → Passed line names last used at r m → e ≤ length line
 passed-within q p = (p.told.stands _ q).within
 
-pub passed-long : {A : Type 0} {line names last : List ℕ} {used at : ℕ} {r : Step} {m : Read A} → Passed line names last used at r m → length last ≡ length names
+pub passed-long : {A : Type 0} {line names last : List ℕ} {used at : ℕ} {r : Result ℕ Bad} {m : Read A} → Passed line names last used at r m → length last ≡ length names
 passed-long p = p.below.long
+
+-- what a turn is, where it was told with no fault
+pub turn-is : {x : Result Turn Bad} {s t : Turn} → x ≡ Ok s → s ≡ t → x ≡ Ok t
+turn-is a b = a ∙ ap Ok b

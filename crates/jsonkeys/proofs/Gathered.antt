@@ -1,4 +1,5 @@
 -- An object's members, one after another, whatever is made of them
+use Rattle.std.specs.Prelude.{Result, Ok, Err}
 use mathlib.Core.Path.{◌≡◌, refl, sym, ap, ◌∙◌}
 use mathlib.Core.Bool.{Bool}
 use mathlib.Core.List.{List, [], ◌∷◌, ◌++◌, append_assoc}
@@ -8,9 +9,8 @@ use lib.ListN.{length, drop, length-drop}
 use Rattle.meaning.specs.Tests.{choose}
 use Rattle.jsontext.specs.declared.Fault.{Fault}
 use Rattle.jsontext.specs.declared.Fault.TheVariants.{NotJson}
-use Rattle.jsontext.specs.declared.Step.{Step}
-use Rattle.jsontext.specs.declared.Step.TheVariants.{At, Bad}
-use Rattle.jsontext.specs.Reading.{Read, got, then, mapped, blanks}
+use Rattle.jsontext.specs.declared.Bad.{Bad}
+use Rattle.jsontext.specs.Reading.{Read, got, then, mapped, blanks, wrong}
 use Rattle.jsontext.specs.Values.{Name, before, after_part, members, object}
 use Rattle.jsonread.specs.Told.{Told}
 use Rattle.jsonread.proofs.Places.{told_bad, told_of, fault-then, then_is}
@@ -18,11 +18,11 @@ use Rattle.jsonread.proofs.Then.{then-then, then_same}
 use Rattle.jsonnames.specs.Sorted.{Table}
 use Rattle.jsonnames.proofs.Stays.{sorted_none}
 use Rattle.jsonkeys.specs.declared.Turn.{Turn}
-use Rattle.jsonkeys.specs.declared.Turn.TheVariants.{On, Over, Wrong}
+use Rattle.jsonkeys.specs.declared.Turn.TheVariants.{On, Over}
 use Rattle.jsonmarks.specs.Marks.{Filed, Below}
 use Rattle.jsonmarks.proofs.Uppers.{marked-kept}
 use Rattle.jsonkeys.specs.Keys.{opened, after, TurnTold, Room, Passed, named, KnownTold, KeyIs, KeyTold, MemberIs, MemberWrong}
-use Rattle.jsonkeys.proofs.Cells.{below_self, below_both, below_less, table_kept}
+use Rattle.jsonkeys.proofs.Cells.{below_self, below_both, below_less, table_kept, turn-is}
 use Rattle.jsonkeys.proofs.Keys.{members-key}
 use Rattle.jsonkeys.proofs.Listed.{by-opened, by_after}
 
@@ -37,21 +37,21 @@ no_names line names used h =
 
 -- ---- a member: its name and its value
 
-module _ {A : Type 0} (known : List ℕ → Bool) (item : List ℕ → List ℕ → Read A) {line names next : List ℕ} {used end i : ℕ} {allowed : Bool} {x : Step} (kn : KnownTold line i known allowed) (k : KeyTold line names next used end i allowed x) where
+module _ {A : Type 0} (known : List ℕ → Bool) (item : List ℕ → List ℕ → Read A) {line names next : List ℕ} {used end i : ℕ} {allowed : Bool} {x : Result ℕ Bad} (kn : KnownTold line i known allowed) (k : KeyTold line names next used end i allowed x) where
   abbrev valued : ℕ → List Name → List ℕ → List ℕ → Read (List (List ℕ × A))
   valued turns seen n t = then (item n t) (λ a rest. after_part 125 (n, a) (λ u. members known item turns (named n (drop i line) ∷ seen) u) (blanks rest))
 
-  pub key_bad : {w : Fault} {p q : ℕ} → x ≡ Bad w p q → MemberWrong known item line names next used end i w p q
+  pub key_bad : {b : Bad} → x ≡ Err b → MemberWrong known item line names next used end i b
   key_bad e =
       record {
         below = k.below;
         is =
             λ seen tab turns.
-            let v = fault-then (λ n t. valued turns seen n t) (k.wrong _ _ _ e known kn seen tab) in
+            let v = fault-then (λ n t. valued turns seen n t) (k.wrong _ e known kn seen tab) in
             record { place = v.place; first = v.first; is = members-key known seen (drop i line) item turns ∙ v.is };
       }
 
-  module _ {v : ℕ} (q : x ≡ At v) where
+  module _ {v : ℕ} (q : x ≡ Ok v) where
     abbrev its : KeyIs line names next used end i v
     its = k.read v q
 
@@ -60,21 +60,21 @@ module _ {A : Type 0} (known : List ℕ → Bool) (item : List ℕ → List ℕ 
         members-key known seen (drop i line) item turns
         ∙ then_is (λ n t. valued turns seen n t) (its.is known (sym (kn its.name its.rest its.spells) ∙ k.allows v q) seen tab)
 
-    module _ {y : Step} {last : List ℕ} (f : used ≤ end) (u : Passed line next last (end + 1) v y (item its.name (drop v line))) where
+    module _ {y : Result ℕ Bad} {last : List ℕ} (f : used ≤ end) (u : Passed line next last (end + 1) v y (item its.name (drop v line))) where
       kept : Below line used names last
       kept = below_both k.below (below_less (omega arith) u.below)
 
-      pub value_bad : {w : Fault} {p q : ℕ} → y ≡ Bad w p q → MemberWrong known item line names last used end i w p q
+      pub value_bad : {b : Bad} → y ≡ Err b → MemberWrong known item line names last used end i b
       value_bad e =
           record {
             below = kept;
             is =
                 λ seen tab turns.
-                let v = fault-then (λ a rest. after_part 125 (its.name, a) (λ u. members known item turns (named its.name (drop i line) ∷ seen) u) (blanks rest)) (u.told.faulty _ _ _ e) in
+                let v = fault-then (λ a rest. after_part 125 (its.name, a) (λ u. members known item turns (named its.name (drop i line) ∷ seen) u) (blanks rest)) (u.told.faulty _ e) in
                 record { place = v.place; first = v.first; is = named-is seen tab turns ∙ v.is };
           }
 
-      pub value_read : {e : ℕ} → y ≡ At e → MemberIs known item line names last used end i e
+      pub value_read : {e : ℕ} → y ≡ Ok e → MemberIs known item line names last used end i e
       value_read {e} r =
           let s = u.told.stands e r in
           record {
@@ -121,20 +121,20 @@ module _ {A B : Type 0} (known : List ℕ → Bool) (item : List ℕ → List �
   unfolding object
   object-is s = by-opened 125 (λ t. members known item (suc (length t)) [] t) (blanks s)
 
-  module _ {line : List ℕ} {at : ℕ} {x : Turn} (t : TurnTold line at (opened 125 (blanks (drop at line))) x) where
-    pub gather_cut : {p : ℕ} → x ≡ Wrong p → Told line at (Bad NotJson p p) (then (object known item (drop at line)) f)
-    gather_cut e = told_bad (fault-then f (let v = fault-then (λ over rest. opening over rest) (t.wrong _ e) in record { place = v.place; first = v.first; is = object-is (drop at line) ∙ v.is }))
+  module _ {line : List ℕ} {at : ℕ} {x : Result Turn Bad} (t : TurnTold line at (opened 125 (blanks (drop at line))) x) where
+    pub gather_cut : {b : Bad} → x ≡ Err b → Told line at (Err b) (then (object known item (drop at line)) f)
+    gather_cut e = told_bad (fault-then f (let v = fault-then (λ over rest. opening over rest) (t.missing _ e).faulty in record { place = v.place; first = v.first; is = object-is (drop at line) ∙ v.is }))
 
-    pub gather_empty : {e : ℕ} {r : Step} → x ≡ Over e → Told line e r (f [] (drop e line)) → Told line at r (then (object known item (drop at line)) f)
+    pub gather_empty : {s : Turn} {e : ℕ} {r : Result ℕ Bad} → x ≡ Ok s → s ≡ Over e → Told line e r (f [] (drop e line)) → Told line at r (then (object known item (drop at line)) f)
     unfolding choose then
-    gather_empty {e} q u =
-        let c = t.over e q in
+    gather_empty {e = e} p q u =
+        let c = t.over e (turn-is p q) in
         told_of c.from (ap (λ (m : Read (List (List ℕ × A))). then m f) (object-is (drop at line) ∙ then_is (λ over rest. opening over rest) c.is)) u
 
-    pub gather_start : {i : ℕ} {names : List ℕ} {used : ℕ} → Room line names used at 0 → x ≡ On i → Gathering line names names used at used i []
+    pub gather_start : {s : Turn} {i : ℕ} {names : List ℕ} {used : ℕ} → Room line names used at 0 → x ≡ Ok s → s ≡ On i → Gathering line names names used at used i []
     unfolding choose
-    gather_start {i} {names} {used} h q =
-        let c = t.on i q in
+    gather_start {i = i} {names = names} {used = used} h p q =
+        let c = t.on i (turn-is p q) in
         record {
           from = c.from;
           within = c.within;
@@ -152,7 +152,7 @@ module _ {A B : Type 0} (known : List ℕ → Bool) (item : List ℕ → List �
     suc-turns : g.turns ≡ suc (g.turns - 1)
     suc-turns = omega (arith, g.enough)
 
-    pub gather_bad : {last : List ℕ} {w : Fault} {p q : ℕ} → MemberWrong known item line names last used end i w p q → Passed line cells last used at (Bad w p q) (then (object known item (drop at line)) f)
+    pub gather_bad : {last : List ℕ} {b : Bad} → MemberWrong known item line names last used end i b → Passed line cells last used at (Err b) (then (object known item (drop at line)) f)
     gather_bad m =
         let v = m.is g.seen g.table (g.turns - 1) in
         let u = fault-then (λ ms rest. onto done ms rest) v in
@@ -161,7 +161,7 @@ module _ {A B : Type 0} (known : List ℕ → Bool) (item : List ℕ → List �
           below = below_both g.below m.below;
         }
 
-    module _ {last : List ℕ} {e : ℕ} {z : Turn} (m : MemberIs known item line names last used end i e) (t : TurnTold line (e + 1) (after 125 (blanks (drop e line))) z) where
+    module _ {last : List ℕ} {e : ℕ} {z : Result Turn Bad} (m : MemberIs known item line names last used end i e) (t : TurnTold line (e + 1) (after 125 (blanks (drop e line))) z) where
       abbrev pub part : List ℕ × A
       part = (m.name, m.what)
 
@@ -177,27 +177,27 @@ module _ {A B : Type 0} (known : List ℕ → Bool) (item : List ℕ → List �
       part-is : then (object known item (drop at line)) f ≡ then (then (after 125 (blanks (drop e line))) (λ over rest. following over rest)) (λ ms rest. onto done ms rest)
       part-is = g.is ∙ ap (λ (r : Read (List (List ℕ × A))). then r (λ ms rest. onto done ms rest)) (ap (λ (n : ℕ). members known item n g.seen (drop i line)) suc-turns ∙ m.is g.seen g.table (g.turns - 1) ∙ by_after 125 part (λ u. more u) (blanks (drop e line)))
 
-      pub gather_wrong : {p : ℕ} → z ≡ Wrong p → Passed line cells last used at (Bad NotJson p p) (then (object known item (drop at line)) f)
+      pub gather_wrong : {b : Bad} → z ≡ Err b → Passed line cells last used at (Err b) (then (object known item (drop at line)) f)
       gather_wrong d =
-          let u = fault-then (λ ms rest. onto done ms rest) (fault-then (λ over rest. following over rest) (t.wrong _ d)) in
+          let u = fault-then (λ ms rest. onto done ms rest) (fault-then (λ over rest. following over rest) (t.missing _ d).faulty) in
           record { told = told_bad (record { place = u.place; first = u.first; is = part-is ∙ u.is }); below = stays }
 
-      pub gather_over : {o : ℕ} {s : Step} → z ≡ Over o → Told line o s (f (done ++ (part ∷ [])) (drop o line)) → Passed line cells last used at s (then (object known item (drop at line)) f)
+      pub gather_over : {s : Turn} {o : ℕ} {r : Result ℕ Bad} → z ≡ Ok s → s ≡ Over o → Told line o r (f (done ++ (part ∷ [])) (drop o line)) → Passed line cells last used at r (then (object known item (drop at line)) f)
       unfolding choose then
-      gather_over {o} d v =
-          let c = t.over o d in
+      gather_over {o = o} p d v =
+          let c = t.over o (turn-is p d) in
           record {
             told = told_of (omega (arith, g.from, m.takes, c.from)) (part-is ∙ ap (λ (r : Read (List (List ℕ × A))). then r (λ ms rest. onto done ms rest)) (then_is (λ over rest. following over rest) c.is)) v;
             below = stays;
           }
 
-      pub gather_less : {j : ℕ} → z ≡ On j → length line - j < length line - i
-      gather_less {j} d = omega (arith, m.takes, (t.on j d).from, (t.on j d).within)
+      pub gather_less : {s : Turn} {j : ℕ} → z ≡ Ok s → s ≡ On j → length line - j < length line - i
+      gather_less {j = j} p d = let c = t.on j (turn-is p d) in omega (arith, m.takes, c.from, c.within)
 
-      pub gather_on : {j : ℕ} → z ≡ On j → Gathering line cells last used at (end + 1) j (done ++ (part ∷ []))
+      pub gather_on : {s : Turn} {j : ℕ} → z ≡ Ok s → s ≡ On j → Gathering line cells last used at (end + 1) j (done ++ (part ∷ []))
       unfolding choose then
-      gather_on {j} d =
-          let c = t.on j d in
+      gather_on {j = j} p d =
+          let c = t.on j (turn-is p d) in
           record {
             from = omega (arith, g.from, m.takes, c.from);
             within = c.within;

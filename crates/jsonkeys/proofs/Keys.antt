@@ -1,5 +1,6 @@
 -- A member's name, its colon, and the blanks before its value
-use mathlib.Core.Path.{◌≡◌, refl, sym, ap, ◌∙◌}
+use Rattle.std.specs.Prelude.{Result, Ok, Err}
+use mathlib.Core.Path.{◌≡◌, refl, sym, ap, subst, ◌∙◌}
 use mathlib.Core.Bool.{Bool, true, false, not}
 use mathlib.Core.List.{List, ◌∷◌}
 use mathlib.Core.Option.{Option, none, some}
@@ -11,9 +12,8 @@ use Rattle.meaning.specs.Tests.{choose}
 use Rattle.laws.specs.Tests.{yes, no as otherwise}
 use Rattle.jsontext.specs.declared.Fault.{Fault}
 use Rattle.jsontext.specs.declared.Fault.TheVariants.{NotJson, RepeatedName, BadField}
-use Rattle.jsontext.specs.declared.Step.{Step}
-use Rattle.jsontext.specs.declared.Step.TheVariants.{At, Bad}
-use Rattle.jsontext.specs.Reading.{Read, got, fault, then, blanks, want}
+use Rattle.jsontext.specs.declared.Bad.{Bad}
+use Rattle.jsontext.specs.Reading.{Read, got, fault, then, blanks, want, wrong}
 use Rattle.jsontext.specs.Strings.{string}
 use Rattle.jsontext.specs.Values.{Name, before, after_name, after_part, members}
 use Rattle.jsonread.specs.Told.{Faulty, Told, Blanks}
@@ -69,31 +69,26 @@ module _ (known : List ℕ → Bool) (seen : List Name) (s : List ℕ) where
 -- ---- what a known step tells
 
 module _ {line names after : List ℕ} {first end at : ℕ} {allowed : Bool} where
-  key-wrong : {w : Fault} {p q : ℕ} → Below line first names after → ((known : List ℕ → Bool) → KnownTold line at known allowed → (seen : List Name) → Table line names first end seen → Faulty line w p q (key known seen (drop at line))) → KeyTold line names after first end at allowed (Bad w p q)
-  key-wrong {w} {p} {q} b g =
+  key-wrong : {b : Bad} → Below line first names after → ((known : List ℕ → Bool) → KnownTold line at known allowed → (seen : List Name) → Table line names first end seen → Faulty line b (key known seen (drop at line))) → KeyTold line names after first end at allowed (Err b)
+  key-wrong {b} h g =
       record {
-        below = b;
+        below = h;
         allows = λ v k. absurd (let z : ◌≡◌ {A = ℕ} 0 1 = cc in omega arith);
         read = λ v k. absurd (let z : ◌≡◌ {A = ℕ} 0 1 = cc in omega arith);
-        wrong =
-            λ v i j k known l seen t.
-            let a : w ≡ v = cc in
-            let d : p ≡ i = cc in
-            let f : q ≡ j = cc in
-            rw f at (rw d at (rw a at (g known l seen t)));
+        wrong = λ v k known l seen t. let z : b ≡ v = cc in subst (λ (v : Bad). Faulty line v (key known seen (drop at line))) z (g known l seen t);
       }
 
-  key-is : {v : ℕ} → Below line first names after → allowed ≡ true → KeyIs line names after first end at v → KeyTold line names after first end at allowed (At v)
+  key-is : {v : ℕ} → Below line first names after → allowed ≡ true → KeyIs line names after first end at v → KeyTold line names after first end at allowed (Ok v)
   key-is {v} b l m =
       record {
         below = b;
         allows = λ k q. l;
         read = λ k q. let z : v ≡ k = cc in rw z at m;
-        wrong = λ w p q k. absurd (let z : ◌≡◌ {A = ℕ} 0 1 = cc in omega arith);
+        wrong = λ b k. absurd (let z : ◌≡◌ {A = ℕ} 0 1 = cc in omega arith);
       }
 
 -- no byte is left for a name
-pub key-cut : (line names : List ℕ) (first end at : ℕ) (allowed : Bool) → at ≤ length line → length line ≤ at → KeyTold line names names first end at allowed (Bad NotJson at at)
+pub key-cut : (line names : List ℕ) (first end at : ℕ) (allowed : Bool) → at ≤ length line → length line ≤ at → KeyTold line names names first end at allowed (Err (wrong NotJson at))
 unfolding string want then
 key-cut line names first end at allowed h l =
     key-wrong below_self
@@ -101,42 +96,42 @@ key-cut line names first end at allowed h l =
     let e : string (drop at line) ≡ fault NotJson 0 0 = rw (drop_of_length-le line l) in
     record { place = h; first = h; is = key-unread known seen (drop at line) e ∙ rw (let z : length line - at ≡ 0 = omega arith in z) })
 
-pub entered-within : {line names after : List ℕ} {first end at e : ℕ} {x : Step} → Tended line names after first end at x → x ≡ At e → e ≤ length line
+pub entered-within : {line names after : List ℕ} {first end at e : ℕ} {x : Result ℕ Bad} → Tended line names after first end at x → x ≡ Ok e → e ≤ length line
 entered-within t f = (t.entered.kept _ f).within
 
-module _ {line names after : List ℕ} {first end at : ℕ} (allowed : Bool) {x : Step} (h : at ≤ length line) (t : Tended line names after first end at x) where
-  refuses : {w : Fault} {p q : ℕ} → x ≡ Bad w p q → (known : List ℕ → Bool) → KnownTold line at known allowed → (seen : List Name) → Table line names first end seen → Faulty line w p q (key known seen (drop at line))
-  refuses {w} {p} {q} e known l seen tab =
-      elim (t.entered.refused w p q e) [
+module _ {line names after : List ℕ} {first end at : ℕ} (allowed : Bool) {x : Result ℕ Bad} (h : at ≤ length line) (t : Tended line names after first end at x) where
+  refuses : {b : Bad} → x ≡ Err b → (known : List ℕ → Bool) → KnownTold line at known allowed → (seen : List Name) → Table line names first end seen → Faulty line b (key known seen (drop at line))
+  refuses {b} e known l seen tab =
+      elim (t.entered.refused b e) [
         | unread f ↦ record { place = f.place; first = f.first; is = key-unread known seen (drop at line) f.is }
-        | again a b r ↦ record { place = omega (arith, b); first = r.place; is = key-again known seen (drop at line) r.is (r.seen seen tab) ∙ rw (a, b, length-drop at line) }
+        | again a d r ↦ record { place = omega (arith, d); first = r.place; is = key-again known seen (drop at line) r.is (r.seen seen tab) ∙ rw (a, d, length-drop at line) }
       ]
 
-  pub key-refused : {w : Fault} {p q : ℕ} → x ≡ Bad w p q → KeyTold line names after first end at allowed (Bad w p q)
+  pub key-refused : {b : Bad} → x ≡ Err b → KeyTold line names after first end at allowed (Err b)
   key-refused e = key-wrong t.below (refuses e)
 
-  module _ {e : ℕ} (f : x ≡ At e) where
+  module _ {e : ℕ} (f : x ≡ Ok e) where
     abbrev kept : Kept line names after first end at e
     kept = t.entered.kept e f
 
-    pub key-unknown : not allowed ≡ true → KeyTold line names after first end at allowed (Bad BadField at at)
+    pub key-unknown : not allowed ≡ true → KeyTold line names after first end at allowed (Err (wrong BadField at))
     key-unknown n =
         key-wrong t.below
         (λ known l seen tab. record { place = h; first = h; is = key_strange known seen (drop at line) kept.is (kept.new seen tab) (sym (l _ _ kept.is) ∙ not-true allowed n) ∙ rw (length-drop at line) })
 
-    module _ (n : not allowed ≡ false) {k : ℕ} {y : Step} (b : Blanks line e k) (c : Told line k y (want 58 (drop k line))) where
+    module _ (n : not allowed ≡ false) {k : ℕ} {y : Result ℕ Bad} (b : Blanks line e k) (c : Told line k y (want 58 (drop k line))) where
       new_is : (known : List ℕ → Bool) → known kept.name ≡ true → (seen : List Name) → Table line names first end seen → key known seen (drop at line) ≡ then (want 58 (drop k line)) (λ colon rest. got kept.name (blanks rest))
       new_is known q seen tab = key-new known seen (drop at line) kept.is (kept.new seen tab) q ∙ ap (λ (s : List ℕ). then (want 58 s) (λ colon rest. got kept.name (blanks rest))) (sym b.is)
 
-      pub key-colon : {w : Fault} {p q : ℕ} → y ≡ Bad w p q → KeyTold line names after first end at allowed (Bad w p q)
+      pub key-colon : {b : Bad} → y ≡ Err b → KeyTold line names after first end at allowed (Err b)
       key-colon g =
           key-wrong t.below
           (λ known l seen tab.
-          let v = fault-then (λ colon rest. got kept.name (blanks rest)) (c.faulty _ _ _ g) in
+          let v = fault-then (λ colon rest. got kept.name (blanks rest)) (c.faulty _ g) in
           record { place = v.place; first = v.first; is = new_is known (sym (l _ _ kept.is) ∙ not-false allowed n) seen tab ∙ v.is })
 
       -- a name takes two bytes, its colon one
-      pub key-there : {o v : ℕ} → y ≡ At o → Blanks line o v → KeyTold line names after first end at allowed (At v)
+      pub key-there : {o v : ℕ} → y ≡ Ok o → Blanks line o v → KeyTold line names after first end at allowed (Ok v)
       key-there {o} {v} g d =
           key-is t.below (not-false allowed n)
           (record {
@@ -152,7 +147,7 @@ module _ {line names after : List ℕ} {first end at : ℕ} (allowed : Bool) {x 
 
 -- ---- where the value begins
 
-module _ {line names next : List ℕ} {first end at v : ℕ} {allowed : Bool} {x : Step} (q : x ≡ At v) (k : KeyTold line names next first end at allowed x) where
+module _ {line names next : List ℕ} {first end at v : ℕ} {allowed : Bool} {x : Result ℕ Bad} (q : x ≡ Ok v) (k : KeyTold line names next first end at allowed x) where
   pub key-within : v ≤ length line
   key-within = (k.read v q).within
 

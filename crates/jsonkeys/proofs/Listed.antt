@@ -1,4 +1,5 @@
 -- An array's items, one after another, with the names of the objects around
+use Rattle.std.specs.Prelude.{Result, Ok, Err}
 use mathlib.Core.Path.{◌≡◌, refl, ap, ◌∙◌}
 use mathlib.Core.Bool.{Bool, true, false}
 use mathlib.Core.List.{List, [], ◌∷◌}
@@ -9,18 +10,17 @@ use lib.ListN.{length, drop, length-drop}
 use Rattle.meaning.specs.Tests.{choose}
 use Rattle.jsontext.specs.declared.Fault.{Fault}
 use Rattle.jsontext.specs.declared.Fault.TheVariants.{NotJson}
-use Rattle.jsontext.specs.declared.Step.{Step}
-use Rattle.jsontext.specs.declared.Step.TheVariants.{At, Bad}
-use Rattle.jsontext.specs.Reading.{Read, got, then, no, mapped, blanks}
+use Rattle.jsontext.specs.declared.Bad.{Bad}
+use Rattle.jsontext.specs.Reading.{Read, got, then, no, mapped, blanks, wrong}
 use Rattle.jsontext.specs.Values.{after_part, items, unless_empty, array}
 use Rattle.jsonread.specs.Told.{Told}
 use Rattle.jsonread.proofs.Places.{told_at, told_bad, told_of, fault-then, then_is}
 use Rattle.jsonread.proofs.Chars.{told_more}
 use Rattle.jsonkeys.specs.declared.Turn.{Turn}
-use Rattle.jsonkeys.specs.declared.Turn.TheVariants.{On, Over, Wrong}
+use Rattle.jsonkeys.specs.declared.Turn.TheVariants.{On, Over}
 use Rattle.jsonmarks.specs.Marks.{Below}
 use Rattle.jsonkeys.specs.Keys.{opened, after, TurnTold, Room, Passed}
-use Rattle.jsonkeys.proofs.Cells.{below_self, below_both}
+use Rattle.jsonkeys.proofs.Cells.{below_self, below_both, turn-is}
 
 -- ---- the definition by turns
 
@@ -56,7 +56,7 @@ module _ {A : Type 0} (item : List ℕ → Read A) where
     pub enough : length line - i < turns
     pub below : Below line used cells names
     pub room : Room line names used i 1
-    pub goes : (r : Step) → Told line i r (items item turns (drop i line)) → Told line at r (array item (drop at line))
+    pub goes : (r : Result ℕ Bad) → Told line i r (items item turns (drop i line)) → Told line at r (array item (drop at line))
 
   abbrev opening : Bool → List ℕ → Read (List A)
   opening over rest = choose over (got [] rest) (items item (suc (length rest)) rest)
@@ -72,20 +72,20 @@ module _ {A : Type 0} (item : List ℕ → Read A) where
   unfolding items
   items-turn turns s = refl
 
-  module _ {line : List ℕ} {at : ℕ} {x : Turn} (names : List ℕ) (used : ℕ) (t : TurnTold line at (opened 93 (blanks (drop at line))) x) where
-    pub list-cut : {p : ℕ} → x ≡ Wrong p → Passed line names names used at (Bad NotJson p p) (array item (drop at line))
-    list-cut e = record { told = told_of {i = at} (omega arith) (array-is (drop at line)) (told_bad (fault-then (λ over rest. opening over rest) (t.wrong _ e))); below = below_self }
+  module _ {line : List ℕ} {at : ℕ} {x : Result Turn Bad} (names : List ℕ) (used : ℕ) (t : TurnTold line at (opened 93 (blanks (drop at line))) x) where
+    pub list-cut : {b : Bad} → x ≡ Err b → Passed line names names used at (Err b) (array item (drop at line))
+    list-cut e = record { told = told_of {i = at} (omega arith) (array-is (drop at line)) (told_bad (fault-then (λ over rest. opening over rest) (t.missing _ e).faulty)); below = below_self }
 
-    pub list-empty : {e : ℕ} → x ≡ Over e → Passed line names names used at (At e) (array item (drop at line))
+    pub list-empty : {s : Turn} {e : ℕ} → x ≡ Ok s → s ≡ Over e → Passed line names names used at (Ok e) (array item (drop at line))
     unfolding choose
-    list-empty {e} q =
-        let c = t.over e q in
+    list-empty {e = e} p q =
+        let c = t.over e (turn-is p q) in
         record { told = told_at (record { what = []; from = c.from; within = c.within; is = array-is (drop at line) ∙ then_is (λ over rest. opening over rest) c.is }); below = below_self }
 
-    pub list-start : {i : ℕ} → Room line names used at 0 → x ≡ On i → Listing line names names used at i
+    pub list-start : {s : Turn} {i : ℕ} → Room line names used at 0 → x ≡ Ok s → s ≡ On i → Listing line names names used at i
     unfolding choose
-    list-start {i} h q =
-        let c = t.on i q in
+    list-start {i = i} h p q =
+        let c = t.on i (turn-is p q) in
         record {
           from = c.from;
           within = c.within;
@@ -100,45 +100,45 @@ module _ {A : Type 0} (item : List ℕ → Read A) where
     pub list-within : i ≤ length line
     list-within = g.within
 
-    pub list-long : {last : List ℕ} {x : Step} → Passed line names last used i x (item (drop i line)) → length last ≡ length cells
+    pub list-long : {last : List ℕ} {x : Result ℕ Bad} → Passed line names last used i x (item (drop i line)) → length last ≡ length cells
     list-long u = u.below.long ∙ g.below.long
 
     pub list-room : Room line names used i 1
     list-room = g.room
 
-    module _ {x : Step} {last : List ℕ} (u : Passed line names last used i x (item (drop i line))) where
+    module _ {x : Result ℕ Bad} {last : List ℕ} (u : Passed line names last used i x (item (drop i line))) where
       turned : items item g.turns (drop i line) ≡ then (item (drop i line)) (λ a rest. after_part 93 a (λ t. items item (g.turns - 1) t) (blanks rest))
       turned = let k : g.turns ≡ suc (g.turns - 1) = omega (arith, g.enough) in ap (λ (n : ℕ). items item n (drop i line)) k ∙ items-turn (g.turns - 1) (drop i line)
 
       stays : Below line used cells last
       stays = below_both g.below u.below
 
-      pub list_bad : {w : Fault} {p q : ℕ} → x ≡ Bad w p q → Passed line cells last used at (Bad w p q) (array item (drop at line))
-      list_bad {w} {p} {q} e = record { told = g.goes (Bad w p q) (told_of {i = i} (omega arith) turned (told_bad (fault-then (λ a rest. after_part 93 a (λ t. items item (g.turns - 1) t) (blanks rest)) (u.told.faulty _ _ _ e)))); below = stays }
+      pub list_bad : {b : Bad} → x ≡ Err b → Passed line cells last used at (Err b) (array item (drop at line))
+      list_bad {b} e = record { told = g.goes (Err b) (told_of {i = i} (omega arith) turned (told_bad (fault-then (λ a rest. after_part 93 a (λ t. items item (g.turns - 1) t) (blanks rest)) (u.told.faulty _ e)))); below = stays }
 
-      module _ {e : ℕ} {z : Turn} (q : x ≡ At e) (t : TurnTold line (e + 1) (after 93 (blanks (drop e line))) z) where
+      module _ {e : ℕ} {z : Result Turn Bad} (q : x ≡ Ok e) (t : TurnTold line (e + 1) (after 93 (blanks (drop e line))) z) where
         abbrev what : A
         what = (u.told.stands e q).what
 
         read : items item g.turns (drop i line) ≡ then (after 93 (blanks (drop e line))) (λ over rest. following (g.turns - 1) what over rest)
         read = turned ∙ then_is (λ a rest. after_part 93 a (λ t. items item (g.turns - 1) t) (blanks rest)) (u.told.stands e q).is ∙ by_after 93 what (λ t. items item (g.turns - 1) t) (blanks (drop e line))
 
-        pub list-wrong : {p : ℕ} → z ≡ Wrong p → Passed line cells last used at (Bad NotJson p p) (array item (drop at line))
-        list-wrong {p} f = record { told = g.goes (Bad NotJson p p) (told_of {i = i} (omega arith) read (told_bad (fault-then (λ over rest. following (g.turns - 1) what over rest) (t.wrong _ f)))); below = stays }
+        pub list-wrong : {b : Bad} → z ≡ Err b → Passed line cells last used at (Err b) (array item (drop at line))
+        list-wrong {b} f = record { told = g.goes (Err b) (told_of {i = i} (omega arith) read (told_bad (fault-then (λ over rest. following (g.turns - 1) what over rest) (t.missing _ f).faulty))); below = stays }
 
-        pub list_over : {k : ℕ} → z ≡ Over k → Passed line cells last used at (At k) (array item (drop at line))
+        pub list_over : {s : Turn} {k : ℕ} → z ≡ Ok s → s ≡ Over k → Passed line cells last used at (Ok k) (array item (drop at line))
         unfolding choose
-        list_over {k} f =
-            let c = t.over k f in
-            record { told = g.goes (At k) (told_at (record { what = what ∷ []; from = omega (arith, (u.told.stands e q).from, c.from); within = c.within; is = read ∙ then_is (λ over rest. following (g.turns - 1) what over rest) c.is })); below = stays }
+        list_over {k = k} p f =
+            let c = t.over k (turn-is p f) in
+            record { told = g.goes (Ok k) (told_at (record { what = what ∷ []; from = omega (arith, (u.told.stands e q).from, c.from); within = c.within; is = read ∙ then_is (λ over rest. following (g.turns - 1) what over rest) c.is })); below = stays }
 
-        pub list-less : {j : ℕ} → z ≡ On j → length line - j < length line - i
-        list-less {j} f = omega (arith, (u.told.stands e q).from, (t.on j f).from, (t.on j f).within)
+        pub list-less : {s : Turn} {j : ℕ} → z ≡ Ok s → s ≡ On j → length line - j < length line - i
+        list-less {j = j} p f = let c = t.on j (turn-is p f) in omega (arith, (u.told.stands e q).from, c.from, c.within)
 
-        pub list_on : {j : ℕ} → z ≡ On j → Listing line cells last used at j
+        pub list_on : {s : Turn} {j : ℕ} → z ≡ Ok s → s ≡ On j → Listing line cells last used at j
         unfolding choose
-        list_on {j} f =
-            let c = t.on j f in
+        list_on {j = j} p f =
+            let c = t.on j (turn-is p f) in
             record {
               from = omega (arith, g.from, (u.told.stands e q).from, c.from);
               within = c.within;

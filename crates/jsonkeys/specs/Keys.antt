@@ -1,18 +1,16 @@
 -- How an array or object begins, a member's name, and what may follow a part; what pass one does with the workspace
-use Rattle.std.specs.Prelude.{◌≡◌, Bool, true, false, List, [], ◌∷◌, ℕ, suc, ◌+◌, ◌*◌, ◌-◌, ◌≤◌, eqb, length, drop}
+use Rattle.std.specs.Prelude.{◌≡◌, Bool, true, false, List, [], ◌∷◌, ℕ, suc, ◌+◌, ◌*◌, ◌-◌, ◌≤◌, eqb, length, drop, Result, Ok, Err}
 use Rattle.meaning.specs.Tests.{choose}
-use Rattle.jsontext.specs.declared.Fault.{Fault}
 use Rattle.jsontext.specs.declared.Fault.TheVariants.{NotJson}
-use Rattle.jsontext.specs.declared.Step.{Step}
-use Rattle.jsontext.specs.declared.Step.TheVariants.{At, Bad}
+use Rattle.jsontext.specs.declared.Bad.{Bad}
 use Rattle.jsontext.specs.Reading.{Read, got, then, no, blanks}
 use Rattle.jsontext.specs.Strings.{string}
 use Rattle.jsontext.specs.Values.{Name, after_name, after_part, members}
-use Rattle.jsonread.specs.Told.{Faulty, Told}
+use Rattle.jsonread.specs.Told.{Faulty, Lacks, Told}
 use Rattle.jsonnames.specs.Sorted.{Table}
 use Rattle.jsonmarks.specs.Marks.{Marked, Below}
 use Rattle.jsonkeys.specs.declared.Turn.{Turn}
-use Rattle.jsonkeys.specs.declared.Turn.TheVariants.{On, Over, Wrong}
+use Rattle.jsonkeys.specs.declared.Turn.TheVariants.{On, Over}
 
 -- ---- how an array or object begins, and what may follow a part: true after the closing bracket
 
@@ -30,10 +28,10 @@ pub record Comes (line : List ℕ) (low i : ℕ) (over : Bool) (m : Read Bool) :
   pub within : i ≤ length line
   pub is : m ≡ got over (drop i line)
 
-pub record TurnTold (line : List ℕ) (low : ℕ) (m : Read Bool) (r : Turn) : Type 0 where
-  pub on : (i : ℕ) → r ≡ On i → Comes line low i false m
-  pub over : (i : ℕ) → r ≡ Over i → Comes line low i true m
-  pub wrong : (p : ℕ) → r ≡ Wrong p → Faulty line NotJson p p m
+pub record TurnTold (line : List ℕ) (low : ℕ) (m : Read Bool) (r : Result Turn Bad) : Type 0 where
+  pub on : (i : ℕ) → r ≡ Ok (On i) → Comes line low i false m
+  pub over : (i : ℕ) → r ≡ Ok (Over i) → Comes line low i true m
+  pub missing : (b : Bad) → r ≡ Err b → Lacks line b m
 
 -- ---- the workspace
 
@@ -41,7 +39,7 @@ pub record TurnTold (line : List ℕ) (low : ℕ) (m : Read Bool) (r : Turn) : T
 abbrev pub Room : List ℕ → List ℕ → ℕ → ℕ → ℕ → Type 0
 Room line names used at more = 4 * used + (length line - at) ≤ 4 * length names + more
 
-pub record Passed {A : Type 0} (line names after : List ℕ) (used at : ℕ) (r : Step) (m : Read A) : Type 0 where
+pub record Passed {A : Type 0} (line names after : List ℕ) (used at : ℕ) (r : Result ℕ Bad) (m : Read A) : Type 0 where
   pub told : Told line at r m
   pub below : Below line used names after
 
@@ -69,11 +67,11 @@ pub record KeyIs (line names after : List ℕ) (first end at v : ℕ) : Type 0 w
   pub table : (seen : List Name) → Table line names first end seen → Table line after first (end + 1) (named name (drop at line) ∷ seen)
   pub is : (known : List ℕ → Bool) → known name ≡ true → (seen : List Name) → Table line names first end seen → key known seen (drop at line) ≡ got name (drop v line)
 
-pub record KeyTold (line names after : List ℕ) (first end at : ℕ) (allowed : Bool) (r : Step) : Type 0 where
+pub record KeyTold (line names after : List ℕ) (first end at : ℕ) (allowed : Bool) (r : Result ℕ Bad) : Type 0 where
   pub below : Below line first names after
-  pub allows : (v : ℕ) → r ≡ At v → allowed ≡ true
-  pub read : (v : ℕ) → r ≡ At v → KeyIs line names after first end at v
-  pub wrong : (w : Fault) (p q : ℕ) → r ≡ Bad w p q → (known : List ℕ → Bool) → KnownTold line at known allowed → (seen : List Name) → Table line names first end seen → Faulty line w p q (key known seen (drop at line))
+  pub allows : (v : ℕ) → r ≡ Ok v → allowed ≡ true
+  pub read : (v : ℕ) → r ≡ Ok v → KeyIs line names after first end at v
+  pub wrong : (b : Bad) → r ≡ Err b → (known : List ℕ → Bool) → KnownTold line at known allowed → (seen : List Name) → Table line names first end seen → Faulty line b (key known seen (drop at line))
 
 -- ---- a member, whatever its value is read as
 
@@ -93,6 +91,6 @@ module _ {A : Type 0} (known : List ℕ → Bool) (item : List ℕ → List ℕ 
     pub table : (seen : List Name) → Table line names first end seen → Table line last first (end + 1) (named name (drop at line) ∷ seen)
     pub is : (seen : List Name) → Table line names first end seen → (turns : ℕ) → members known item (suc turns) seen (drop at line) ≡ after_part 125 (name, what) (λ t. members known item turns (named name (drop at line) ∷ seen) t) (blanks (drop e line))
 
-  pub record MemberWrong (line names last : List ℕ) (first end at : ℕ) (w : Fault) (p q : ℕ) : Type 0 where
+  pub record MemberWrong (line names last : List ℕ) (first end at : ℕ) (b : Bad) : Type 0 where
     pub below : Below line first names last
-    pub is : (seen : List Name) → Table line names first end seen → (turns : ℕ) → Faulty line w p q (members known item (suc turns) seen (drop at line))
+    pub is : (seen : List Name) → Table line names first end seen → (turns : ℕ) → Faulty line b (members known item (suc turns) seen (drop at line))

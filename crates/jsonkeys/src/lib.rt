@@ -9,47 +9,46 @@ ghost use Rattle.jsonkeys.specs.Keys.{opened, after, Room, TurnTold, KeyTold};
 
 use jsonmarks::enter;
 use jsonread::bytes::{skip_blanks, want_at};
-use jsontext::{Fault, Step};
+use jsontext::{Bad, Fault};
 
-// a part begins; there is none, or none more, and this is after the closing bracket; or what is wrong stands here
+// a part begins; or there is none, or none more, and this is after the closing bracket
 #[derive(Clone, Copy)]
 pub enum Turn {
     On(usize),
     Over(usize),
-    Wrong(usize),
 }
 
 // after the opening bracket
-pub fn begin_at(line: &[u8], at: usize, close: u8) -> Turn
+pub fn begin_at(line: &[u8], at: usize, close: u8) -> Result<Turn, Bad>
     requires { at ≤ length line.now }
     ensures { TurnTold line.now at (opened close (blanks (drop at line.now))) result }
 {
     let k = skip_blanks(line, at);
     if line.len() <= k {
-        return Turn::Wrong(k);
+        return Err(Bad::new(Fault::NotJson, k));
     }
     if line[k] == close {
-        return Turn::Over(k + 1);
+        return Ok(Turn::Over(k + 1));
     }
-    Turn::On(k)
+    Ok(Turn::On(k))
 }
 
 // after a part
-pub fn turn_at(line: &[u8], at: usize, close: u8) -> Turn
+pub fn turn_at(line: &[u8], at: usize, close: u8) -> Result<Turn, Bad>
     requires { at ≤ length line.now }
     ensures { TurnTold line.now (at + 1) (after close (blanks (drop at line.now))) result }
 {
     let k = skip_blanks(line, at);
     if line.len() <= k {
-        return Turn::Wrong(k);
+        return Err(Bad::new(Fault::NotJson, k));
     }
     if line[k] == close {
-        return Turn::Over(k + 1);
+        return Ok(Turn::Over(k + 1));
     }
-    if line[k] != 44 {
-        return Turn::Wrong(k);
+    if line[k] != b',' {
+        return Err(Bad::new(Fault::NotJson, k));
     }
-    Turn::On(skip_blanks(line, k + 1))
+    Ok(Turn::On(skip_blanks(line, k + 1)))
 }
 
 // a member's name, kept with those from `first` to `end`, and its colon: where its value begins. `known` says whether the name may stand here
@@ -60,25 +59,19 @@ pub fn key_at(
     names: &mut [u64],
     first: usize,
     end: usize,
-) -> Step
+) -> Result<usize, Bad>
     requires at_in_bounds { at ≤ length line.now }
     requires filed { Filed line.now names.old first end }
     requires room { Room line.now names.old end at 0 }
     ensures { KeyTold line.now names.old names.new first end at known result }
 {
     if line.len() <= at {
-        return Step::Bad(Fault::NotJson, at, at);
+        return Err(Bad::new(Fault::NotJson, at));
     }
-    match enter(line, names, first, end, at) {
-        Step::Bad(w, p, q) => Step::Bad(w, p, q),
-        Step::At(e) => {
-            if !known {
-                return Step::Bad(Fault::BadField, at, at);
-            }
-            match want_at(line, skip_blanks(line, e), 58) {
-                Step::Bad(w, p, q) => Step::Bad(w, p, q),
-                Step::At(c) => Step::At(skip_blanks(line, c)),
-            }
-        }
+    let e = enter(line, names, first, end, at)?;
+    if !known {
+        return Err(Bad::new(Fault::BadField, at));
     }
+    let c = want_at(line, skip_blanks(line, e), b':')?;
+    Ok(skip_blanks(line, c))
 }

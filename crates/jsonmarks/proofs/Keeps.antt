@@ -1,4 +1,5 @@
 -- A name is told by its mark or looked for, kept, and marked
+use Rattle.std.specs.Prelude.{Option, Some, None, Result, Ok, Err}
 use mathlib.Core.Path.{◌≡◌, refl, sym, ap, subst, ◌∙◌}
 use mathlib.Core.Bool.{Bool, true, false, not}
 use mathlib.Core.List.{List, ◌++◌}
@@ -11,12 +12,9 @@ use lib.Seq.{get_or-set_same, get_or-set_other}
 use borrow.Author.Tests.{eqb-true, eqb-false, ltb-true, ltb-false, not-true}
 use Rattle.jsontext.specs.declared.Fault.{Fault}
 use Rattle.jsontext.specs.declared.Fault.TheVariants.{RepeatedName}
-use Rattle.jsontext.specs.declared.Step.{Step}
-use Rattle.jsontext.specs.declared.Step.TheVariants.{At, Bad}
+use Rattle.jsontext.specs.declared.Bad.{Bad}
 use Rattle.jsontext.specs.Strings.{string}
 use Rattle.jsonread.specs.Told.{Told}
-use Rattle.jsonnames.specs.declared.runs.Known.{Known}
-use Rattle.jsonnames.specs.declared.runs.Known.TheVariants.{There, New}
 use Rattle.jsonnames.specs.Sorted.{Spells, Named, Runs, over, even, odd, edge, Sorted}
 use Rattle.jsonnames.specs.Runs.{PutDue, new, old, Grown, Stored}
 use Rattle.jsonnames.proofs.Tables.{enter-unread, enter-again, enter-kept}
@@ -205,7 +203,7 @@ module _ {line names : List ℕ} {first end at : ℕ} (u : KeepDue line names fi
         lacks = λ n s k f h v. a.lacks q n (t.is n s.rest s.is) k f (omega arith) (subst (λ (p : ℕ). Spells line p n) (part-cell names keep-within k (omega (arith, u.under))) v);
       }
 
-  pub keep-kept : {part : List ℕ} {r : Known} → Stored line (take (table_from (length names)) names) part first end at r → Kept line names (part ++ drop (table_from (length names)) names) first end at r
+  pub keep-kept : {part : List ℕ} {r : Option ℕ} → Stored line (take (table_from (length names)) names) part first end at r → Kept line names (part ++ drop (table_from (length names)) names) first end at r
   keep-kept {part} s = record { stored = stored-whole names keep-within u.under s; upper = whole-upper names keep-within part (stored-part names keep-within u.under s) }
 
   pub keep-place : at ≤ length line
@@ -308,19 +306,19 @@ module _ {line names : List ℕ} {first end d : ℕ} (u : NoteDue line names fir
 
 -- ---- a name of a large object
 
-module _ {line names : List ℕ} {first end at : ℕ} (u : KeepDue line names first end at) {d : ℕ} (t : DigestTold line at d) {mid : List ℕ} {r : Known} (k : Kept line names mid first end at r) where
+module _ {line names : List ℕ} {first end at : ℕ} (u : KeepDue line names first end at) {d : ℕ} (t : DigestTold line at d) {mid : List ℕ} {r : Option ℕ} (k : Kept line names mid first end at r) where
   mid-long : length mid ≡ length names
   mid-long = stored-long k.stored
 
-  pub held-there : {p : ℕ} → r ≡ There p → Held line names mid first end at (There p)
+  pub held-there : {p : ℕ} → r ≡ Some p → Held line names mid first end at (Some p)
   held-there {p} q =
       record {
-        stored = subst (λ (x : Known). Stored line names mid first end at x) q k.stored;
+        stored = subst (λ (x : Option ℕ). Stored line names mid first end at x) q k.stored;
         below = below-upper line names mid mid-long k.upper (stored-below k.stored);
         marked = λ z. absurd (let z : ◌≡◌ {A = ℕ} 0 1 = cc in omega arith);
       }
 
-  module _ (q : r ≡ New) (many : 255 ≤ end - first) where
+  module _ (q : r ≡ None) (many : 255 ≤ end - first) where
     grown : Grown line names mid first end at
     grown = k.stored.new q
 
@@ -339,7 +337,7 @@ module _ {line names : List ℕ} {first end at : ℕ} (u : KeepDue line names fi
               ]);
         }
 
-    pub held_new : {after : List ℕ} → Noted line mid after first end → Held line names after first end at New
+    pub held_new : {after : List ℕ} → Noted line mid after first end → Held line names after first end at None
     held_new {after} m =
         record {
           stored = record {
@@ -375,7 +373,7 @@ pub sorted-places : {line names : List ℕ} {first end : ℕ} → Sorted line na
 sorted-places {line} {names} {first} {end} s k a b = split k (edge first end) (λ q. runs-places s.runs k a q) (λ q. (s.last.named k q b).spells.within)
 
 -- where its last cell has a place or 0, the table is no one's
-held-no-one : {line names after : List ℕ} {first end at : ℕ} → Grown line names after first end at → ((f : ℕ) → Owns line after f → ⊥) → Held line names after first end at New
+held-no-one : {line names after : List ℕ} {first end at : ℕ} → Grown line names after first end at → ((f : ℕ) → Owns line after f → ⊥) → Held line names after first end at None
 held-no-one g n =
     record {
       stored = record {
@@ -387,12 +385,12 @@ held-no-one g n =
       marked = λ z. record { all = λ c o. absurd (n _ o) };
     }
 
-module _ {line names : List ℕ} {first end at : ℕ} (l : end < length names) {mid : List ℕ} {r : Known} (s : Stored line names mid first end at r) where
-  pub crowd_there : {p : ℕ} → r ≡ There p → Held line names mid first end at (There p)
+module _ {line names : List ℕ} {first end at : ℕ} (l : end < length names) {mid : List ℕ} {r : Option ℕ} (s : Stored line names mid first end at r) where
+  pub crowd_there : {p : ℕ} → r ≡ Some p → Held line names mid first end at (Some p)
   crowd_there {p} q =
       let e : mid ≡ names = s.same p q in
       record {
-        stored = subst (λ (x : Known). Stored line names mid first end at x) q s;
+        stored = subst (λ (x : Option ℕ). Stored line names mid first end at x) q s;
         below = below-upper line names mid (ap length e) (λ k h. ap (λ (l : List ℕ). get_or l k 0) e) (λ k h. ap (λ (l : List ℕ). get_or l k 0) e);
         marked = λ z. absurd (let z : ◌≡◌ {A = ℕ} 0 1 = cc in omega arith);
       }
@@ -400,8 +398,8 @@ module _ {line names : List ℕ} {first end at : ℕ} (l : end < length names) {
   pub crowd_long : 0 < length mid
   crowd_long = omega (arith, stored-long s)
 
-  module _ (q : r ≡ New) where
-    pub crowd_last : end < length mid - 1 → Held line names (set mid (length mid - 1) 0) first end at New
+  module _ (q : r ≡ None) where
+    pub crowd_last : end < length mid - 1 → Held line names (set mid (length mid - 1) 0) first end at None
     crowd_last h =
         held-no-one (grown-more (length-set mid (length mid - 1) 0) (λ k b. get_or-set_other mid (length mid - 1) k 0 0 (omega arith)) (s.new q))
         (λ f o.
@@ -409,7 +407,7 @@ module _ {line names : List ℕ} {first end at : ℕ} (l : end < length names) {
         let y : 0 ≡ length line + 1 + f = sym (get_or-set_same mid (length mid - 1) 0 0 (omega arith)) ∙ ap (λ (j : ℕ). get_or (set mid (length mid - 1) 0) j 0) (sym z) ∙ o.owner in
         omega arith)
 
-    pub crowd_full : length mid - 1 ≤ end → Held line names mid first end at New
+    pub crowd_full : length mid - 1 ≤ end → Held line names mid first end at None
     crowd_full h =
         let g = s.new q in
         held-no-one g (λ f o. omega (arith, sorted-places g.sorted (length mid - 1) (omega (arith, g.sorted.from, stored-long s, g.added.from, g.added.below)) (omega (arith, stored-long s)), o.owner))
@@ -429,7 +427,7 @@ module _ {line names : List ℕ} {first end at : ℕ} (f : Filed line names firs
   pub hold_room : end < length (take (table_from (length names)) names)
   hold_room = keep-room hold_due
 
-  pub hold_few : {part : List ℕ} {r : Known} → end - first < 255 → Stored line (take (table_from (length names)) names) part first end at r → Held line names (part ++ drop (table_from (length names)) names) first end at r
+  pub hold_few : {part : List ℕ} {r : Option ℕ} → end - first < 255 → Stored line (take (table_from (length names)) names) part first end at r → Held line names (part ++ drop (table_from (length names)) names) first end at r
   hold_few l s =
       let k = keep-kept hold_due s in
       record {
@@ -443,8 +441,8 @@ hold_order f = f.sorted.from
 
 -- ---- a name is read and kept
 
-module _ {line : List ℕ} {at : ℕ} {x : Step} (t : Told line at x (string (drop at line))) (h : at ≤ length line) where
-  pub tended_unread : {names : List ℕ} {first end : ℕ} {w : Fault} {p q : ℕ} → x ≡ Bad w p q → Tended line names names first end at (Bad w p q)
+module _ {line : List ℕ} {at : ℕ} {x : Result ℕ Bad} (t : Told line at x (string (drop at line))) (h : at ≤ length line) where
+  pub tended_unread : {names : List ℕ} {first end : ℕ} {b : Bad} → x ≡ Err b → Tended line names names first end at (Err b)
   tended_unread e =
       record {
         entered = enter-unread t h e;
@@ -452,9 +450,9 @@ module _ {line : List ℕ} {at : ℕ} {x : Step} (t : Told line at x (string (dr
         marked = λ k z. absurd (let z : ◌≡◌ {A = ℕ} 0 1 = cc in omega arith);
       }
 
-  module _ {e : ℕ} (a : x ≡ At e) {names after : List ℕ} {first end : ℕ} {y : Known} (u : Held line names after first end at y) where
-    pub tended_again : {o : ℕ} → y ≡ There o → Tended line names after first end at (Bad RepeatedName at o)
+  module _ {e : ℕ} (a : x ≡ Ok e) {names after : List ℕ} {first end : ℕ} {y : Option ℕ} (u : Held line names after first end at y) where
+    pub tended_again : {o : ℕ} → y ≡ Some o → Tended line names after first end at (Err (record { fault = RepeatedName; at = at; first = o }))
     tended_again z = record { entered = enter-again t h a u.stored z; below = u.below; marked = λ k z. absurd (let z : ◌≡◌ {A = ℕ} 0 1 = cc in omega arith) }
 
-    pub tended_kept : y ≡ New → Tended line names after first end at (At e)
+    pub tended_kept : y ≡ None → Tended line names after first end at (Ok e)
     tended_kept z = record { entered = enter-kept t h a u.stored z; below = u.below; marked = λ k q. u.marked z }

@@ -1,12 +1,11 @@
 -- Names kept in the lower cells alone
+use Rattle.std.specs.Prelude.{Option, Some, None}
 use mathlib.Core.Path.{◌≡◌, refl, sym, ap, subst, ◌∙◌}
 use mathlib.Core.List.{List, ◌++◌}
 use Prim.Native.Nat.{ℕ, ◌+◌, ◌-◌, ◌<◌, ◌≤◌}
 use native.Mathlib.Omega.{arith}
 use lib.ListN.{length, take, drop, get_or, take-append-drop, length-append, length-drop, get_or-append}
 use lib.Seq.{length-take-le, get_or-append-add}
-use Rattle.jsonnames.specs.declared.runs.Known.{Known}
-use Rattle.jsonnames.specs.declared.runs.Known.TheVariants.{There, New}
 use Rattle.jsonnames.specs.Sorted.{Spells, Rises, Runs, over, even, odd, Sorted}
 use Rattle.jsonnames.specs.Runs.{new, old, Grown, Stored}
 
@@ -63,21 +62,21 @@ module _ (names : List ℕ) {from : ℕ} (h : from ≤ length names) where
 
 -- ---- a name kept in them
 
-pub stored-long : {line names after : List ℕ} {first end at : ℕ} {r : Known} → Stored line names after first end at r → length after ≡ length names
+pub stored-long : {line names after : List ℕ} {first end at : ℕ} {r : Option ℕ} → Stored line names after first end at r → length after ≡ length names
 stored-long {line} {names} {after} {first} {end} {at} {r} s =
     go r s
   where
-    go : (x : Known) → Stored line names after first end at x → length after ≡ length names
-    go (There p) t = ap length (t.same p refl)
-    go New t = (t.new refl).long
+    go : (x : Option ℕ) → Stored line names after first end at x → length after ≡ length names
+    go (Some p) t = ap length (t.same p refl)
+    go None t = (t.new refl).long
 
-pub stored-below : {line names after : List ℕ} {first end at : ℕ} {r : Known} → Stored line names after first end at r → (k : ℕ) → k < first → get_or after k 0 ≡ get_or names k 0
+pub stored-below : {line names after : List ℕ} {first end at : ℕ} {r : Option ℕ} → Stored line names after first end at r → (k : ℕ) → k < first → get_or after k 0 ≡ get_or names k 0
 stored-below {line} {names} {after} {first} {end} {at} {r} s k h =
     go r s
   where
-    go : (x : Known) → Stored line names after first end at x → get_or after k 0 ≡ get_or names k 0
-    go (There p) t = ap (λ (l : List ℕ). get_or l k 0) (t.same p refl)
-    go New t = (t.new refl).below k h
+    go : (x : Option ℕ) → Stored line names after first end at x → get_or after k 0 ≡ get_or names k 0
+    go (Some p) t = ap (λ (l : List ℕ). get_or l k 0) (t.same p refl)
+    go None t = (t.new refl).below k h
 
 -- cells past the new name may change
 pub grown-more : {line names mid after : List ℕ} {first end at : ℕ} → length after ≡ length mid → ((k : ℕ) → k < end + 1 → get_or after k 0 ≡ get_or mid k 0) → Grown line names mid first end at → Grown line names after first end at
@@ -113,7 +112,7 @@ grown_of {line} {a} {names} {after} {first} {end} {at} l m r e {part} d g =
           ];
     }
 
-module _ (names : List ℕ) {line part : List ℕ} {first end from at : ℕ} {r : Known} (h : from ≤ length names) (l : end < from) (s : Stored line (take from names) part first end at r) where
+module _ (names : List ℕ) {line part : List ℕ} {first end from at : ℕ} {r : Option ℕ} (h : from ≤ length names) (l : end < from) (s : Stored line (take from names) part first end at r) where
   pub stored-part : length part ≡ from
   stored-part = stored-long s ∙ part-long names h
 

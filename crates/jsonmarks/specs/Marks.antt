@@ -1,13 +1,10 @@
 -- A table of marks in the upper cells: one for each name of the object that owns it
-use Rattle.std.specs.Prelude.{◌≡◌, Bool, true, false, List, [], ◌∷◌, ℕ, ◌+◌, ◌*◌, ◌-◌, ◌/◌, ◌%◌, ◌^◌, ◌<◌, ◌≤◌, length, drop, get_or, set}
-use Rattle.jsontext.specs.declared.Step.{Step}
-use Rattle.jsontext.specs.declared.Step.TheVariants.{At}
+use Rattle.std.specs.Prelude.{◌≡◌, Bool, true, false, List, [], ◌∷◌, ℕ, ◌+◌, ◌*◌, ◌-◌, ◌/◌, ◌%◌, ◌^◌, ◌<◌, ◌≤◌, length, drop, get_or, set, Option, None, Result, Ok}
+use Rattle.jsontext.specs.declared.Bad.{Bad}
 use Rattle.jsontext.specs.Reading.{got}
 use Rattle.jsontext.specs.Strings.{string}
 use Rattle.jsonread.specs.declared.names.Cursor.{Cursor}
 use Rattle.jsonread.specs.Spelling.{Spelt}
-use Rattle.jsonnames.specs.declared.runs.Known.{Known}
-use Rattle.jsonnames.specs.declared.runs.Known.TheVariants.{New}
 use Rattle.jsonnames.specs.Sorted.{Spells, Named, Sorted, Lacks, Entered}
 use Rattle.jsonnames.specs.Runs.{Stored}
 
@@ -135,7 +132,7 @@ pub record KeepDue (line names : List ℕ) (first end at : ℕ) : Type 0 where
   pub named : Named line at
 
 -- a name looked for and kept; the table is as it was
-pub record Kept (line names after : List ℕ) (first end at : ℕ) (r : Known) : Type 0 where
+pub record Kept (line names after : List ℕ) (first end at : ℕ) (r : Option ℕ) : Type 0 where
   pub stored : Stored line names after first end at r
   pub upper : (k : ℕ) → table_from (length names) ≤ k → get_or after k 0 ≡ get_or names k 0
 
@@ -158,12 +155,12 @@ pub record Noted (line names after : List ℕ) (first end : ℕ) : Type 0 where
   pub marks : (f : ℕ) → f < first → Owns line after f → (k : ℕ) → table_from (length names) ≤ k → get_or after k 0 ≡ get_or names k 0
 
 -- a name was there, or is kept
-pub record Held (line names after : List ℕ) (first end at : ℕ) (r : Known) : Type 0 where
+pub record Held (line names after : List ℕ) (first end at : ℕ) (r : Option ℕ) : Type 0 where
   pub stored : Stored line names after first end at r
   pub below : Below line first names after
-  pub marked : r ≡ New → Marked line after first (end + 1)
+  pub marked : r ≡ None → Marked line after first (end + 1)
 
-pub record Tended (line names after : List ℕ) (first end at : ℕ) (r : Step) : Type 0 where
+pub record Tended (line names after : List ℕ) (first end at : ℕ) (r : Result ℕ Bad) : Type 0 where
   pub entered : Entered line names after first end at r
   pub below : Below line first names after
-  pub marked : (e : ℕ) → r ≡ At e → Marked line after first (end + 1)
+  pub marked : (e : ℕ) → r ≡ Ok e → Marked line after first (end + 1)

@@ -9,9 +9,12 @@ ghost use Rattle.jsonnames.specs.Sorted.{Named};
 ghost use Rattle.jsonmarks.specs.Marks.{DigestTold, Filed, RoomTold, OwnerTold, Signed, TakeDue, Taken, AbsentDue, AbsentTold, KeepDue, Kept, DueTold, NoteDue, Noted, Held, Tended};
 
 use self::table::{digest, is_marked, mark, mark_all, size_of, wipe};
-use jsonnames::runs::{Known, put_last, store};
+use jsonnames::runs::{put_last, store};
 use jsonread::strings::string_at;
-use jsontext::{Fault, Step};
+use jsontext::{Bad, Fault};
+
+// a number whose double would be no place
+const LARGE: usize = 1 << 62;
 
 // how many cells have marks: one for two names, if there are as many
 fn size_for(count: usize, cells: usize) -> usize
@@ -19,21 +22,14 @@ fn size_for(count: usize, cells: usize) -> usize
     requires le_cells { 12 ≤ cells }
     ensures { RoomTold cells result }
 {
-    let most = cells / 4 - 2;
-    if most < count / 2 {
-        return most;
-    }
-    count / 2
+    (cells / 4 - 2).min(count / 2)
 }
 
 // whose the table is, for the last cell; 0 where the number is too large
 fn owner_of(bytes: usize, first: usize) -> usize
     ensures { OwnerTold bytes first result }
 {
-    if 4611686018427387904 <= bytes {
-        return 0;
-    }
-    if 4611686018427387904 <= first {
+    if LARGE <= bytes || LARGE <= first {
         return 0;
     }
     bytes + 1 + first
@@ -45,10 +41,8 @@ fn sign(names: &mut [u64], size: usize, owner: usize)
     ensures { Signed size owner names.old names.new }
 {
     let cells = names.len();
-    let almost = cells - 2;
-    names[almost] = size as u64;
-    let last = cells - 1;
-    names[last] = owner as u64;
+    names[cells - 2] = size as u64;
+    names[cells - 1] = owner as u64;
 }
 
 // the table becomes the object's, with the marks of all its names
@@ -81,8 +75,15 @@ fn absent(line: &[u8], names: &[u64], first: usize, end: usize, d: u64) -> bool
     !is_marked(names, cells - cells / 4, size, d)
 }
 
-// a name whose mark is not set is new; another one is looked for
-fn keep(line: &[u8], names: &mut [u64], first: usize, end: usize, at: usize, d: u64) -> Known
+// a name whose mark is not set is new; another one is looked for: where it stands already
+fn keep(
+    line: &[u8],
+    names: &mut [u64],
+    first: usize,
+    end: usize,
+    at: usize,
+    d: u64,
+) -> Option<usize>
     requires keep_due { KeepDue line.now names.old first end at }
     requires digest_told { DigestTold line.now at d }
     ensures { Kept line.now names.old names.new first end at result }
@@ -101,10 +102,7 @@ fn is_due(count: usize) -> bool
     requires { 0 < count }
     ensures { DueTold count result }
 {
-    if count == 256 {
-        return true;
-    }
-    count & (count - 1) == 0
+    count == 256 || count.is_power_of_two()
 }
 
 // a name that was kept gets its mark
@@ -123,43 +121,45 @@ fn note(line: &[u8], names: &mut [u64], first: usize, end: usize, d: u64)
     }
 }
 
-// a name of a large object is kept, if it is not there
-fn hold_many(line: &[u8], names: &mut [u64], first: usize, end: usize, at: usize) -> Known
+// a name of a large object is kept, if it is not there: where it stands already
+fn hold_many(line: &[u8], names: &mut [u64], first: usize, end: usize, at: usize) -> Option<usize>
     requires keep_due { KeepDue line.now names.old first end at }
     requires bound { 255 ≤ end - first }
     ensures { Held line.now names.old names.new first end at result }
 {
     let d = digest(line, at);
-    match keep(line, names, first, end, at, d) {
-        Known::There(p) => Known::There(p),
-        Known::New => {
-            note(line, names, first, end, d);
-            Known::New
-        }
+    if let Some(p) = keep(line, names, first, end, at, d) {
+        return Some(p);
     }
+    note(line, names, first, end, d);
+    None
 }
 
 // names reach into the table: it is no one's
-fn hold_crowded(line: &[u8], names: &mut [u64], first: usize, end: usize, at: usize) -> Known
+fn hold_crowded(
+    line: &[u8],
+    names: &mut [u64],
+    first: usize,
+    end: usize,
+    at: usize,
+) -> Option<usize>
     requires filed { Filed line.now names.old first end }
     requires end_in_bounds { end < length names.old }
     requires named { Named line.now at }
     ensures { Held line.now names.old names.new first end at result }
 {
-    match store(line, names, first, end, at) {
-        Known::There(p) => Known::There(p),
-        Known::New => {
-            let last = names.len() - 1;
-            if end < last {
-                names[last] = 0;
-            }
-            Known::New
-        }
+    if let Some(p) = store(line, names, first, end, at) {
+        return Some(p);
     }
+    let last = names.len() - 1;
+    if end < last {
+        names[last] = 0;
+    }
+    None
 }
 
-// a name is kept with the others, if it is not there
-fn hold(line: &[u8], names: &mut [u64], first: usize, end: usize, at: usize) -> Known
+// a name is kept with the others, if it is not there: where it stands already
+fn hold(line: &[u8], names: &mut [u64], first: usize, end: usize, at: usize) -> Option<usize>
     requires filed { Filed line.now names.old first end }
     requires end_in_bounds { end < length names.old }
     requires named { Named line.now at }
@@ -177,17 +177,25 @@ fn hold(line: &[u8], names: &mut [u64], first: usize, end: usize, at: usize) -> 
 }
 
 // a member's name that was not read before is kept with the others: where it ends; else what is wrong
-pub fn enter(line: &[u8], names: &mut [u64], first: usize, end: usize, at: usize) -> Step
+pub fn enter(
+    line: &[u8],
+    names: &mut [u64],
+    first: usize,
+    end: usize,
+    at: usize,
+) -> Result<usize, Bad>
     requires filed { Filed line.now names.old first end }
     requires end_in_bounds { end < length names.old }
     requires at_in_bounds { at ≤ length line.now }
     ensures { Tended line.now names.old names.new first end at result }
 {
-    match string_at(line, at) {
-        Step::Bad(w, p, q) => Step::Bad(w, p, q),
-        Step::At(after) => match hold(line, names, first, end, at) {
-            Known::There(other) => Step::Bad(Fault::RepeatedName, at, other),
-            Known::New => Step::At(after),
-        },
+    let after = string_at(line, at)?;
+    match hold(line, names, first, end, at) {
+        Some(other) => Err(Bad {
+            fault: Fault::RepeatedName,
+            at,
+            first: other,
+        }),
+        None => Ok(after),
     }
 }

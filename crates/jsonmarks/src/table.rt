@@ -2,28 +2,25 @@
 ghost use Rattle.std.specs.Prelude.{◌≡◌, ◌+◌, ◌^◌, ◌/◌, ◌≤◌, ◌<◌, length};
 ghost use Rattle.jsonmarks.specs.Marks.{DigestTold, SlotTold, MarkDue, MarkTold, MarkSet, Outside, AllDue, AllSet, SizeTold};
 
-use jsonread::names::{Cursor, Out, next_byte};
+use jsonread::names::{Cursor, next_byte};
+
+// how many digests there are: 2^40, and how many of them have a mark in the same bit of a cell, 2^34
+const DIGESTS: u64 = 1 << 40;
+
+const DIGESTS_OF_A_BIT: u64 = 1 << 34;
 
 // a number of the bytes that a string stands for
 pub fn digest(line: &[u8], at: usize) -> u64
     requires { at ≤ length line.now }
     ensures { DigestTold line.now at result }
 {
-    let mut x = Cursor {
-        at: at + 1,
-        character: 0,
-        left: 0,
-    };
-    let mut sum: u64 = 0;
-    loop {
-        match next_byte(line, x) {
-            Out::Ended => return sum,
-            Out::Byte(b, n) => {
-                sum = (sum * 1000003 + b as u64) % 1099511627776;
-                x = n;
-            }
-        }
+    let mut x = Cursor::at(at + 1);
+    let mut sum = 0;
+    while let Some((b, next)) = next_byte(line, x) {
+        sum = (sum * 1000003 + u64::from(b)) % DIGESTS;
+        x = next;
     }
+    sum
 }
 
 // the mark of a digest in its cell
@@ -31,7 +28,7 @@ fn bit_of(d: u64) -> u64
     requires { d < 1099511627776 }
     ensures { result ≡ 2 ^ (d / 17179869184) }
 {
-    1u64 << (d / 17179869184)
+    1u64 << (d / DIGESTS_OF_A_BIT)
 }
 
 // the cell of a digest, of so many
@@ -48,7 +45,7 @@ pub fn is_marked(names: &[u64], from: usize, size: usize, d: u64) -> bool
     ensures { MarkTold names.now from size d result }
 {
     let k = from + slot_of(d, size);
-    (names[k] >> (d / 17179869184)) % 2 == 1
+    (names[k] >> (d / DIGESTS_OF_A_BIT)) % 2 == 1
 }
 
 // the mark of a digest is set
@@ -57,8 +54,7 @@ pub fn mark(names: &mut [u64], from: usize, size: usize, d: u64)
     ensures { MarkSet names.old names.new from size d }
 {
     let k = from + slot_of(d, size);
-    let bit = bit_of(d);
-    names[k] = names[k] | bit;
+    names[k] |= bit_of(d);
 }
 
 // no marks; that marks are left would do no harm
@@ -66,11 +62,7 @@ pub fn wipe(names: &mut [u64], from: usize, size: usize)
     requires { from + size ≤ length names.old }
     ensures { Outside names.old names.new from size }
 {
-    let mut i = 0;
-    while i < size {
-        names[from + i] = 0;
-        i += 1;
-    }
+    names[from..from + size].fill(0);
 }
 
 // the marks of all names in these cells
@@ -78,15 +70,10 @@ pub fn mark_all(line: &[u8], names: &mut [u64], first: usize, end: usize, from: 
     requires { AllDue names.old first end from size }
     ensures { AllSet line.now names.old names.new first end from size }
 {
-    let mut k = first;
-    while k < end {
+    for k in first..end {
         let at = names[k] as usize;
         if at < line.len() {
-            let d = digest(line, at);
-            mark(names, from, size, d);
-            k += 1;
-        } else {
-            k += 1;
+            mark(names, from, size, digest(line, at));
         }
     }
 }
@@ -99,13 +86,7 @@ pub fn size_of(line: &[u8], names: &[u64], first: usize) -> usize
     let cells = names.len();
     let owner = names[cells - 1] as usize;
     let size = names[cells - 2] as usize;
-    if owner <= line.len() {
-        return 0;
-    }
-    if owner - line.len() - 1 != first {
-        return 0;
-    }
-    if cells / 4 - 2 < size {
+    if owner <= line.len() || owner - line.len() - 1 != first || cells / 4 - 2 < size {
         return 0;
     }
     size

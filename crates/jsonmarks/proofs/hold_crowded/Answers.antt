@@ -8,8 +8,8 @@ overflow_sub-last c = search (crowd_long, rules)
 pub bounds-names-last : goal.bounds-names-last
 bounds-names-last c = search (crowd_long, rules)
 
-pub returns-in-There : goal.returns-in-There
-returns-in-There c = search (crowd_there, rules)
+pub returns-in-Some : goal.returns-in-Some
+returns-in-Some c = search (crowd_there, rules)
 
 pub returns-then-end-last : goal.returns-then-end-last
 returns-then-end-last c = search (crowd_last, rules)

@@ -8,8 +8,8 @@ digest-d-requires c = search (keep-place, rules)
 pub note-requires : goal.note-requires
 note-requires c = search (held_note, rules)
 
-pub returns-in-There : goal.returns-in-There
-returns-in-There c = search (held-there, rules)
+pub returns-in-Some : goal.returns-in-Some
+returns-in-Some c = search (held-there, rules)
 
-pub returns-in-New : goal.returns-in-New
-returns-in-New c = search (held_new, rules)
+pub returns : goal.returns
+returns c = search (held_new, rules)

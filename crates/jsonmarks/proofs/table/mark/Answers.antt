@@ -8,8 +8,8 @@ slot_of-requires c = search (mark-some, rules)
 pub overflow_add-k : goal.overflow_add-k
 overflow_add-k c = search (mark-at, rules)
 
-pub bit_of-bit-requires : goal.bit_of-bit-requires
-bit_of-bit-requires c = search (mark_digest, rules)
+pub bit_of-requires : goal.bit_of-requires
+bit_of-requires c = search (mark_digest, rules)
 
 pub bounds-names-k : goal.bounds-names-k
 bounds-names-k c = search (mark-at, rules)

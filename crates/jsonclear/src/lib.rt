@@ -3,10 +3,9 @@
 #![tactic(auto)]
 
 ghost use Rattle.std.specs.Prelude.{◌≡◌, Bool, false, ◌+◌, ◌*◌, ◌<◌, ◌≤◌};
-ghost use Rattle.meaning.specs.Tests.{all_below};
-ghost use Rattle.meaning.specs.Case.{values, points, lists, point_at};
+ghost use Rattle.meaning.specs.Tests.{◌and◌, all_below};
+ghost use Rattle.meaning.specs.Case.{values, points, lists, point_at, point_word};
 ghost use Rattle.meaning.specs.Check.{Checked};
-ghost use Rattle.meaning.specs.Equal.{same_list};
 ghost use Rattle.laws.specs.Tests.{Filled};
 ghost use Rattle.jsontrace.specs.Export.{event_of, point_events, form_name, clear_event, clear_events};
 ghost use Rattle.jsonclear.specs.Clear.{own_clear, clear_at, mark_at, maybe_marked, entity_clear, Entities, fields_clear};
@@ -14,31 +13,13 @@ ghost use Rattle.jsonclear.specs.Clear.{own_clear, clear_at, mark_at, maybe_mark
 use jsonput::words_of;
 use meaning::{StrNo, ValNo};
 use stringcheck::{list_count, point_count, value_count};
-use tables::{both, either, list_at, member_word, point_word, text_of, wide};
+use tables::{list_at, member_word, point_word, text_of};
 use valuecheck::parts_marked;
-
-fn same_bytes(a: &[u8], b: &[u8]) -> bool
-    ensures { ◌≡◌ {A = Bool} result (same_list a.now b.now) }
-{
-    if a.len() != b.len() {
-        return false;
-    }
-    let mut i = 0;
-    while i < a.len() {
-        if a[i] != b[i] {
-            return false;
-        }
-        i += 1;
-    }
-    true
-}
 
 fn form_name(t: &[u8]) -> bool
     ensures { ◌≡◌ {A = Bool} result (form_name t.now) }
 {
-    let entity = same_bytes(t, b"__entity");
-    let extension = same_bytes(t, b"__extn");
-    either(entity, extension)
+    t == b"__entity".as_slice() || t == b"__extn".as_slice()
 }
 
 // not an object of one member alone that has such a name
@@ -47,14 +28,9 @@ fn own_clear(s: &[u8], v: u32) -> bool
     ensures { ◌≡◌ {A = Bool} result (own_clear s.now v) }
 {
     let h = words_of(s, ValNo(v));
-    if h.kind != 7 {
-        return true;
-    }
-    if h.items != 1 {
-        return true;
-    }
-    let name = member_word(s, wide(h.first), 0);
-    !form_name(text_of(s, StrNo(name)))
+    h.kind != 7
+        || h.items != 1
+        || !form_name(text_of(s, StrNo(member_word(s, h.first as usize, 0))))
 }
 
 // which values have no such object in them: what a value holds has lower numbers
@@ -65,13 +41,11 @@ fn clear_values(s: &[u8]) -> [bool; 16384]
     let n = value_count(s);
     let mut marks = [false; 16384];
     let mut blocks = [false; 1024];
-    let mut v = 0;
-    while v < n {
+    for v in 0..n {
+        // both are asked, since the second fills the blocks
         let own = own_clear(s, v);
         let parts = parts_marked(s, &marks, &mut blocks, v);
-        let at = wide(v);
-        marks[at] = both(own, parts);
-        v += 1;
+        marks[v as usize] = own && parts;
     }
     marks
 }
@@ -80,20 +54,13 @@ fn clear_values(s: &[u8]) -> [bool; 16384]
 fn is_clear(marks: &[bool; 16384], v: u32) -> bool
     ensures { ◌≡◌ {A = Bool} result (mark_at marks.now v) }
 {
-    if 16384 <= v {
-        return false;
-    }
-    let at = wide(v);
-    marks[at]
+    v < 16384 && marks[v as usize]
 }
 
 fn maybe_clear(marks: &[bool; 16384], v: u32) -> bool
     ensures { ◌≡◌ {A = Bool} result (maybe_marked marks.now v) }
 {
-    if v == 4294967295 {
-        return true;
-    }
-    is_clear(marks, v)
+    v == u32::MAX || is_clear(marks, v)
 }
 
 // ---- entities: three words each
@@ -104,12 +71,10 @@ fn entities_clear(s: &[u8], marks: &[bool; 16384], first: usize, items: usize) -
     requires bound { first + 3 * items < 4294967296 }
     ensures { ◌≡◌ {A = Bool} result (all_below items (entity_clear s.now marks.now first)) }
 {
-    let mut i = 0;
-    while i < items {
+    for i in 0..items {
         if !is_clear(marks, list_at(s, first + 3 * i + 2)) {
             return false;
         }
-        i += 1;
     }
     true
 }
@@ -119,12 +84,10 @@ fn entity_blocks(s: &[u8], marks: &[bool; 16384]) -> [bool; 2052]
     requires { Checked s.now }
     ensures { Entities s.now marks.now result }
 {
-    let n = 3 * (wide(list_count(s)) / 1536);
+    let n = 3 * (list_count(s) as usize / 1536);
     let mut blocks = [false; 2052];
-    let mut k = 0;
-    while k < n {
+    for k in 0..n {
         blocks[k] = entities_clear(s, marks, 1536 * (k / 3) + k % 3, 512);
-        k += 1;
     }
     blocks
 }
@@ -144,6 +107,7 @@ fn run_clear(
     ensures { ◌≡◌ {A = Bool} result (all_below items (entity_clear s.now marks.now first)) }
 {
     let mut i = 0;
+    // a while: a step is one entity or a block of 512, which no range says
     while i < items {
         let at = first + 3 * i;
         if 3 <= at % 1536 || items - i < 512 {
@@ -164,15 +128,27 @@ fn run_clear(
 
 // ---- points
 
+// logged and context
+fn records_clear(s: &[u8], marks: &[bool; 16384], p: usize) -> bool
+    requires { Checked s.now }
+    ensures { ◌≡◌ {A = Bool} result (mark_at marks.now (point_word s.now p 6) and mark_at marks.now (point_word s.now p 7)) }
+{
+    is_clear(marks, point_word(s, p, 6)) && is_clear(marks, point_word(s, p, 7))
+}
+
+// principal and resource
+fn parties_clear(s: &[u8], marks: &[bool; 16384], p: usize) -> bool
+    requires { Checked s.now }
+    ensures { ◌≡◌ {A = Bool} result (maybe_marked marks.now (point_word s.now p 8) and maybe_marked marks.now (point_word s.now p 9)) }
+{
+    maybe_clear(marks, point_word(s, p, 8)) && maybe_clear(marks, point_word(s, p, 9))
+}
+
 fn fields_clear(s: &[u8], marks: &[bool; 16384], p: usize) -> bool
     requires { Checked s.now }
     ensures { ◌≡◌ {A = Bool} result (fields_clear s.now marks.now p) }
 {
-    let logged = is_clear(marks, point_word(s, p, 6));
-    let context = is_clear(marks, point_word(s, p, 7));
-    let principal = maybe_clear(marks, point_word(s, p, 8));
-    let resource = maybe_clear(marks, point_word(s, p, 9));
-    both(both(logged, context), both(principal, resource))
+    records_clear(s, marks, p) && parties_clear(s, marks, p)
 }
 
 fn point_clear(s: &[u8], marks: &[bool; 16384], blocks: &[bool; 2052], p: usize) -> bool
@@ -185,9 +161,9 @@ fn point_clear(s: &[u8], marks: &[bool; 16384], blocks: &[bool; 2052], p: usize)
     if !fields_clear(s, marks, p) {
         return false;
     }
-    let first = wide(point_word(s, p, 10));
-    let items = wide(point_word(s, p, 11));
-    run_clear(s, marks, blocks, first, items)
+    let first = point_word(s, p, 10);
+    let items = point_word(s, p, 11);
+    run_clear(s, marks, blocks, first as usize, items as usize)
 }
 
 // no point reaches such an object
@@ -197,13 +173,11 @@ pub fn all_clear(s: &[u8]) -> bool
 {
     let marks = clear_values(s);
     let blocks = entity_blocks(s, &marks);
-    let n = wide(point_count(s));
-    let mut p = 0;
-    while p < n {
+    let n = point_count(s) as usize;
+    for p in 0..n {
         if !point_clear(s, &marks, &blocks, p) {
             return false;
         }
-        p += 1;
     }
     true
 }

@@ -14,7 +14,7 @@ ghost use Rattle.jsonpoints.specs.Lines.{word_text, type_text, identity_text, ob
 use jsonput::{put_after, put_byte, put_comma, put_integer, put_piece, put_string, put_value};
 use meaning::{StrNo, ValNo};
 use stringcheck::point_count;
-use tables::{halves, list_at, point_word, wide};
+use tables::{halves, list_at, point_word};
 
 // ---- fields: a piece, then word j of point p
 
@@ -50,10 +50,12 @@ fn put_maybe_field(s: &[u8], piece: &[u8], p: usize, j: usize, out: &mut [u8], a
     requires j_in_bounds { at + length (maybe_text s.now piece.now (point_word s.now p j)) ≤ length out.old }
     ensures { Put out.old out.new at (maybe_text s.now piece.now (point_word s.now p j)) result }
 {
-    if point_word(s, p, j) == 4294967295 {
-        return at;
+    // u32::MAX stands for none
+    if point_word(s, p, j) == u32::MAX {
+        at
+    } else {
+        put_value_field(s, piece, p, j, out, at)
     }
-    put_value_field(s, piece, p, j, out, at)
 }
 
 // ---- runs of the lists
@@ -74,11 +76,8 @@ fn put_words(s: &[u8], first: u32, items: u32, out: &mut [u8], at: usize) -> usi
     ensures { Put out.old out.new at (run_text (word_text s.now) first 1 items) result }
 {
     let mut next = at;
-    let mut i = 0;
-    while i < items {
-        let m = wide(first) + wide(i);
-        next = put_word(s, i, m, out, next);
-        i += 1;
+    for i in 0..items {
+        next = put_word(s, i, first as usize + i as usize, out, next);
     }
     next
 }
@@ -111,7 +110,7 @@ fn put_attributes(s: &[u8], m: usize, out: &mut [u8], at: usize) -> usize
     ensures { Put out.old out.new at (object_text s.now m) result }
 {
     let next = put_value_after(s, b",", ValNo(list_at(s, m + 2)), out, at);
-    put_byte(out, next, 93)
+    put_byte(out, next, b']')
 }
 
 fn put_entity(s: &[u8], i: u32, m: usize, out: &mut [u8], at: usize) -> usize
@@ -131,11 +130,8 @@ fn put_entities(s: &[u8], first: u32, items: u32, out: &mut [u8], at: usize) -> 
     ensures { Put out.old out.new at (run_text (entity_text s.now) first 3 items) result }
 {
     let mut next = at;
-    let mut i = 0;
-    while i < items {
-        let m = wide(first) + 3 * wide(i);
-        next = put_entity(s, i, m, out, next);
-        i += 1;
+    for i in 0..items {
+        next = put_entity(s, i, first as usize + 3 * i as usize, out, next);
     }
     next
 }
@@ -261,12 +257,10 @@ pub fn put_lines(s: &[u8], out: &mut [u8], at: usize) -> usize
     requires s_in_bounds { at + length (lines_text s.now (points s.now)) ≤ length out.old }
     ensures { Put out.old out.new at (lines_text s.now (points s.now)) result }
 {
-    let n = wide(point_count(s));
+    let n = point_count(s) as usize;
     let mut next = at;
-    let mut p = 0;
-    while p < n {
+    for p in 0..n {
         next = put_line(s, p, out, next);
-        p += 1;
     }
     next
 }

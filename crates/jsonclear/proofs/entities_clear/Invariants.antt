@@ -1,9 +1,5 @@
 use Rattle.jsonclear.specs.Laws.Points.{Going}
-use Prim.Native.Nat.{◌-◌}
 use Rattle.jsonclear.proofs.entities_clear.Given as goal
 
 abbrev pub invariant-loop-i : goal.invariant-loop-i
 invariant-loop-i l = Going l.s l.marks l.first l.items l.i
-
-abbrev pub decreases-loop-i : goal.decreases-loop-i
-decreases-loop-i l = l.items - l.i

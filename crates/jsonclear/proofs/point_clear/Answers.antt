@@ -6,11 +6,11 @@ use Rattle.jsonclear.proofs.point_clear.Goals as goal
 pub returns-then-not-fields_clear : goal.returns-then-not-fields_clear
 returns-then-not-fields_clear c = search (point-no, rules)
 
-pub point_word-requires : goal.point_word-requires
-point_word-requires c = search (checked-bodies, rules)
+pub point_word-first-requires : goal.point_word-first-requires
+point_word-first-requires c = search (checked-bodies, rules)
 
-pub point_word-requires-2 : goal.point_word-requires-2
-point_word-requires-2 c = search (checked-bodies, rules)
+pub point_word-items-requires : goal.point_word-items-requires
+point_word-items-requires c = search (checked-bodies, rules)
 
 pub run_clear-requires-clause-bound : goal.run_clear-requires-clause-bound
 run_clear-requires-clause-bound c = search (run_fits, rules)

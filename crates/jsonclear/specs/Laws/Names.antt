@@ -7,66 +7,49 @@ use Rattle.meaning.specs.Tests.{◌and◌, ◌or◌}
 use Rattle.meaning.specs.Case.{text, member_word, value_word}
 use Rattle.meaning.specs.Equal.{same_list}
 use Rattle.laws.specs.Tests.{stop, skip, after}
+use Rattle.laws.specs.Text.{same-list, list_same}
+use Rattle.std.specs.Str.{bytes_eq}
+use Rattle.std.proofs.lemmas.Bool.Decides.{same_from_decides}
+use Rattle.std.proofs.lemmas.Slice.Eq.{bytes_eq-Decides}
 use Rattle.jsontext.specs.Values.{__entity, __extn}
 use Rattle.jsontrace.specs.Export.{form_name}
 use Rattle.jsonput.specs.Values.{Read}
 use Rattle.jsonclear.specs.Clear.{own_clear}
 
+-- ---- two tests, the second where the first is met
+
+pub met : {r x y : Bool} → x ≡ true → r ≡ y → r ≡ (x and y)
+met e q = q ∙ sym (after e)
+
+pub unmet : {r x : Bool} (y : Bool) → x ≡ false → r ≡ false → r ≡ (x and y)
+unmet y e q = q ∙ sym (stop y e)
+
 -- ---- two strings
 
-pub unequal : (a b : List ℕ) → (length a ≡ length b → ⊥) → false ≡ same_list a b
-unfolding same_list
-unequal [] [] n = absurd (n refl)
-unequal [] (y ∷ b) n = refl
-unequal (x ∷ a) [] n = refl
-unequal (x ∷ a) (y ∷ b) n = sym (skip (eqb x y) (sym (unequal a b (λ e. n (ap suc e)))))
+pub bytes_same : (a b : List ℕ) → bytes_eq a b ≡ same_list a b
+bytes_same a b = same_from_decides (bytes_eq a b) (same_list a b) (bytes_eq-Decides a b) (same-list a b, list_same a b)
 
-drop_all : (a : List ℕ) (i : ℕ) → length a ≤ i → drop i a ≡ []
-drop_all [] zero h = refl
-drop_all [] (suc i) h = refl
-drop_all (x ∷ a) zero h = absurd (omega arith)
-drop_all (x ∷ a) (suc i) h = drop_all a i (omega arith)
+same_as : (t u v : List ℕ) {r : Bool} → r ≡ bytes_eq t u → u ≡ v → r ≡ same_list t v
+same_as t u v e q = e ∙ bytes_same t u ∙ ap (same_list t) q
 
--- the first i bytes are the same
-pub record Matching (a b : List ℕ) (i : ℕ) : Type 0 where
-  pub low : i ≤ length a
-  pub long : length a ≡ length b
-  pub is : same_list a b ≡ same_list (drop i a) (drop i b)
+pub form_first : (t u : List ℕ) {r : Bool} → r ≡ bytes_eq t u → u ≡ __entity → r ≡ true → r ≡ form_name t
+unfolding form_name ◌or◌
+form_first t u e q h = h ∙ sym (rw (sym (same_as t u __entity e q) ∙ h) refl)
 
-pub matching_none : {a b : List ℕ} → length a ≡ length b → Matching a b 0
-matching_none e = record { low = omega arith; long = e; is = refl }
-
-matching_step : (a b : List ℕ) (i : ℕ) → Matching a b i → i < length a → same_list a b ≡ (eqb (get_or a i 0) (get_or b i 0) and same_list (drop (suc i) a) (drop (suc i) b))
-matching_step a b i g l =
-    g.is ∙ ap₂ same_list (drop-cons a i 0 l) (drop-cons b i 0 (omega (arith, g.long))) ∙ (unfold same_list in refl)
-
-pub matching_more : {a b : List ℕ} {i : ℕ} → Matching a b i → i < length a → get_or a i 0 ≡ get_or b i 0 → Matching a b (i + 1)
-matching_more {a} {b} {i} g l e = record {
-  low = omega arith;
-  long = g.long;
-  is = matching_step a b i g l ∙ after (eq-eqb _ _ e) ∙ sym (ap (λ (n : ℕ). same_list (drop n a) (drop n b)) (add-one i));
-}
-
-pub matching_stop : (a b : List ℕ) {i : ℕ} → Matching a b i → i < length a → (get_or a i 0 ≡ get_or b i 0 → ⊥) → false ≡ same_list a b
-matching_stop a b {i} g l n = sym (matching_step a b i g l ∙ stop _ (ne_eqb _ _ n))
-
-pub matching_all : (a b : List ℕ) {i : ℕ} → Matching a b i → length a ≤ i → true ≡ same_list a b
-matching_all a b {i} g h = sym (g.is ∙ ap₂ same_list (drop_all a i h) (drop_all b i (omega (arith, g.long))) ∙ (unfold same_list in refl))
-
-pub form-is : (t : List ℕ) (r x y : Bool) → r ≡ (x or y) → x ≡ same_list t __entity → y ≡ same_list t __extn → r ≡ form_name t
-unfolding form_name
-form-is t r x y er ex ey = er ∙ ap₂ ◌or◌ ex ey
+pub form_second : (t u v : List ℕ) {r x : Bool} → x ≡ bytes_eq t u → u ≡ __entity → x ≡ false → r ≡ bytes_eq t v → v ≡ __extn → r ≡ form_name t
+unfolding form_name ◌or◌
+form_second t u v e q h f p = same_as t v __extn f p ∙ sym (rw (sym (same_as t u __entity e q) ∙ h) refl)
 
 -- ---- a value's own test
 
 module _ (s : List ℕ) (v : ℕ) where
-  pub own-other : {k a b : ℕ} → Read s v k a b → (k ≡ 7 → ⊥) → true ≡ own_clear s v
+  pub own-other : {k a b : ℕ} {t : Bool} → t ≡ true → Read s v k a b → (k ≡ 7 → ⊥) → t ≡ own_clear s v
   unfolding own_clear
-  own-other r n = sym (ap not (stop _ (ne_eqb _ 7 (λ e. n (r.kind ∙ e)))))
+  own-other e r n = e ∙ sym (ap not (stop _ (ne_eqb _ 7 (λ e. n (r.kind ∙ e)))))
 
-  pub own-many : {k a b : ℕ} → Read s v k a b → (b ≡ 1 → ⊥) → true ≡ own_clear s v
+  pub own-many : {k a b : ℕ} {t : Bool} → t ≡ not (eqb b 1) → Read s v k a b → (b ≡ 1 → ⊥) → t ≡ own_clear s v
   unfolding own_clear
-  own-many r n = sym (ap not (skip (eqb (value_word s v 0) 7) (stop _ (ne_eqb _ 1 (λ e. n (r.items ∙ e))))))
+  own-many e r n = e ∙ ap not (ne_eqb _ 1 n) ∙ sym (ap not (skip (eqb (value_word s v 0) 7) (stop _ (ne_eqb _ 1 (λ e. n (r.items ∙ e))))))
 
   pub own_name : {k a b : ℕ} (w m : ℕ) (t : List ℕ) (r : Bool) → Read s v k a b → k ≡ 7 → b ≡ 1 → r ≡ form_name t → t ≡ text s m → m ≡ member_word s w 0 → w ≡ a → not r ≡ own_clear s v
   unfolding own_clear

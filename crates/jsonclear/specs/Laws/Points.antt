@@ -42,11 +42,6 @@ pub maybe-some : (marks : List Bool) (v : ℕ) (r : Bool) → r ≡ mark_at mark
 unfolding maybe_marked
 maybe-some marks v r e n = e ∙ sym (no _ (ne_eqb v 4294967295 n) refl)
 
-pub fields-are : (s : List ℕ) (marks : List Bool) (p : ℕ) (r x y a b d e : Bool) (ka kb kd ke : ℕ) → r ≡ (x and y) → x ≡ (a and b) → y ≡ (d and e) → a ≡ mark_at marks ka → b ≡ mark_at marks kb → d ≡ maybe_marked marks kd → e ≡ maybe_marked marks ke → ka ≡ point_word s p 6 → kb ≡ point_word s p 7 → kd ≡ point_word s p 8 → ke ≡ point_word s p 9 → r ≡ fields_clear s marks p
-unfolding fields_clear
-fields-are s marks p r x y a b d e ka kb kd ke er ex ey ea eb ed ee ja jb jd je =
-    er ∙ ap₂ ◌and◌ (ex ∙ ap₂ ◌and◌ (ea ∙ ap (mark_at marks) ja) (eb ∙ ap (mark_at marks) jb)) (ey ∙ ap₂ ◌and◌ (ed ∙ ap (maybe_marked marks) jd) (ee ∙ ap (maybe_marked marks) je))
-
 -- ---- entities one by one
 
 pub record Going (s : List ℕ) (marks : List Bool) (first items i : ℕ) : Type 0 where

@@ -1,9 +1,5 @@
 use Rattle.jsonpoints.specs.Laws.{Lining}
-use Prim.Native.Nat.{◌-◌}
 use Rattle.jsonpoints.proofs.put_lines.Given as goal
 
 abbrev pub invariant-loop-p : goal.invariant-loop-p
 invariant-loop-p l = Lining l.s l.n l.initial.out l.out l.at l.p l.next
-
-abbrev pub decreases-loop-p : goal.decreases-loop-p
-decreases-loop-p l = l.n - l.p

@@ -12,5 +12,5 @@ returns-then-point_word c = search (maybe-none, rules)
 pub put_value_field-requires-clause-j_in_bounds : goal.put_value_field-requires-clause-j_in_bounds
 put_value_field-requires-clause-j_in_bounds c = search (maybe-room, rules)
 
-pub returns : goal.returns
-returns c = search (maybe-put, rules)
+pub returns-else-point_word : goal.returns-else-point_word
+returns-else-point_word c = search (maybe-put, rules)

@@ -1,4 +1,5 @@
 -- A form's members, one after another
+use Rattle.std.specs.Prelude.{Result, Ok, Err}
 use mathlib.Core.Path.{◌≡◌, refl, sym, ap, subst, ◌∙◌}
 use mathlib.Core.Bool.{Bool, true, false, not}
 use mathlib.Core.List.{List, [], ◌∷◌}
@@ -13,9 +14,8 @@ use Rattle.laws.specs.Tests.{both as each, yes, no as otherwise}
 use Rattle.meaning.specs.Equal.{same_list}
 use Rattle.jsontext.specs.declared.Fault.{Fault}
 use Rattle.jsontext.specs.declared.Fault.TheVariants.{NotJson, RepeatedName, BadField}
-use Rattle.jsontext.specs.declared.Step.{Step}
-use Rattle.jsontext.specs.declared.Step.TheVariants.{At, Bad}
-use Rattle.jsontext.specs.Reading.{Read, got, fault, then, no, blanks, want}
+use Rattle.jsontext.specs.declared.Bad.{Bad}
+use Rattle.jsontext.specs.Reading.{Read, got, fault, then, no, blanks, want, wrong}
 use Rattle.jsontext.specs.Strings.{string}
 use Rattle.jsontext.specs.Values.{Name, J, text, before, after_part, members, unless_empty, object, member_of, «decimal», both, argument}
 use Rattle.jsonread.specs.Told.{Told, Blanks}
@@ -25,7 +25,7 @@ use Rattle.jsonpairs.specs.declared.Which.TheVariants.{First, Second, Neither}
 use Rattle.jsonpairs.specs.declared.Two.{Two}
 use Rattle.jsonpairs.specs.declared.Turn.{Turn}
 use Rattle.jsonpairs.specs.declared.Turn.TheVariants.{On, Done}
-use Rattle.jsonpairs.specs.Pairs.{first_of, second_of, which_of, WhichTold, is_one, value_by, form_of, two_of, item_of, member_after, rest_of, next_of, Noted, Taken, Onward, TurnTold, Further, NextTold}
+use Rattle.jsonpairs.specs.Pairs.{first_of, second_of, which_of, WhichTold, is_one, value_by, form_of, two_of, item_of, member_after, rest_of, next_of, Noted, Taken, Onward, ended, TurnTold, Further, NextTold}
 use Rattle.jsonread.proofs.Then.{then_same, then-got, then-fault, then_bad}
 use Rattle.jsonpairs.proofs.Members.{named, members-unread, members-again, members-unknown, members-new, after_none, after-byte}
 
@@ -293,18 +293,28 @@ module _ (line : List ℕ) (x : Bool) (at after : ℕ) {n : List ℕ} (seen : Li
 
 -- ---- a turn
 
+ended-is : (s r : Result ℕ Bad) → ended s ≡ ended r → s ≡ r
+ended-is (Ok e) (Ok f) q = let z : e ≡ f = cc in ap Ok z
+ended-is (Ok e) (Err b) q = absurd (let z : ◌≡◌ {A = ℕ} 0 1 = cc in omega arith)
+ended-is (Err b) (Ok e) q = absurd (let z : ◌≡◌ {A = ℕ} 0 1 = cc in omega arith)
+ended-is (Err b) (Err d) q = let z : b ≡ d = cc in ap Err z
+
+not-on : (s : Result ℕ Bad) (n : Two) → ended s ≡ Ok (On n) → ⊥
+not-on (Ok e) n q = let z : ◌≡◌ {A = ℕ} 0 1 = cc in omega arith
+not-on (Err b) n q = let z : ◌≡◌ {A = ℕ} 0 1 = cc in omega arith
+
 module _ {line : List ℕ} {first second end : ℕ} where
-  turn-done : {s : Step} → ((x : Bool) (a b : Option (List ℕ)) (turns : ℕ) (seen : List Name) → Taken line x first second a b seen → Told line end s (next_of x a b turns seen (blanks (drop end line)))) → TurnTold line first second end (Done s)
+  turn-done : {s : Result ℕ Bad} → ((x : Bool) (a b : Option (List ℕ)) (turns : ℕ) (seen : List Name) → Taken line x first second a b seen → Told line end s (next_of x a b turns seen (blanks (drop end line)))) → TurnTold line first second end (ended s)
   turn-done {s} g =
       record {
-        done = λ r q x a b turns seen t. let z : s ≡ r = cc in subst (λ (r : Step). Told line end r (next_of x a b turns seen (blanks (drop end line)))) z (g x a b turns seen t);
-        on = λ n q. absurd (let z : ◌≡◌ {A = ℕ} 0 1 = cc in omega arith);
+        done = λ r q x a b turns seen t. let z : s ≡ r = ended-is s r q in subst (λ (r : Result ℕ Bad). Told line end r (next_of x a b turns seen (blanks (drop end line)))) z (g x a b turns seen t);
+        on = λ n q. absurd (not-on s n q);
       }
 
-  turn_on : {n : Two} → Onward line first second end n → TurnTold line first second end (On n)
+  turn_on : {n : Two} → Onward line first second end n → TurnTold line first second end (Ok (On n))
   turn_on {n} o =
       record {
-        done = λ r q. absurd (let z : ◌≡◌ {A = ℕ} 0 1 = cc in omega arith);
+        done = λ r q. absurd (not-on r n (sym q));
         on = λ m q. let z : n ≡ m = cc in subst (λ (m : Two). Onward line first second end m) z o;
       }
 
@@ -326,7 +336,7 @@ above zero d = absurd (d refl)
 above (suc k) d = omega arith
 
 -- wrong at the byte before what is left
-wrong-before : {A : Type 0} {line : List ℕ} {at k : ℕ} {w : Fault} {m : Read A} → at < length line → m ≡ fault w (suc (length (drop (at + 1) line))) (suc (length (drop (at + 1) line))) → Told line k (Bad w at at) m
+wrong-before : {A : Type 0} {line : List ℕ} {at k : ℕ} {w : Fault} {m : Read A} → at < length line → m ≡ fault w (suc (length (drop (at + 1) line))) (suc (length (drop (at + 1) line))) → Told line k (Err (wrong w at)) m
 wrong-before {A} {line} {at} {w = w} h e =
     let z : suc (length (drop (at + 1) line)) ≡ length line - at = omega (arith, length-drop (at + 1) line) in
     told_bad (record { place = omega arith; first = omega arith; is = rw z at e })
@@ -335,16 +345,16 @@ module _ {line : List ℕ} {end at : ℕ} (b : Blanks line end at) where
   here : (x : Bool) (a c : Option (List ℕ)) (turns : ℕ) (seen : List Name) → next_of x a c turns seen (blanks (drop end line)) ≡ next_of x a c turns seen (drop at line)
   here x a c turns seen = ap (next_of x a c turns seen) (sym b.is)
 
-  pub turn-cut : {first second : ℕ} → length line ≤ at → TurnTold line first second end (Done (Bad NotJson at at))
+  pub turn-cut : {first second : ℕ} → length line ≤ at → TurnTold line first second end (Err (wrong NotJson at))
   unfolding next_of
-  turn-cut h = turn-done (λ x a c turns seen t. wrong-here b.within (here x a c turns seen ∙ rw (drop_of_length-le line h)))
+  turn-cut h = turn-done {s = Err (wrong NotJson at)} (λ x a c turns seen t. wrong-here b.within (here x a c turns seen ∙ rw (drop_of_length-le line h)))
 
   module _ (h : at < length line) where
     here-byte : (x : Bool) (a c : Option (List ℕ)) (turns : ℕ) (seen : List Name) → next_of x a c turns seen (blanks (drop end line)) ≡ choose (eqb (get_or line at 0) 125) (both (form_of x) a c (drop (at + 1) line)) (choose (eqb (get_or line at 0) 44) (rest_of x a c turns seen (blanks (drop (at + 1) line))) (no NotJson (drop at line)))
     unfolding next_of
     here-byte x a c turns seen = here x a c turns seen ∙ rw (byte_at line at h)
 
-    pub turn-comma : {first second next : ℕ} → get_or line at 0 ≡ 44 → Blanks line (at + 1) next → TurnTold line first second end (On (record { first = first; second = second; at = next }))
+    pub turn-comma : {first second next : ℕ} → get_or line at 0 ≡ 44 → Blanks line (at + 1) next → TurnTold line first second end (Ok (On (record { first = first; second = second; at = next })))
     turn-comma e d =
         turn_on
         (record {
@@ -356,23 +366,23 @@ module _ {line : List ℕ} {end at : ℕ} (b : Blanks line end at) where
         })
 
     module _ (n : get_or line at 0 ≡ 44 → ⊥) where
-      pub turn-other : {first second : ℕ} → (get_or line at 0 ≡ 125 → ⊥) → TurnTold line first second end (Done (Bad NotJson at at))
-      turn-other m = turn-done (λ x a c turns seen t. wrong-here b.within (here-byte x a c turns seen ∙ otherwise _ (ne_eqb _ _ m) (otherwise _ (ne_eqb _ _ n) refl)))
+      pub turn-other : {first second : ℕ} → (get_or line at 0 ≡ 125 → ⊥) → TurnTold line first second end (Err (wrong NotJson at))
+      turn-other m = turn-done {s = Err (wrong NotJson at)} (λ x a c turns seen t. wrong-here b.within (here-byte x a c turns seen ∙ otherwise _ (ne_eqb _ _ m) (otherwise _ (ne_eqb _ _ n) refl)))
 
       module _ (e : get_or line at 0 ≡ 125) where
         closed : (x : Bool) (a c : Option (List ℕ)) (turns : ℕ) (seen : List Name) → next_of x a c turns seen (blanks (drop end line)) ≡ both (form_of x) a c (drop (at + 1) line)
         closed x a c turns seen = here-byte x a c turns seen ∙ yes _ (eq-eqb _ _ e)
 
-        pub turn-no-first : {first second : ℕ} → first ≡ 0 → TurnTold line first second end (Done (Bad BadField at at))
-        turn-no-first z = turn-done (λ x a c turns seen t. wrong-before h (closed x a c turns seen ∙ both_first x a c (drop (at + 1) line) (t.one.lacks z)))
+        pub turn-no-first : {first second : ℕ} → first ≡ 0 → TurnTold line first second end (Err (wrong BadField at))
+        turn-no-first z = turn-done {s = Err (wrong BadField at)} (λ x a c turns seen t. wrong-before h (closed x a c turns seen ∙ both_first x a c (drop (at + 1) line) (t.one.lacks z)))
 
         module _ {first second : ℕ} (f : first ≡ 0 → ⊥) where
-          pub turn-no-second : second ≡ 0 → TurnTold line first second end (Done (Bad BadField at at))
-          turn-no-second z = turn-done (λ x a c turns seen t. wrong-before h (closed x a c turns seen ∙ both-second x a c (drop (at + 1) line) (t.two.lacks z)))
+          pub turn-no-second : second ≡ 0 → TurnTold line first second end (Err (wrong BadField at))
+          turn-no-second z = turn-done {s = Err (wrong BadField at)} (λ x a c turns seen t. wrong-before h (closed x a c turns seen ∙ both-second x a c (drop (at + 1) line) (t.two.lacks z)))
 
-          pub turn-both : (second ≡ 0 → ⊥) → TurnTold line first second end (Done (At (at + 1)))
+          pub turn-both : (second ≡ 0 → ⊥) → TurnTold line first second end (Ok (Done (at + 1)))
           turn-both g =
-              turn-done
+              turn-done {s = Ok (at + 1)}
               (λ x a c turns seen t.
               let v = t.one.found (above first f) in
               let w = t.two.found (above second g) in
@@ -384,20 +394,20 @@ moved : {line : List ℕ} {x : Bool} {p q r s : ℕ} {a b : Option (List ℕ)} {
 moved {line} {x} {p} {q} {r} {s} {a} {b} {seen} e f t = subst (λ (p : ℕ). Taken line x p q a b seen) (sym e) (subst (λ (q : ℕ). Taken line x r q a b seen) (sym f) t)
 
 module _ (line : List ℕ) (t : Two) (x : Bool) where
-  next-done : {s : Step} → ((a b : Option (List ℕ)) (turns : ℕ) (seen : List Name) → Taken line x t.first t.second a b seen → Told line t.at s (rest_of x a b (suc turns) seen (drop t.at line))) → NextTold line t x (Done s)
+  next-done : {s : Result ℕ Bad} → ((a b : Option (List ℕ)) (turns : ℕ) (seen : List Name) → Taken line x t.first t.second a b seen → Told line t.at s (rest_of x a b (suc turns) seen (drop t.at line))) → NextTold line t x (ended s)
   next-done {s} g =
       record {
-        done = λ r q a b turns seen k. let z : s ≡ r = cc in subst (λ (r : Step). Told line t.at r (rest_of x a b (suc turns) seen (drop t.at line))) z (g a b turns seen k);
-        on = λ n q. absurd (let z : ◌≡◌ {A = ℕ} 0 1 = cc in omega arith);
+        done = λ r q a b turns seen k. let z : s ≡ r = ended-is s r q in subst (λ (r : Result ℕ Bad). Told line t.at r (rest_of x a b (suc turns) seen (drop t.at line))) z (g a b turns seen k);
+        on = λ n q. absurd (not-on s n q);
       }
 
-  module _ {y : Step} (s : Told line t.at y (string (drop t.at line))) where
-    pub next-unread : {w : Fault} {p q : ℕ} → y ≡ Bad w p q → NextTold line t x (Done (Bad w p q))
-    next-unread e =
-        let f = s.faulty _ _ _ e in
-        next-done (λ a b turns seen k. told_bad (record { place = f.place; first = f.first; is = rest-is x a b (suc turns) seen (drop t.at line) ∙ members-unread (is_one x) (value_by x) turns seen (drop t.at line) (λ ms rest. made x a b ms rest) f.is }))
+  module _ {y : Result ℕ Bad} (s : Told line t.at y (string (drop t.at line))) where
+    pub next-unread : {b : Bad} → y ≡ Err b → NextTold line t x (Err b)
+    next-unread {b} e =
+        let f = s.faulty _ e in
+        next-done {s = Err b} (λ a b turns seen k. told_bad (record { place = f.place; first = f.first; is = rest-is x a b (suc turns) seen (drop t.at line) ∙ members-unread (is_one x) (value_by x) turns seen (drop t.at line) (λ ms rest. made x a b ms rest) f.is }))
 
-    module _ {after : ℕ} {h : Which} (e : y ≡ At after) (k : WhichTold line t.at x h) where
+    module _ {after : ℕ} {h : Which} (e : y ≡ Ok after) (k : WhichTold line t.at x h) where
       abbrev name : List ℕ
       name = (s.stands after e).what
 
@@ -407,16 +417,16 @@ module _ (line : List ℕ) (t : Two) (x : Bool) where
       which-is : h ≡ which_of x name
       which-is = k name (drop after line) name-is
 
-      pub next-neither : t.at ≤ length line → h ≡ Neither → NextTold line t x (Done (Bad BadField t.at t.at))
+      pub next-neither : t.at ≤ length line → h ≡ Neither → NextTold line t x (Err (wrong BadField t.at))
       next-neither l f =
           let n : which_of x name ≡ Neither = sym which-is ∙ f in
-          next-done (λ a b turns seen k. wrong-here l (rest-is x a b (suc turns) seen (drop t.at line) ∙ members-unknown (is_one x) (value_by x) turns seen (drop t.at line) (λ ms rest. made x a b ms rest) name-is (k.others name n) (unknown x name n)))
+          next-done {s = Err (wrong BadField t.at)} (λ a b turns seen k. wrong-here l (rest-is x a b (suc turns) seen (drop t.at line) ∙ members-unknown (is_one x) (value_by x) turns seen (drop t.at line) (λ ms rest. made x a b ms rest) name-is (k.others name n) (unknown x name n)))
 
-      module _ {z : Step} (f : h ≡ First) (m : Told line after z (member_after line t.at t.first x (drop after line))) where
-        pub next-one_bad : {w : Fault} {p q : ℕ} → z ≡ Bad w p q → NextTold line t x (Done (Bad w p q))
-        next-one_bad g = next-done (λ a b turns seen k. told_of {i = t.at} (omega arith) (rest-one line x t.at after seen a b name-is turns k (sym which-is ∙ f)) (then_bad (λ v u. next_of x (some v) b turns (named name (drop t.at line) ∷ seen) (blanks u)) m g))
+      module _ {z : Result ℕ Bad} (f : h ≡ First) (m : Told line after z (member_after line t.at t.first x (drop after line))) where
+        pub next-one_bad : {b : Bad} → z ≡ Err b → NextTold line t x (Err b)
+        next-one_bad {b = v} g = next-done {s = Err v} (λ a b turns seen k. told_of {i = t.at} (omega arith) (rest-one line x t.at after seen a b name-is turns k (sym which-is ∙ f)) (then_bad (λ v u. next_of x (some v) b turns (named name (drop t.at line) ∷ seen) (blanks u)) m g))
 
-        module _ {end : ℕ} {r : Turn} (g : z ≡ At end) (u : TurnTold line t.at t.second end r) (l : t.at ≤ length line) (p : 0 < t.at) where
+        module _ {end : ℕ} {r : Result Turn Bad} (g : z ≡ Ok end) (u : TurnTold line t.at t.second end r) (l : t.at ≤ length line) (p : 0 < t.at) where
           abbrev one : List ℕ
           one = (m.stands end g).what
 
@@ -441,11 +451,11 @@ module _ (line : List ℕ) (t : Two) (x : Bool) where
                     };
               }
 
-      module _ {z : Step} (f : h ≡ Second) (m : Told line after z (member_after line t.at t.second false (drop after line))) where
-        pub next-two_bad : {w : Fault} {p q : ℕ} → z ≡ Bad w p q → NextTold line t x (Done (Bad w p q))
-        next-two_bad g = next-done (λ a b turns seen k. told_of {i = t.at} (omega arith) (rest-two line x t.at after seen a b name-is turns k (sym which-is ∙ f)) (then_bad (λ v u. next_of x a (some v) turns (named name (drop t.at line) ∷ seen) (blanks u)) m g))
+      module _ {z : Result ℕ Bad} (f : h ≡ Second) (m : Told line after z (member_after line t.at t.second false (drop after line))) where
+        pub next-two_bad : {b : Bad} → z ≡ Err b → NextTold line t x (Err b)
+        next-two_bad {b = v} g = next-done {s = Err v} (λ a b turns seen k. told_of {i = t.at} (omega arith) (rest-two line x t.at after seen a b name-is turns k (sym which-is ∙ f)) (then_bad (λ v u. next_of x a (some v) turns (named name (drop t.at line) ∷ seen) (blanks u)) m g))
 
-        module _ {end : ℕ} {r : Turn} (g : z ≡ At end) (u : TurnTold line t.first t.at end r) (l : t.at ≤ length line) (p : 0 < t.at) where
+        module _ {end : ℕ} {r : Result Turn Bad} (g : z ≡ Ok end) (u : TurnTold line t.first t.at end r) (l : t.at ≤ length line) (p : 0 < t.at) where
           abbrev two : List ℕ
           two = (m.stands end g).what
 
@@ -492,7 +502,7 @@ unfolding before
 none-taken line x = record { one = record { place = omega arith; unseen = λ k. refl; lacks = λ k. refl; found = λ k. absurd (omega arith) }; two = record { place = omega arith; unseen = λ k. refl; lacks = λ k. refl; found = λ k. absurd (omega arith) }; others = λ n k. refl }
 
 module _ (x : Bool) {line : List ℕ} {at i : ℕ} (b : Blanks line at i) where
-  pub two-cut : length line ≤ i → Told line at (Bad NotJson i i) (two_of x (drop at line))
+  pub two-cut : length line ≤ i → Told line at (Err (wrong NotJson i)) (two_of x (drop at line))
   unfolding unless_empty then
   two-cut h = wrong-here b.within (after-brace x (drop at line) (drop i line) b.is ∙ rw (drop_of_length-le line h))
 
@@ -501,7 +511,7 @@ module _ (x : Bool) {line : List ℕ} {at i : ℕ} (b : Blanks line at i) where
     unfolding unless_empty
     two-byte = after-brace x (drop at line) (drop i line) b.is ∙ rw (byte_at line i h)
 
-    pub two-empty : get_or line i 0 ≡ 125 → Told line at (Bad BadField i i) (two_of x (drop at line))
+    pub two-empty : get_or line i 0 ≡ 125 → Told line at (Err (wrong BadField i)) (two_of x (drop at line))
     unfolding then member_of both
     two-empty e = wrong-before h (two-byte ∙ ap (λ (m : Read (List (List ℕ × List ℕ))). then m (λ ms rest. both (form_of x) (member_of (first_of x) ms) (member_of (second_of x) ms) rest)) (yes _ (eq-eqb _ _ e)))
 
@@ -533,16 +543,19 @@ module _ {line : List ℕ} {at : ℕ} {x : Bool} {t : Two} (g : Pairing line at 
   pub pair-above : 0 < at → 0 < t.at
   pair-above h = omega (arith, g.from)
 
-  module _ {y : Turn} (k : NextTold line t x y) where
+  module _ {y : Result Turn Bad} (k : NextTold line t x y) where
     turned : two_of x (drop at line) ≡ rest_of x g.one g.two (suc (g.turns - 1)) g.names (drop t.at line)
     turned = let z : g.turns ≡ suc (g.turns - 1) = omega (arith, g.enough) in g.is ∙ ap (λ (n : ℕ). rest_of x g.one g.two n g.names (drop t.at line)) z
 
-    pub two-done : {r : Step} → y ≡ Done r → Told line at r (two_of x (drop at line))
-    two-done {r} e = told_of g.from turned (k.done r e g.one g.two (g.turns - 1) g.names g.taken)
+    pub two-done : {s : Turn} {e : ℕ} → y ≡ Ok s → s ≡ Done e → Told line at (Ok e) (two_of x (drop at line))
+    two-done {e = e} p q = told_of g.from turned (k.done (Ok e) (p ∙ ap Ok q) g.one g.two (g.turns - 1) g.names g.taken)
 
-    module _ {n : Two} (e : y ≡ On n) where
+    pub two_bad : {b : Bad} → y ≡ Err b → Told line at (Err b) (two_of x (drop at line))
+    two_bad {b} p = told_of g.from turned (k.done (Err b) p g.one g.two (g.turns - 1) g.names g.taken)
+
+    module _ {s : Turn} {n : Two} (p : y ≡ Ok s) (q : s ≡ On n) where
       abbrev far : Further line x t n g.one g.two g.names
-      far = k.on n e g.one g.two g.names g.taken
+      far = k.on n (p ∙ ap Ok q) g.one g.two g.names g.taken
 
       pub two-less : length line - n.at < length line - t.at
       two-less = omega (arith, far.from, far.within)

@@ -1,10 +1,10 @@
 -- Cedar's forms, an entity (false) or an extension (true): the two members that they hold
-use Rattle.std.specs.Prelude.{◌≡◌, Bool, true, false, not, List, [], ◌∷◌, ℕ, suc, ◌-◌, ◌<◌, ◌≤◌, eqb, ltb, length, drop}
+use Rattle.std.specs.Prelude.{◌≡◌, Bool, true, false, not, List, [], ◌∷◌, ℕ, suc, ◌-◌, ◌<◌, ◌≤◌, eqb, ltb, length, drop, Result, Ok, Err}
 use Rattle.std.proofs.Math.Option.{Option, none, some}
 use Rattle.meaning.specs.Tests.{◌and◌, ◌or◌, choose, or_else}
 use Rattle.meaning.specs.Equal.{same_list}
 use Rattle.jsontext.specs.declared.Fault.TheVariants.{NotJson, RepeatedName, BadField}
-use Rattle.jsontext.specs.declared.Step.{Step}
+use Rattle.jsontext.specs.declared.Bad.{Bad}
 use Rattle.jsontext.specs.Reading.{Read, got, fault, then, no, blanks, want}
 use Rattle.jsontext.specs.Strings.{string}
 use Rattle.jsontext.specs.Values.{Name, J, EntityOf, Decimal, text, before, members, object, member_of, «type», «id», «fn», «arg», «decimal», both, argument, entity, extension, only}
@@ -101,9 +101,14 @@ pub record Onward (line : List ℕ) (first second end : ℕ) (n : Two) : Type 0 
   pub within : n.at ≤ length line
   pub is : (x : Bool) (a b : Option (List ℕ)) (turns : ℕ) (seen : List Name) → next_of x a b turns seen (blanks (drop end line)) ≡ rest_of x a b turns seen (drop n.at line)
 
-pub record TurnTold (line : List ℕ) (first second end : ℕ) (r : Turn) : Type 0 where
-  pub done : (s : Step) → r ≡ Done s → (x : Bool) (a b : Option (List ℕ)) (turns : ℕ) (seen : List Name) → Taken line x first second a b seen → Told line end s (next_of x a b turns seen (blanks (drop end line)))
-  pub on : (n : Two) → r ≡ On n → Onward line first second end n
+-- a turn that came to an end, at a place or with a fault
+abbrev pub ended : Result ℕ Bad → Result Turn Bad
+ended (Ok e) = Ok (Done e)
+ended (Err b) = Err b
+
+pub record TurnTold (line : List ℕ) (first second end : ℕ) (r : Result Turn Bad) : Type 0 where
+  pub done : (s : Result ℕ Bad) → r ≡ ended s → (x : Bool) (a b : Option (List ℕ)) (turns : ℕ) (seen : List Name) → Taken line x first second a b seen → Told line end s (next_of x a b turns seen (blanks (drop end line)))
+  pub on : (n : Two) → r ≡ Ok (On n) → Onward line first second end n
 
 -- from a member to the next
 pub record Further (line : List ℕ) (x : Bool) (t n : Two) (a b : Option (List ℕ)) (seen : List Name) : Type 0 where
@@ -115,6 +120,6 @@ pub record Further (line : List ℕ) (x : Bool) (t n : Two) (a b : Option (List 
   pub within : n.at ≤ length line
   pub is : (turns : ℕ) → rest_of x a b (suc turns) seen (drop t.at line) ≡ rest_of x one two turns names (drop n.at line)
 
-pub record NextTold (line : List ℕ) (t : Two) (x : Bool) (r : Turn) : Type 0 where
-  pub done : (s : Step) → r ≡ Done s → (a b : Option (List ℕ)) (turns : ℕ) (seen : List Name) → Taken line x t.first t.second a b seen → Told line t.at s (rest_of x a b (suc turns) seen (drop t.at line))
-  pub on : (n : Two) → r ≡ On n → (a b : Option (List ℕ)) (seen : List Name) → Taken line x t.first t.second a b seen → Further line x t n a b seen
+pub record NextTold (line : List ℕ) (t : Two) (x : Bool) (r : Result Turn Bad) : Type 0 where
+  pub done : (s : Result ℕ Bad) → r ≡ ended s → (a b : Option (List ℕ)) (turns : ℕ) (seen : List Name) → Taken line x t.first t.second a b seen → Told line t.at s (rest_of x a b (suc turns) seen (drop t.at line))
+  pub on : (n : Two) → r ≡ Ok (On n) → (a b : Option (List ℕ)) (seen : List Name) → Taken line x t.first t.second a b seen → Further line x t n a b seen

@@ -3,7 +3,7 @@ use mathlib.Core.Path.{◌≡◌, sym, ap, subst, ◌∙◌}
 use mathlib.Core.Bool.{Bool, true, false, not}
 use mathlib.Core.List.{List}
 use mathlib.Core.Option.{Option}
-use Prim.Native.Nat.{ℕ, suc, ◌+◌, ◌-◌, ◌<◌}
+use Prim.Native.Nat.{ℕ, suc, ◌+◌, ◌-◌, ◌<◌, ◌≤◌}
 use native.Mathlib.Omega.{arith}
 use lib.Dec.{lit<}
 use Rattle.meaning.specs.declared.Env.{Env}
@@ -23,19 +23,9 @@ use Rattle.laws.specs.Checked.{lower-child}
 use Rattle.matching.specs.Asking.{Arguments, asking, event_row}
 use Rattle.matching.specs.Laws.{predicate-arguments, by-event}
 use Rattle.scanning.proofs.Fitted.{some_if}
-use Rattle.quick.specs.declared.Fit.{Fit}
-use Rattle.quick.specs.declared.Fit.TheVariants as Fits
-use Rattle.quick.specs.declared.Told.{Told}
-use Rattle.quick.specs.declared.Told.TheVariants.{Yes, No, Open}
-use Rattle.quick.specs.Tells.{paying, KeepsAll, AllBy, FitsAll, Plain, TellsBy, Tells}
+use Rattle.std.specs.Prelude.{Option as Answer, Some, None}
+use Rattle.quick.specs.Tells.{paying, KeepsAll, FitsAll, Plain, TellsBy, Tells}
 use Rattle.quick.proofs.Paying.{paying_bind, paying-give, paying-more}
-
--- what is told of a child
-plain-yes : {s : List ℕ} {asked n i left rest : ℕ} {u : Told} → Tells s asked n i left u → u ≡ Yes rest → Plain s asked n i left true rest
-plain-yes {s} {asked} {n} {i} {left} g q = subst (TellsBy s asked n i left) q g.says
-
-plain-no : {s : List ℕ} {asked n i left rest : ℕ} {u : Told} → Tells s asked n i left u → u ≡ No rest → Plain s asked n i left false rest
-plain-no {s} {asked} {n} {i} {left} g q = subst (TellsBy s asked n i left) q g.says
 
 module _ {s : List ℕ} (checked : Checked s) (n : ℕ) {nd : Node} (is : nd ≡ node_at s n) where
   -- ---- children are lower
@@ -109,60 +99,59 @@ module _ (s : List ℕ) (asked i : ℕ) where
 
 -- ---- each way out
 
-module _ {s : List ℕ} {asked : ℕ} (n i left : ℕ) {nd : Node} (checked : Checked s) (is : nd ≡ node_at s n) (some : left ≡ 0 → ⊥) where
-  module _ {l r : NodeNo} {u : Told} {more : ℕ} (k : nd ≡ And l r) (g : Tells s asked l.0 i (left - 1) u) where
-    and-plain : {rest : ℕ} {y : Bool} → Plain s asked l.0 i (left - 1) true more → Plain s asked r.0 i more y rest → Plain s asked n i left y rest
+module _ {s : List ℕ} {asked : ℕ} (n i left : ℕ) {nd : Node} (checked : Checked s) (is : nd ≡ node_at s n) {under : ℕ} (some : (1 ≤ left) × (under ≡ left - 1)) where
+  module _ {l r : NodeNo} {more : ℕ} {t : Bool} (k : nd ≡ And l r) (g : Tells s asked l.0 i under (Some (t, more))) where
+    and-plain : {rest : ℕ} {y : Bool} → t ≡ true → Plain s asked r.0 i more y rest → Plain s asked n i left y rest
     unfolding meaning_of if_yes
-    and-plain {y = y} p o = by_condition s asked i _ _ (p.steps + o.steps) (means checked n is k) (λ env. after-lent s asked i l.0 (meaning (case_of s) r.0) p env ∙ ap (paying p.steps) (o.verdict env) ∙ paying-more p.steps o.steps (give y)) (omega (arith, p.all, o.all))
+    and-plain {y = y} h o =
+        let p : Plain s asked l.0 i under true more = rw h at g.says in
+        by_condition s asked i _ _ (p.steps + o.steps) (means checked n is k) (λ env. after-lent s asked i l.0 (meaning (case_of s) r.0) p env ∙ ap (paying p.steps) (o.verdict env) ∙ paying-more p.steps o.steps (give y)) (omega (arith, p.all, o.all, some.0, some.1))
 
-    pub and_yes : {v : Told} → u ≡ Yes more → Tells s asked r.0 i more v → Tells s asked n i left v
-    and_yes {v} q h = record { says = go v h.says }
+    pub and_yes : {v : Answer (Bool × ℕ)} → t ≡ true → Tells s asked r.0 i more v → Tells s asked n i left v
+    and_yes {v} h o = record { says = go v o.says }
       where
-        go : (v : Told) → TellsBy s asked r.0 i more v → TellsBy s asked n i left v
-        go (Yes rest) o = and-plain (plain-yes g q) o
-        go (No rest) o = and-plain (plain-yes g q) o
-        go Open o = tt
+        go : (v : Answer (Bool × ℕ)) → TellsBy s asked r.0 i more v → TellsBy s asked n i left v
+        go (Some told) o = and-plain h o
+        go None o = tt
 
-    pub and_no : u ≡ No more → Tells s asked n i left (No more)
+    pub and_no : t ≡ false → Tells s asked n i left (Some (false, more))
     unfolding meaning_of if_yes
-    and_no q = let p = plain-no g q in record { says = by_condition s asked i _ _ p.steps (means checked n is k) (after-lent s asked i l.0 (meaning (case_of s) r.0) p) (omega (arith, p.all)) }
+    and_no h =
+        let p : Plain s asked l.0 i under false more = rw h at g.says in
+        record { says = by_condition s asked i _ _ p.steps (means checked n is k) (after-lent s asked i l.0 (meaning (case_of s) r.0) p) (omega (arith, p.all, some.0, some.1)) }
 
-  module _ {l r : NodeNo} {u : Told} {more : ℕ} (k : nd ≡ Or l r) (g : Tells s asked l.0 i (left - 1) u) where
-    or_plain : {rest : ℕ} {y : Bool} → Plain s asked l.0 i (left - 1) false more → Plain s asked r.0 i more y rest → Plain s asked n i left y rest
+  module _ {l r : NodeNo} {more : ℕ} {t : Bool} (k : nd ≡ Or l r) (g : Tells s asked l.0 i under (Some (t, more))) where
+    or_plain : {rest : ℕ} {y : Bool} → t ≡ false → Plain s asked r.0 i more y rest → Plain s asked n i left y rest
     unfolding meaning_of unless_yes
-    or_plain {y = y} p o = by_condition s asked i _ _ (p.steps + o.steps) (means checked n is k) (λ env. after-left s asked i l.0 (meaning (case_of s) r.0) p env ∙ ap (paying p.steps) (o.verdict env) ∙ paying-more p.steps o.steps (give y)) (omega (arith, p.all, o.all))
+    or_plain {y = y} h o =
+        let p : Plain s asked l.0 i under false more = rw h at g.says in
+        by_condition s asked i _ _ (p.steps + o.steps) (means checked n is k) (λ env. after-left s asked i l.0 (meaning (case_of s) r.0) p env ∙ ap (paying p.steps) (o.verdict env) ∙ paying-more p.steps o.steps (give y)) (omega (arith, p.all, o.all, some.0, some.1))
 
-    pub or_yes : u ≡ Yes more → Tells s asked n i left (Yes more)
+    pub or_yes : t ≡ true → Tells s asked n i left (Some (true, more))
     unfolding meaning_of unless_yes
-    or_yes q = let p = plain-yes g q in record { says = by_condition s asked i _ _ p.steps (means checked n is k) (after-left s asked i l.0 (meaning (case_of s) r.0) p) (omega (arith, p.all)) }
+    or_yes h =
+        let p : Plain s asked l.0 i under true more = rw h at g.says in
+        record { says = by_condition s asked i _ _ p.steps (means checked n is k) (after-left s asked i l.0 (meaning (case_of s) r.0) p) (omega (arith, p.all, some.0, some.1)) }
 
-    pub or_no : {v : Told} → u ≡ No more → Tells s asked r.0 i more v → Tells s asked n i left v
-    or_no {v} q h = record { says = go v h.says }
+    pub or_no : {v : Answer (Bool × ℕ)} → t ≡ false → Tells s asked r.0 i more v → Tells s asked n i left v
+    or_no {v} h o = record { says = go v o.says }
       where
-        go : (v : Told) → TellsBy s asked r.0 i more v → TellsBy s asked n i left v
-        go (Yes rest) o = or_plain (plain-no g q) o
-        go (No rest) o = or_plain (plain-no g q) o
-        go Open o = tt
+        go : (v : Answer (Bool × ℕ)) → TellsBy s asked r.0 i more v → TellsBy s asked n i left v
+        go (Some told) o = or_plain h o
+        go None o = tt
 
-  module _ {x : NodeNo} {u : Told} {more : ℕ} (k : nd ≡ Not x) (g : Tells s asked x.0 i (left - 1) u) where
-    not_plain : {y : Bool} → Plain s asked x.0 i (left - 1) y more → Plain s asked n i left (not y) more
-    unfolding meaning_of
-    not_plain p = by_condition s asked i _ _ p.steps (means checked n is k) (turned s asked i x.0 p) (omega (arith, p.all))
-
-    pub not_yes : u ≡ Yes more → Tells s asked n i left (No more)
-    not_yes q = record { says = not_plain (plain-yes g q) }
-
-    pub not-no : u ≡ No more → Tells s asked n i left (Yes more)
-    not-no q = record { says = not_plain (plain-no g q) }
+  pub turned-over : {x : NodeNo} {more : ℕ} {t : Bool} → nd ≡ Not x → Tells s asked x.0 i under (Some (t, more)) → Tells s asked n i left (Some (not t, more))
+  unfolding meaning_of
+  turned-over {x} k g = let p = g.says in record { says = by_condition s asked i _ _ p.steps (means checked n is k) (turned s asked i x.0 p) (omega (arith, p.all, some.0, some.1)) }
 
   -- ---- a Predicate
 
   module _ {namespace args : Run} {action kind : StrNo} (k : nd ≡ Predicate namespace action kind args) where
-    by_row : {y : Bool} → ((env : Env) → event_row s asked env i namespace action kind args ≡ only_if y (blank (row_of env))) → Plain s asked n i left y (left - 1)
+    by_row : {y : Bool} → ((env : Env) → event_row s asked env i namespace action kind args ≡ only_if y (blank (row_of env))) → Plain s asked n i left y under
     unfolding meaning_of predicate paying lending asking
     by_row {y} e = record {
       steps = 1;
-      all = omega arith;
+      all = omega (arith, some.0, some.1);
       verdict = λ env. ap (λ (m : Meaning). m.verdict (asking s asked env i)) (means checked n is k) ∙ ap (λ (o : Option Row). visit (give (is_some o))) (e env) ∙ ap (λ (y : Bool). visit (give y)) (some_if y (blank (row_of env)));
       lend = λ env. ap (λ (m : Meaning). m.lend (asking s asked env i)) (means checked n is k) ∙ ap (λ (o : Option Row). visit (give o)) (e env);
     }
@@ -171,12 +160,9 @@ module _ {s : List ℕ} {asked : ℕ} (n i left : ℕ) {nd : Node} (checked : Ch
       here : {y : Bool} → p ≡ true → KeepsAll s asked i args.first args.count y → (env : Env) → event_row s asked env i namespace action kind args ≡ only_if y (blank (row_of env))
       here h f env = (rw h at (by-event s asked env i namespace action kind args same)) ∙ f.is env (blank (row_of env))
 
-      pub predicate-yes : {r : Fit} → p ≡ true → FitsAll s asked i args.first args.count r → r ≡ Fits.Yes → Tells s asked n i left (Yes (left - 1))
-      predicate-yes h f q = record { says = by_row (here h (subst (AllBy s asked i args.first args.count) q f.says)) }
+      pub predicate-here : {y : Bool} → p ≡ true → FitsAll s asked i args.first args.count (Some y) → Tells s asked n i left (Some (y, under))
+      predicate-here h f = record { says = by_row (here h f.says) }
 
-      pub predicate-no : {r : Fit} → p ≡ true → FitsAll s asked i args.first args.count r → r ≡ Fits.No → Tells s asked n i left (No (left - 1))
-      predicate-no h f q = record { says = by_row (here h (subst (AllBy s asked i args.first args.count) q f.says)) }
-
-      pub predicate-elsewhere : p ≡ false → Tells s asked n i left (No (left - 1))
+      pub predicate-elsewhere : p ≡ false → Tells s asked n i left (Some (false, under))
       unfolding only_if
       predicate-elsewhere h = record { says = by_row (λ env. rw h at (by-event s asked env i namespace action kind args same)) }

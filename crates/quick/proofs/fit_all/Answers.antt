@@ -1,4 +1,5 @@
 use Rattle.std.proofs.Common.{rules}
+use borrow.Author.Tests.{not-true}
 use Rattle.quick.proofs.Arguments.{try_start, try_next, try_stop, try_all}
 use Rattle.quick.proofs.fit_all.Goals as goal
 
@@ -8,8 +9,8 @@ loop-k-init c = search (try_start, rules)
 pub loop-k-preserved : goal.loop-k-preserved
 loop-k-preserved c = search (try_next, rules)
 
-pub returns-in-No : goal.returns-in-No
-returns-in-No c = search (try_stop, rules)
+pub returns-then-not-branch : goal.returns-then-not-branch
+returns-then-not-branch c = search (try_stop, not-true, rules)
 
 pub returns : goal.returns
 returns c = search (try_all, rules)

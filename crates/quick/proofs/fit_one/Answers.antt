@@ -1,7 +1,8 @@
 use Rattle.std.proofs.Common.{rules}
 use Rattle.laws.specs.Checked.{checked-bodies}
+use borrow.Author.Tests.{not-true}
 use Rattle.matching.proofs.Leaves.{stands}
-use Rattle.quick.proofs.Arguments.{fit-equal, fit-other, fit-any, fit-missing}
+use Rattle.quick.proofs.Arguments.{fit-equal, fit-any, fit-missing}
 use Rattle.quick.proofs.fit_one.Goals as goal
 
 pub list_at-term-requires : goal.list_at-term-requires
@@ -19,14 +20,11 @@ list_at-first-requires c = search (checked-bodies, rules)
 pub list_at-count-requires : goal.list_at-count-requires
 list_at-count-requires c = search (checked-bodies, rules)
 
-pub returns-then-binding_eq : goal.returns-then-binding_eq
-returns-then-binding_eq c = search (fit-equal, rules)
+pub returns-then-not-is_bound : goal.returns-then-not-is_bound
+returns-then-not-is_bound c = search (fit-missing, not-true, rules)
 
-pub returns-then-is_bound-2 : goal.returns-then-is_bound-2
-returns-then-is_bound-2 c = search (fit-other, rules)
+pub returns-then-not-is_bound-2 : goal.returns-then-not-is_bound-2
+returns-then-not-is_bound-2 c = search (fit-any, not-true, rules)
 
-pub returns-then-is_bound : goal.returns-then-is_bound
-returns-then-is_bound c = search (fit-any, rules)
-
-pub returns : goal.returns
-returns c = search (fit-missing, rules)
+pub returns-else-not-is_bound-2 : goal.returns-else-not-is_bound-2
+returns-else-not-is_bound-2 c = search (fit-equal, rules)

@@ -1,5 +1,5 @@
 -- What the export call says and leaves in the output, and its parts
-use Rattle.std.specs.Prelude.{◌≡◌, refl, Bool, true, false, not, List, ◌++◌, ℕ, ◌+◌, ◌<◌, ◌≤◌, min, length, drop}
+use Rattle.std.specs.Prelude.{◌≡◌, refl, Bool, true, false, not, List, ◌++◌, ℕ, ◌+◌, ◌<◌, ◌≤◌, min, length, drop, Result, Ok, Err}
 use Rattle.std.proofs.Common.{sym, ap, ap₂, ◌∙◌, arith, le-leb}
 use Rattle.std.proofs.Math.Option.{Option, none, some}
 use Rattle.std.proofs.lemmas.Bool.{lt-leb, not-true, not-false}
@@ -9,12 +9,9 @@ use Rattle.meaning.specs.Case.{points}
 use Rattle.meaning.specs.Check.{Checked, check}
 use Rattle.laws.specs.Tests.{yes, no}
 use Rattle.encode.specs.Write.{over}
-use Rattle.jsontrace.specs.declared.Exported.{Exported}
-use Rattle.jsontrace.specs.declared.Exported.TheVariants.{Written, Ambiguous, Refused}
-use Rattle.jsontrace.specs.Export.{point_events, exported, clear_events, given_case, unless_refused, filled_if, ExportResult, export_call}
+use Rattle.jsontrace.specs.declared.ExportError.TheVariants.{Ambiguous, Refused}
+use Rattle.jsontrace.specs.Export.{Exported, point_events, exported, clear_events, given_case, unless_refused, filled_if, ExportResult, export_call}
 use Rattle.casecheck.specs.declared.Contents.{Contents}
-use Rattle.casecheck.specs.declared.Checking.{Checking}
-use Rattle.casecheck.specs.declared.Checking.TheVariants as C
 use Rattle.casecheck.specs.Answer.{contents_of, answer, as_checking, passed}
 use Rattle.jsonput.specs.Put.{Put}
 use Rattle.jsonpoints.specs.Lines.{lines_text}
@@ -31,11 +28,11 @@ pub record ExportsChecked (s output after : List ℕ) (r : Exported) : Type 0 wh
 
 -- ---- of a case that passes
 
-pub export_ambiguous : (s output : List ℕ) {c : Bool} → not c ≡ true → c ≡ clear_events (point_events s) → ExportsChecked s output output Ambiguous
+pub export_ambiguous : (s output : List ℕ) {c : Bool} → not c ≡ true → c ≡ clear_events (point_events s) → ExportsChecked s output output (Err Ambiguous)
 unfolding given_case filled_if
 export_ambiguous s output {c} n e = record { is = sym (no _ (sym e ∙ not-true c n) refl); gives = refl }
 
-pub export_short : (s output : List ℕ) {c : Bool} {size limit : ℕ} → not c ≡ false → c ≡ clear_events (point_events s) → length output < size → size ≡ min (length (lines_text s (points s))) limit → limit ≡ length output + 1 → Checked s → ExportsChecked s output output (Refused OutputTooShort)
+pub export_short : (s output : List ℕ) {c : Bool} {size limit : ℕ} → not c ≡ false → c ≡ clear_events (point_events s) → length output < size → size ≡ min (length (lines_text s (points s))) limit → limit ≡ length output + 1 → Checked s → ExportsChecked s output output (Err (Refused OutputTooShort))
 unfolding given_case filled_if
 export_short s output {c} {size} {limit} n q h e el k = record {
   is = sym (yes _ (sym q ∙ not-false c n) ∙ no _ (lt-leb (length (exported s)) (length output) (omega (arith, e, el, ap length (exported-is k)))) refl);
@@ -45,10 +42,10 @@ export_short s output {c} {size} {limit} n q h e el k = record {
 pub export_room : (s output : List ℕ) {size limit : ℕ} → size ≤ length output → size ≡ min (length (lines_text s (points s))) limit → limit ≡ length output + 1 → 0 + length (lines_text s (points s)) ≤ length output
 export_room s output h e el = omega (arith, e, el)
 
-pub export_written : (s : List ℕ) {output after : List ℕ} {c : Bool} {size limit end : ℕ} → Put output after 0 (lines_text s (points s)) end → not c ≡ false → c ≡ clear_events (point_events s) → size ≤ length output → size ≡ min (length (lines_text s (points s))) limit → limit ≡ length output + 1 → Checked s → ExportsChecked s output after (Written size)
+pub export_written : (s : List ℕ) {output after : List ℕ} {c : Bool} {size limit end : ℕ} → Put output after 0 (lines_text s (points s)) end → not c ≡ false → c ≡ clear_events (point_events s) → size ≤ length output → size ≡ min (length (lines_text s (points s))) limit → limit ≡ length output + 1 → Checked s → ExportsChecked s output after (Ok size)
 unfolding given_case filled_if over
 export_written s {output} {after} {c} {size} {limit} {end} f n q h e el k = record {
-  is = ap Written same ∙ sym (yes _ (sym q ∙ not-false c n) ∙ yes _ (le-leb (length (exported s)) (length output) (omega (arith, e, el, ap length (exported-is k)))));
+  is = ap Ok same ∙ sym (yes _ (sym q ∙ not-false c n) ∙ yes _ (le-leb (length (exported s)) (length output) (omega (arith, e, el, ap length (exported-is k)))));
   gives = f.is.is ∙ ap (λ (t : List ℕ). t ++ drop (0 + length t) output) (sym (exported-is k)) ∙ ap (λ (m : ℕ). exported s ++ drop m output) (none_before (length (exported s)));
 }
   where
@@ -60,25 +57,24 @@ export_written s {output} {after} {c} {size} {limit} {end} f n q h e el k = reco
 
 -- ---- of every input
 
-refused-by : (r : Refusal) (o : Option Refusal) (k : Contents) → C.Refused r ≡ answer o k → o ≡ some r
-unfolding answer
-refused-by r none k e = let z : ◌≡◌ {A = ℕ} 0 1 = cc in absurd (omega arith)
-refused-by r (some q) k e = cc
+refused : (s : List ℕ) (r : Refusal) → Err r ≡ as_checking s → check s ≡ some r
+unfolding as_checking answer
+refused s r e = go (check s) e
+  where
+    go : (o : Option Refusal) → Err r ≡ answer o (contents_of s) → o ≡ some r
+    go none q = cc
+    go (some k) q = cc
 
-refused : (s : List ℕ) (r : Refusal) → C.Refused r ≡ as_checking s → check s ≡ some r
-unfolding as_checking
-refused s r e = refused-by r (check s) (contents_of s) e
-
-pub export_refused : (s output : List ℕ) (r : Refusal) {checking : Checking} → checking ≡ as_checking s → checking ≡ C.Refused r → Exports s output output (Refused r)
+pub export_refused : (s output : List ℕ) (r : Refusal) {checking : Result Contents Refusal} → checking ≡ as_checking s → checking ≡ Err r → Exports s output output (Err (Refused r))
 unfolding export_call unless_refused filled_if
 export_refused s output r e q = record { is = rw (refused s r (sym q ∙ e)) refl }
 
-pub export_checked : (s : List ℕ) {contents : Contents} {checking : Checking} → checking ≡ as_checking s → checking ≡ C.Passes contents → Checked s
+pub export_checked : (s : List ℕ) {contents : Contents} {checking : Result Contents Refusal} → checking ≡ as_checking s → checking ≡ Ok contents → Checked s
 export_checked s {contents} e q = (passed s contents (sym q ∙ e)).0
 
 whole : (s output : List ℕ) {after : List ℕ} {r : Exported} → r ≡ given_case s output → after ≡ filled_if r (exported s) output → ◌≡◌ {A = ExportResult} (record { said = given_case s output; output = filled_if (given_case s output) (exported s) output }) (record { said = r; output = after })
 whole s output p q = ap₂ (λ (a : Exported) (b : List ℕ). record { said = a; output = b }) (sym p) (ap (λ (a : Exported). filled_if a (exported s) output) (sym p) ∙ sym q)
 
-pub export_passed : (s output : List ℕ) {after : List ℕ} {r : Exported} {contents : Contents} {checking : Checking} → ExportsChecked s output after r → checking ≡ as_checking s → checking ≡ C.Passes contents → Exports s output after r
+pub export_passed : (s output : List ℕ) {after : List ℕ} {r : Exported} {contents : Contents} {checking : Result Contents Refusal} → ExportsChecked s output after r → checking ≡ as_checking s → checking ≡ Ok contents → Exports s output after r
 unfolding export_call unless_refused
 export_passed s output x e q = record { is = rw (export_checked s e q).passes (whole s output x.is x.gives) }

@@ -10,14 +10,14 @@ ghost use Rattle.jsonpoints.specs.Lines.{word_text, entity_text, head_text, name
 ghost use Rattle.jsonexport.specs.Long.{Spelled, Sized, Maybe, maybe_long, Words, Entity, Entities};
 ghost use Rattle.jsonexport.specs.Call.{Exports, ExportsChecked};
 
-use casecheck::{Checking, check};
+use casecheck::check;
 use jsonclear::all_clear;
 use jsonpoints::put_lines;
 use jsonsizes::{capped, counted, integer_size, string_sizes, value_sizes};
-use jsontrace::Exported;
+use jsontrace::ExportError;
 use meaning::Refusal;
 use stringcheck::point_count;
-use tables::{halves, list_at, point_word, wide};
+use tables::{halves, list_at, point_word};
 
 // ---- how long the lines are: each function takes what was counted before, and no more than the limit
 
@@ -35,10 +35,12 @@ fn maybe_added(table: &[usize; 16384], n: u32, fixed: usize, total: usize, limit
     requires { Maybe n }
     ensures { result ≡ min (total + maybe_long table.now n fixed) limit }
 {
-    if n == 4294967295 {
-        return capped(total, 0, limit);
+    // u32::MAX stands for none
+    if n == u32::MAX {
+        capped(total, 0, limit)
+    } else {
+        added(table, n, fixed, total, limit)
     }
-    added(table, n, fixed, total, limit)
 }
 
 fn comma_size(i: usize) -> usize
@@ -62,14 +64,12 @@ fn words_size(
     ensures { result ≡ min (total + length (run_text (word_text s.now) first 1 items)) limit }
 {
     let mut sum = capped(total, 0, limit);
-    let mut i = 0;
-    while i < items {
+    for i in 0..items {
         // what is too long already needs no more items
         if limit <= sum {
             return limit;
         }
         sum = added(names, list_at(s, first + i), comma_size(i), sum, limit);
-        i += 1;
     }
     sum
 }
@@ -113,15 +113,12 @@ fn entities_size(
     ensures { result ≡ min (total + length (run_text (entity_text s.now) first 3 items)) limit }
 {
     let mut sum = capped(total, 0, limit);
-    let mut i = 0;
-    while i < items {
+    for i in 0..items {
         // what is too long already needs no more items
         if limit <= sum {
             return limit;
         }
-        let m = first + 3 * i;
-        sum = entity_size(s, names, sizes, i, m, sum, limit);
-        i += 1;
+        sum = entity_size(s, names, sizes, i, first + 3 * i, sum, limit);
     }
     sum
 }
@@ -134,8 +131,8 @@ fn head_size(s: &[u8], names: &[usize; 16384], p: usize, total: usize, limit: us
 {
     let time = integer_size(halves(point_word(s, p, 0), point_word(s, p, 1)));
     let timed = capped(capped(total, 22, limit), time, limit);
-    let first = wide(point_word(s, p, 2));
-    let items = wide(point_word(s, p, 3));
+    let first = point_word(s, p, 2) as usize;
+    let items = point_word(s, p, 3) as usize;
     words_size(s, names, first, items, timed, limit)
 }
 
@@ -184,8 +181,8 @@ fn tail_size(
     ensures { result ≡ min (total + length (entities_text s.now p) + 3) limit }
 {
     let fixed = capped(total, 16, limit);
-    let first = wide(point_word(s, p, 10));
-    let items = wide(point_word(s, p, 11));
+    let first = point_word(s, p, 10) as usize;
+    let items = point_word(s, p, 11) as usize;
     entities_size(s, names, sizes, first, items, fixed, limit)
 }
 
@@ -214,16 +211,14 @@ fn lines_size(s: &[u8], names: &[usize; 16384], sizes: &[usize; 16384], limit: u
     requires sized { Sized s.now limit sizes.now }
     ensures { result ≡ min (length (lines_text s.now (points s.now))) limit }
 {
-    let n = wide(point_count(s));
+    let n = point_count(s) as usize;
     let mut sum = 0;
-    let mut p = 0;
-    while p < n {
+    for p in 0..n {
         // what is too long already needs no more points
         if limit <= sum {
             return limit;
         }
         sum = line_size(s, names, sizes, p, sum, limit);
-        p += 1;
     }
     sum
 }
@@ -241,28 +236,27 @@ fn log_size(s: &[u8], limit: usize) -> usize
 // ---- the call
 
 // of a case that passes: 25 before 14
-fn export_checked(s: &[u8], out: &mut [u8]) -> Exported
+fn export_checked(s: &[u8], out: &mut [u8]) -> Result<usize, ExportError>
     requires { Checked s.now }
     ensures { ExportsChecked s.now out.old out.new result }
 {
     if !all_clear(s) {
-        return Exported::Ambiguous;
+        return Err(ExportError::Ambiguous);
     }
     let size = log_size(s, out.len() + 1);
     if out.len() < size {
-        return Exported::Refused(Refusal::OutputTooShort);
+        return Err(ExportError::Refused(Refusal::OutputTooShort));
     }
     put_lines(s, out, 0);
-    Exported::Written(size)
+    Ok(size)
 }
 
 // a case's points as a log: a line a point, from the output's first byte on; on a refusal the output is as it was
-pub fn export(s: &[u8], out: &mut [u8]) -> Exported
+pub fn export(s: &[u8], out: &mut [u8]) -> Result<usize, ExportError>
     ensures { Exports s.now out.old out.new result }
 {
-    let checking = check(s);
-    match checking {
-        Checking::Passes(contents) => export_checked(s, out),
-        Checking::Refused(r) => Exported::Refused(r),
+    match check(s) {
+        Ok(_) => export_checked(s, out),
+        Err(refusal) => Err(ExportError::Refused(refusal)),
     }
 }

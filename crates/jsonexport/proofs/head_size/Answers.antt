@@ -9,11 +9,11 @@ point_word-requires c = search (checked-bodies, rules)
 pub point_word-requires-2 : goal.point_word-requires-2
 point_word-requires-2 c = search (checked-bodies, rules)
 
-pub point_word-requires-3 : goal.point_word-requires-3
-point_word-requires-3 c = search (checked-bodies, rules)
+pub point_word-first-requires : goal.point_word-first-requires
+point_word-first-requires c = search (checked-bodies, rules)
 
-pub point_word-requires-4 : goal.point_word-requires-4
-point_word-requires-4 c = search (checked-bodies, rules)
+pub point_word-items-requires : goal.point_word-items-requires
+point_word-items-requires c = search (checked-bodies, rules)
 
 pub words_size-requires-clause-words : goal.words_size-requires-clause-words
 words_size-requires-clause-words c = search (words_of, rules)

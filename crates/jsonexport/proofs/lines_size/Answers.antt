@@ -3,8 +3,8 @@ use Rattle.jsonexport.specs.Laws.{lengthening_none, lengthening_full, lengthenin
 use Rattle.laws.specs.Checked.{checked-bodies}
 use Rattle.jsonexport.proofs.lines_size.Goals as goal
 
-pub point_count-requires : goal.point_count-requires
-point_count-requires c = search (checked-bodies, rules)
+pub point_count-n-requires : goal.point_count-n-requires
+point_count-n-requires c = search (checked-bodies, rules)
 
 pub loop-p-init : goal.loop-p-init
 loop-p-init c = search (lengthening_none, rules)

@@ -1,9 +1,5 @@
 use Rattle.jsonexport.specs.Laws.{Lengthening}
-use Prim.Native.Nat.{◌-◌}
 use Rattle.jsonexport.proofs.lines_size.Given as goal
 
 abbrev pub invariant-loop-p : goal.invariant-loop-p
 invariant-loop-p l = Lengthening l.s l.limit l.n l.p l.sum
-
-abbrev pub decreases-loop-p : goal.decreases-loop-p
-decreases-loop-p l = l.n - l.p

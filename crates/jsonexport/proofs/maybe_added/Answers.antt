@@ -8,5 +8,5 @@ returns-then-n-eq4294967295 c = search (maybe-none, rules)
 pub added-requires : goal.added-requires
 added-requires c = search (maybe-few, rules)
 
-pub returns : goal.returns
-returns c = search (maybe-some, rules)
+pub returns-else-n-eq4294967295 : goal.returns-else-n-eq4294967295
+returns-else-n-eq4294967295 c = search (maybe-some, rules)

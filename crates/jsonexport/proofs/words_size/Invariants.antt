@@ -1,9 +1,5 @@
 use Rattle.jsonexport.specs.Laws.{Wording}
-use Prim.Native.Nat.{◌-◌}
 use Rattle.jsonexport.proofs.words_size.Given as goal
 
 abbrev pub invariant-loop-i : goal.invariant-loop-i
 invariant-loop-i l = Wording l.s l.limit l.first l.items l.total l.i l.sum
-
-abbrev pub decreases-loop-i : goal.decreases-loop-i
-decreases-loop-i l = l.items - l.i

@@ -20,11 +20,10 @@ use Rattle.laws.specs.Bodies.{wholes, body-beyond}
 use Rattle.laws.specs.Values.{held, holder}
 use Rattle.laws.specs.Values as Values
 use Rattle.laws.specs.Checked.{checked-bodies, checked-values, values-most, lower-parts, same_value-is}
-use Rattle.equality.specs.declared.Heads.{Heads}
-use Rattle.equality.specs.declared.Pair.{Pair}
-use Rattle.equality.specs.declared.Seen.{Seen}
-use Rattle.equality.specs.declared.Seen.TheVariants.{Same, Differ, Open}
-use Rattle.equality.specs.Joined.{Holders, Headed, Told, Paired, Glanced, Looked}
+use Rattle.equality.specs.declared.Runs.{Runs}
+use Rattle.std.specs.Prelude.{Option as Maybe, Some, None}
+use Rattle.std.proofs.Common.{ControlFlow, Break, Continue}
+use Rattle.equality.specs.Joined.{Holders, Headed, Paired, Glanced, Looked}
 use Rattle.equality.specs.Places.{open_place, shut-place}
 use Rattle.laws.specs.Text.{list_same}
 
@@ -119,9 +118,15 @@ module _ (s : List ℕ) (a b k x y : ℕ) (c : Checked s) (ka : value_word s a 0
   unfolding see value_from pick
   leaf-decimal r e h = h ∙ sym (one-is 3 e ∙ alike-leaf _ 3 (decimal_key (case_of s) x) (decimal_key (case_of s) y))
 
-  pub leaf-entity : (p q : ℕ) (r : Bool) → k ≡ 5 → p ≡ value_word s a 2 → q ≡ value_word s b 2 → r ≡ (eqb x y and eqb p q) → r ≡ same_value (case_of s) a b
+  leaf-entity : (p q : ℕ) (r : Bool) → k ≡ 5 → p ≡ value_word s a 2 → q ≡ value_word s b 2 → r ≡ (eqb x y and eqb p q) → r ≡ same_value (case_of s) a b
   unfolding see value_from pick same_list
   leaf-entity p q r e ep eq h = h ∙ sym (two_is 5 p q e ep eq ∙ alike-leaf _ 5 (x ∷ p ∷ []) (y ∷ q ∷ []) ∙ ap (λ (t : Bool). eqb x y and t) (and-true (eqb p q)))
+
+  pub entity-first : (p q : ℕ) → k ≡ 5 → p ≡ value_word s a 2 → q ≡ value_word s b 2 → x ≡ y → eqb p q ≡ same_value (case_of s) a b
+  entity-first p q e ep eq h = leaf-entity p q (eqb p q) e ep eq (sym (after (eq-eqb x y h)))
+
+  pub entity-other : k ≡ 5 → (x ≡ y → ⊥) → false ≡ same_value (case_of s) a b
+  entity-other e h = leaf-entity (value_word s a 2) (value_word s b 2) false e refl refl (sym (stop _ (ne_eqb x y h)))
 
   leaf_bool : k ≡ 1 → eqb x y ≡ same_value (case_of s) a b
   unfolding see value_from pick
@@ -210,24 +215,24 @@ module _ (s : List ℕ) (a b n m p q : ℕ) (h : Holders s a b n m p q) where
 -- ---- what two values show at a glance
 
 module _ {s : List ℕ} {a b : ℕ} where
-  glance_yes : true ≡ same_value (case_of s) a b → Glanced s a b Same
-  glance_yes e = record { same = λ _. e; differ = λ q. absurd (let z : ◌≡◌ {A = ℕ} 0 1 = cc in omega arith) }
+  glance_yes : true ≡ same_value (case_of s) a b → Glanced s a b (Some true)
+  glance_yes e = record { same = λ _. e; differ = λ q. cc }
 
-  glance_no : false ≡ same_value (case_of s) a b → Glanced s a b Differ
-  glance_no e = record { same = λ q. absurd (let z : ◌≡◌ {A = ℕ} 0 1 = cc in omega arith); differ = λ _. e }
+  glance_no : false ≡ same_value (case_of s) a b → Glanced s a b (Some false)
+  glance_no e = record { same = λ q. cc; differ = λ _. e }
 
-  pub glance_open : Glanced s a b Open
-  glance_open = record { same = λ q. absurd (let z : ◌≡◌ {A = ℕ} 0 1 = cc in omega arith); differ = λ q. absurd (let z : ◌≡◌ {A = ℕ} 0 1 = cc in omega arith) }
+  pub glance_open : Glanced s a b None
+  glance_open = record { same = λ q. cc; differ = λ q. cc }
 
-  pub glance_number : Checked s → a ≡ b → Glanced s a b Same
+  pub glance_number : Checked s → a ≡ b → Glanced s a b (Some true)
   glance_number c e = glance_yes (same_number s a b c e)
 
   module _ {k j : ℕ} (c : Checked s) (ek : k ≡ value_word s a 0) (ej : j ≡ value_word s b 0) where
-    pub glance_unlike : (k ≡ j → ⊥) → Glanced s a b Differ
+    pub glance_unlike : (k ≡ j → ⊥) → Glanced s a b (Some false)
     glance_unlike ne = glance_no (unlike s a b k j c ek ej ne)
 
     module _ {x y p q : ℕ} (e : k ≡ j) (ep : p ≡ value_word s a 2) (eq : q ≡ value_word s b 2) (ex : x ≡ value_word s a 1) (ey : y ≡ value_word s b 1) where
-      pub glance_same : x ≡ y → p ≡ q → Glanced s a b Same
+      pub glance_same : x ≡ y → p ≡ q → Glanced s a b (Some true)
       unfolding value_at
       glance_same f g =
           let kinds : value_word s a 0 ≡ value_word s b 0 = sym ek ∙ e ∙ ej in
@@ -235,40 +240,49 @@ module _ {s : List ℕ} {a b : ℕ} where
           let seconds : value_word s a 2 ≡ value_word s b 2 = sym ep ∙ g ∙ eq in
           glance_yes (same_number s b b c refl ∙ same_value-is c b b ∙ sym (same_value-is c a b ∙ rw (kinds, firsts, seconds) refl))
 
-      pub glance_int : (x ≡ y → ⊥) → k ≡ 2 → x < 4294967296 → y < 4294967296 → p < 4294967296 → q < 4294967296 → Glanced s a b Differ
+      pub glance_int : (x ≡ y → ⊥) → k ≡ 2 → x < 4294967296 → y < 4294967296 → p < 4294967296 → q < 4294967296 → Glanced s a b (Some false)
       glance_int ne z hx hy hp hq =
           let m = x + 4294967296 * p in
           let n = y + 4294967296 * q in
           let apart : eqb m n ≡ false = ne_eqb m n (λ f. ne (omega arith)) in
           glance_no (sym apart ∙ leaf-int s a b k x y c (sym ek) (sym (e ∙ ej)) ex ey p q m n z ep eq refl refl (record { fits = omega arith }) (record { fits = omega arith }))
 
-      pub glance_text : (x ≡ y → ⊥) → k ≡ 4 → Glanced s a b Differ
+      pub glance_text : (x ≡ y → ⊥) → k ≡ 4 → Glanced s a b (Some false)
       glance_text ne z = glance_no (sym (ne_eqb x y ne) ∙ leaf-text s a b k x y c (sym ek) (sym (e ∙ ej)) ex ey z)
 
 -- ---- what two values show at once
 
-module _ {s : List ℕ} {a b : ℕ} {h : Heads} where
-  pub head-told : {r : Bool} → r ≡ same_value (case_of s) a b → Told r h → Headed s a b h
-  head-told e t = record { said = λ k. t.same ∙ e; left = λ k. absurd (let z : true ≡ false = sym t.known ∙ k in true-false z) }
+module _ {s : List ℕ} {a b : ℕ} where
+  pub head-told : {r : Bool} → r ≡ same_value (case_of s) a b → Headed s a b (Break r)
+  head-told e = record { said = λ r k. cc; left = λ r k. cc }
 
-  pub head-same : Checked s → a ≡ b → Told true h → Headed s a b h
+  pub head-same : Checked s → a ≡ b → Headed s a b (Break true)
   head-same c e = head-told (same_number s a b c e)
 
-  pub head-unlike : {k m : ℕ} → Checked s → k ≡ value_word s a 0 → m ≡ value_word s b 0 → (k ≡ m → ⊥) → Told false h → Headed s a b h
+  pub head-unlike : {k m : ℕ} → Checked s → k ≡ value_word s a 0 → m ≡ value_word s b 0 → (k ≡ m → ⊥) → Headed s a b (Break false)
   head-unlike {k} {m} c ek em ne = head-told (unlike s a b k m c ek em ne)
 
-  pub head-counts : {k j n m : ℕ} → Checked s → k ≡ value_word s a 0 → j ≡ value_word s b 0 → k ≡ j → 6 ≤ k → n ≡ value_word s a 2 → m ≡ value_word s b 2 → (n ≡ m → ⊥) → Told false h → Headed s a b h
+  pub head-counts : {k j n m : ℕ} → Checked s → k ≡ value_word s a 0 → j ≡ value_word s b 0 → k ≡ j → 6 ≤ k → n ≡ value_word s a 2 → m ≡ value_word s b 2 → (n ≡ m → ⊥) → Headed s a b (Break false)
   head-counts c ek ej e l en em ne = head-told (counts-differ s a b _ _ _ _ (holders c ek ej e l en em refl refl) ne)
 
-pub head-said : {s : List ℕ} {a b : ℕ} {h : Heads} → Headed s a b h → h.known ≡ true → h.same ≡ same_value (case_of s) a b
-head-said f k = f.said k
+pub head-runs : {s : List ℕ} {a b k j n m p q : ℕ} → Checked s → k ≡ value_word s a 0 → j ≡ value_word s b 0 → k ≡ j → 6 ≤ k → n ≡ value_word s a 2 → m ≡ value_word s b 2 → n ≡ m → p ≡ value_word s a 1 → q ≡ value_word s b 1 → Headed s a b (Continue (record { n = n; p = p; q = q }))
+head-runs {s} {a} {b} {k} {j} {n} {m} {p} {q} c ek ej e l en em enm ep eq =
+    record { said = λ r t. cc; left = λ r t. go r t }
+  where
+    go : (r : Runs) → ◌≡◌ {A = ControlFlow Bool Runs} (Continue (record { n = n; p = p; q = q })) (Continue r) → Holders s a b r.n r.n r.p r.q
+    go r t = let z : record { n = n; p = p; q = q } ≡ r = cc in rw (← z) (holders c ek ej e l en (enm ∙ em) ep eq)
 
-pub head-runs : {s : List ℕ} {a b k j n m p q : ℕ} → Checked s → k ≡ value_word s a 0 → j ≡ value_word s b 0 → k ≡ j → 6 ≤ k → n ≡ value_word s a 2 → m ≡ value_word s b 2 → n ≡ m → p ≡ value_word s a 1 → q ≡ value_word s b 1 → Headed s a b (record { known = false; same = false; n = n; p = p; q = q })
-head-runs c ek ej e l en em enm ep eq =
-    record { said = λ t. absurd (true-false (sym t)); left = λ t. holders c ek ej e l en (enm ∙ em) ep eq }
+module _ {s : List ℕ} {u v x y : ℕ} (p q i : ℕ) (eu : u ≡ p + i) (ev : v ≡ q + i) (ex : x ≡ member_word s u 0) (ey : y ≡ member_word s v 0) where
+  pub pair_none : (x ≡ y → ⊥) → Paired s (p + i) (q + i) None
+  pair_none ne = record { unnamed = λ k. rw (← eu, ← ev, ← ex, ← ey) (ne_eqb x y ne); named = λ m k. cc; left = λ m k. cc; right = λ m k. cc }
 
-pub pair_is : {s : List ℕ} {u v x y : ℕ} {a b : ValNo} (p q i : ℕ) → u ≡ p + i → v ≡ q + i → x ≡ member_word s u 0 → y ≡ member_word s v 0 → a.0 ≡ member_word s u 1 → b.0 ≡ member_word s v 1 → Paired s (p + i) (q + i) (record { named = eqb x y; a = a; b = b })
-pair_is p q i eu ev ex ey ea eb = record { named = cc; left = cc; right = cc }
+  pub pair_some : {a b : ValNo} → x ≡ y → a.0 ≡ member_word s u 1 → b.0 ≡ member_word s v 1 → Paired s (p + i) (q + i) (Some (a, b))
+  pair_some {a} {b} e ea eb = record {
+    unnamed = λ k. cc;
+    named = λ m k. rw (← eu, ← ev, ← ex, ← ey) (eq-eqb x y e);
+    left = λ m k. let z : (a, b) ≡ m = cc in rw (← z, ← eu) ea;
+    right = λ m k. let z : (a, b) ≡ m = cc in rw (← z, ← ev) eb;
+  }
 
 -- ---- one part after another
 
@@ -298,22 +312,22 @@ module _ (s : List ℕ) (p q n i : ℕ) (from : PartsFrom s p q n i) where
       sym from.left ∙ rw (open_place (p + i) 1 n i (p + (i + 1)) h x, open_place (q + i) 1 n i (q + (i + 1)) h y) refl
 
 -- two arrays or objects a and b, whose members before i are alike
-pub record Going (s : List ℕ) (a b : ℕ) (h : Heads) (i : ℕ) : Type 0 where
+pub record Going (s : List ℕ) (a b : ℕ) (h : Runs) (i : ℕ) : Type 0 where
   pub holders : Holders s a b h.n h.n h.p h.q
   pub from : PartsFrom s h.p h.q h.n i
 
 -- values with members are in the table
-module _ {s : List ℕ} {a b : ℕ} {h : Heads} (f : Headed s a b h) (k : h.known ≡ false) where
+module _ {s : List ℕ} {a b : ℕ} {h : Runs} {x : ControlFlow Bool Runs} (f : Headed s a b x) (k : x ≡ Continue h) where
   pub left_in : a < 16384
-  left_in = holder_in s a b h.n h.n h.p h.q (f.left k)
+  left_in = holder_in s a b h.n h.n h.p h.q (f.left h k)
 
   pub right_in : b < 16384
-  right_in = holder_in s b a h.n h.n h.q h.p (turned s a b h.n h.n h.p h.q (f.left k))
+  right_in = holder_in s b a h.n h.n h.q h.p (turned s a b h.n h.n h.p h.q (f.left h k))
 
-pub go-start : {s : List ℕ} {a b : ℕ} {h : Heads} → Headed s a b h → h.known ≡ false → Going s a b h 0
-go-start f k = record { holders = f.left k; from = parts-start }
+pub go-start : {s : List ℕ} {a b : ℕ} {h : Runs} {x : ControlFlow Bool Runs} → Headed s a b x → x ≡ Continue h → Going s a b h 0
+go-start {h = h} f k = record { holders = f.left h k; from = parts-start }
 
-module _ {s : List ℕ} {a b i : ℕ} {h : Heads} (g : Going s a b h i) where
+module _ {s : List ℕ} {a b i : ℕ} {h : Runs} (g : Going s a b h i) where
   runs : same_runs s h.p h.q h.n ≡ same_value (case_of s) a b
   runs = runs-are s a b h.n h.n h.p h.q g.holders refl
 
@@ -321,48 +335,49 @@ module _ {s : List ℕ} {a b i : ℕ} {h : Heads} (g : Going s a b h i) where
   unfolding same_parts
   go-end l = (rw (shut-place (h.p + i) 1 h.n i l, shut-place (h.q + i) 1 h.n i l) at g.from.left) ∙ runs
 
-  module _ {m : Pair} (l : i < h.n) (e : Paired s (h.p + i) (h.q + i) m) where
+  module _ {o : Maybe (ValNo × ValNo)} (l : i < h.n) (e : Paired s (h.p + i) (h.q + i) o) where
     members : same_runs s h.p h.q h.n ≡ (eqb (member_word s (h.p + i) 0) (member_word s (h.q + i) 0) and same_value (case_of s) (member_word s (h.p + i) 1) (member_word s (h.q + i) 1) and rest s h.p h.q h.n (i + 1))
     members = part_open s h.p h.q h.n i g.from l
 
-    pub go-name : not m.named ≡ true → false ≡ same_value (case_of s) a b
-    go-name ne = sym (sym runs ∙ members ∙ stop _ (sym e.named ∙ not-true m.named ne))
+    pub go-name : o ≡ None → false ≡ same_value (case_of s) a b
+    go-name ne = sym (sym runs ∙ members ∙ stop _ (e.unnamed ne))
 
-    pub go-no : {r : Bool} → r ≡ same_value (case_of s) m.a.0 m.b.0 → not r ≡ true → false ≡ same_value (case_of s) a b
-    go-no {r} er np = sym (sym runs ∙ members ∙ skip _ (stop _ (rw (e.left, e.right) at (sym er ∙ not-true r np))))
+    module _ {c d : ValNo} (k : o ≡ Some (c, d)) where
+      pub go-no : {r : Bool} → r ≡ same_value (case_of s) c.0 d.0 → not r ≡ true → false ≡ same_value (case_of s) a b
+      go-no {r} er np = sym (sym runs ∙ members ∙ skip _ (stop _ (rw (e.left (c, d) k, e.right (c, d) k) at (sym er ∙ not-true r np))))
 
-    pub go-more : {r : Bool} → not m.named ≡ false → r ≡ same_value (case_of s) m.a.0 m.b.0 → not r ≡ false → Going s a b h (i + 1)
-    go-more {r} nn er np =
-        record {
-          holders = g.holders;
-          from = record {
-            inside = omega arith;
-            left = sym (members ∙ after (sym e.named ∙ not-false m.named nn) ∙ after (rw (e.left, e.right) at (sym er ∙ not-false r np)));
-          };
-        }
+      pub go-more : {r : Bool} → r ≡ same_value (case_of s) c.0 d.0 → not r ≡ false → Going s a b h (i + 1)
+      go-more {r} er np =
+          record {
+            holders = g.holders;
+            from = record {
+              inside = omega arith;
+              left = sym (members ∙ after (e.named (c, d) k) ∙ after (rw (e.left (c, d) k, e.right (c, d) k) at (sym er ∙ not-false r np)));
+            };
+          }
 
-    -- the members at i have lower numbers
-    left-lower : m.a.0 < a
-    left-lower = part-lower s a b h.n h.n h.p h.q g.holders i m.a.0 l e.left
+      -- the members at i have lower numbers
+      left-lower : c.0 < a
+      left-lower = part-lower s a b h.n h.n h.p h.q g.holders i c.0 l (e.left (c, d) k)
 
-    pub go-falls : {z : ℕ} → a ≡ z → m.a.0 < z
-    go-falls q = omega (arith, left-lower)
+      pub go-falls : {z : ℕ} → a ≡ z → c.0 < z
+      go-falls q = omega (arith, left-lower)
 
 -- ---- a plain way, while some of it is left
 
 -- the members of two runs before i are alike, and some is left
-pub record Looking (s : List ℕ) (left : ℕ) (h : Heads) (i : ℕ) : Type 0 where
+pub record Looking (s : List ℕ) (left : ℕ) (h : Runs) (i : ℕ) : Type 0 where
   pub from : PartsFrom s h.p h.q h.n i
   pub some : 0 < left
 
-pub look-start : {s : List ℕ} {left n : ℕ} {h : Heads} → n < left → Looking s (left - n) h 0
+pub look-start : {s : List ℕ} {left n : ℕ} {h : Runs} → n < left → Looking s (left - n) h 0
 look-start l = record { from = parts-start; some = omega arith }
 
 look-told : {s : List ℕ} {left x y a b : ℕ} {r : Bool} → 0 < left → r ≡ same_value (case_of s) a b → Looked s left x y a b r
 look-told l e = record { some = λ _. e; none = λ z. absurd (omega arith) }
 
-pub look-said : {s : List ℕ} {left x y a b : ℕ} {h : Heads} → 0 < left → Headed s a b h → h.known ≡ true → Looked s left x y a b h.same
-look-said l f k = look-told l (f.said k)
+pub look-said : {s : List ℕ} {left x y a b : ℕ} {h : ControlFlow Bool Runs} {r : Bool} → 0 < left → Headed s a b h → h ≡ Break r → Looked s left x y a b r
+look-said {r = r} l f k = look-told l (f.said r k)
 
 -- nothing is left: x and y were compared
 pub look-whole : {s : List ℕ} {x y a b : ℕ} {r : Bool} → r ≡ same_value (case_of s) x y → Looked s 0 x y a b r
@@ -378,30 +393,31 @@ look-all {s} {left} {a} {b} {r} o = go (eqb left 0) refl
     go true e = o.none (eqb-true left 0 e)
     go false e = let ne = eqb-false left 0 e in o.some (omega arith)
 
-module _ {s : List ℕ} {left a b i : ℕ} {h : Heads} (f : Headed s a b h) (k : h.known ≡ false) (g : Looking s left h i) where
+module _ {s : List ℕ} {left a b i : ℕ} {h : Runs} {w : ControlFlow Bool Runs} (f : Headed s a b w) (k : w ≡ Continue h) (g : Looking s left h i) where
   going : Going s a b h i
-  going = record { holders = f.left k; from = g.from }
+  going = record { holders = f.left h k; from = g.from }
 
   pub look-end : {x y : ℕ} → h.n ≤ i → Looked s left x y a b true
   look-end l = look-told g.some (go-end going l)
 
-  module _ {m : Pair} (l : i < h.n) (e : Paired s (h.p + i) (h.q + i) m) where
-    pub look-falls : {z : ℕ} → a ≡ z → m.a.0 < z
-    look-falls = go-falls going l e
-
-    pub look-name : {x y : ℕ} → not m.named ≡ true → Looked s left x y a b false
+  module _ {o : Maybe (ValNo × ValNo)} (l : i < h.n) (e : Paired s (h.p + i) (h.q + i) o) where
+    pub look-name : {x y : ℕ} → o ≡ None → Looked s left x y a b false
     look-name ne = look-told g.some (go-name going l e ne)
 
-    module _ {r : Seen} (o : Glanced s m.a.0 m.b.0 r) where
-      pub look-same : not m.named ≡ false → r ≡ Same → Looking s left h (i + 1)
-      look-same nn q = record { from = (go-more going l e nn (o.same q) refl).from; some = g.some }
+    module _ {c d : ValNo} (j : o ≡ Some (c, d)) where
+      pub look-falls : {z : ℕ} → a ≡ z → c.0 < z
+      look-falls = go-falls going l e j
 
-      pub look-differ : {x y : ℕ} → r ≡ Differ → Looked s left x y a b false
-      look-differ q = look-told g.some (go-no going l e (o.differ q) refl)
+      module _ {r : Maybe Bool} (t : Glanced s c.0 d.0 r) where
+        pub look-same : {u : Bool} → r ≡ Some u → u ≡ true → Looking s left h (i + 1)
+        look-same n f = let q : r ≡ Some true = cc in record { from = (go-more going l e j (t.same q) refl).from; some = g.some }
 
-    module _ {rest x y : ℕ} {r : Bool} (o : Looked s rest x y m.a.0 m.b.0 r) (z : rest ≡ 0 → ⊥) where
-      pub look-no : not r ≡ true → Looked s rest x y a b false
-      look-no q = let p : 0 < rest = omega arith in look-told p (go-no going l e (o.some p) q)
+        pub look-differ : {x y : ℕ} {u : Bool} → r ≡ Some u → u ≡ false → Looked s left x y a b false
+        look-differ n f = let q : r ≡ Some false = cc in look-told g.some (go-no going l e j (t.differ q) refl)
 
-      pub look-more : not m.named ≡ false → not r ≡ false → Looking s rest h (i + 1)
-      look-more nn q = let p : 0 < rest = omega arith in record { from = (go-more going l e nn (o.some p) q).from; some = p }
+      module _ {rest x y : ℕ} {r : Bool} (t : Looked s rest x y c.0 d.0 r) (z : rest ≡ 0 → ⊥) where
+        pub look-no : not r ≡ true → Looked s rest x y a b false
+        look-no q = let p : 0 < rest = omega arith in look-told p (go-no going l e j (t.some p) q)
+
+        pub look-more : not r ≡ false → Looking s rest h (i + 1)
+        look-more q = let p : 0 < rest = omega arith in record { from = (go-more going l e j (t.some p) q).from; some = p }

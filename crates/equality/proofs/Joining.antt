@@ -16,8 +16,10 @@ use Rattle.laws.specs.Lists.{Every, every_map}
 use Rattle.laws.specs.Values.{held}
 use Rattle.laws.specs.Checked.{lower-parts, same_value-is}
 use Rattle.equality.specs.declared.Ends.{Ends}
-use Rattle.equality.specs.declared.Heads.{Heads}
-use Rattle.equality.specs.declared.Pair.{Pair}
+use Rattle.equality.specs.declared.Runs.{Runs}
+use Rattle.meaning.specs.declared.ValNo.{ValNo}
+use Rattle.std.specs.Prelude.{Option as Maybe, Some, None}
+use Rattle.std.proofs.Common.{ControlFlow, Break, Continue}
 use Rattle.equality.specs.Joined.{Headed, Paired, Joined, Inside, Stepped, Next, Led, Leads, Ended, Met, Compared}
 use Rattle.equality.proofs.Alike.{same_number, left_in, right_in, Going, go-start, go-name, go-no, go-more, go-end}
 
@@ -169,33 +171,34 @@ module _ {s t u : List ℕ} {a b : ℕ} {e : Ends} (o : Inside s u a b) (d : End
 -- ---- two values compared by way of the table
 
 -- the members of a and b before i are alike
-pub record Deep (s t : List ℕ) (a b : ℕ) (h : Heads) (i : ℕ) : Type 0 where
+pub record Deep (s t : List ℕ) (a b : ℕ) (h : Runs) (i : ℕ) : Type 0 where
   pub joined : Joined s t
   pub going : Going s a b h i
 
-module _ {s t : List ℕ} {a b : ℕ} {h : Heads} (f : Headed s a b h) where
-  pub deep_in : Checked s → Joined s t → h.known ≡ false → Inside s t a b
+module _ {s t : List ℕ} {a b : ℕ} {w : ControlFlow Bool Runs} (f : Headed s a b w) where
+  pub deep-said : {r : Bool} → Joined s t → w ≡ Break r → Compared s t a b r
+  deep-said {r} j k = record { joined = j; answer = f.said r k }
+
+  pub deep_in : {h : Runs} → Checked s → Joined s t → w ≡ Continue h → Inside s t a b
   deep_in c j k = record { checked = c; joined = j; left = left_in f k; right = right_in f k }
 
-  pub deep-said : Joined s t → h.known ≡ true → Compared s t a b h.same
-  deep-said j k = record { joined = j; answer = f.said k }
-
-  pub deep-start : {r : Bool} → Met s t a b r → h.known ≡ false → Deep s t a b h 0
+  pub deep-start : {h : Runs} {r : Bool} → Met s t a b r → w ≡ Continue h → Deep s t a b h 0
   deep-start e k = record { joined = e.joined; going = go-start f k }
 
 pub deep-met : {s t : List ℕ} {a b : ℕ} {r : Bool} → Met s t a b r → r ≡ true → Compared s t a b true
 deep-met e q = record { joined = e.joined; answer = e.equal q }
 
-module _ {s t : List ℕ} {a b i : ℕ} {h : Heads} (g : Deep s t a b h i) where
+module _ {s t : List ℕ} {a b i : ℕ} {h : Runs} (g : Deep s t a b h i) where
   pub deep-end : {u : List ℕ} → h.n ≤ i → Joined s u → Compared s u a b true
   deep-end n j = record { joined = j; answer = go-end g.going n }
 
-  module _ {m : Pair} (n : i < h.n) (p : Paired s (h.p + i) (h.q + i) m) where
-    pub deep-name : not m.named ≡ true → Compared s t a b false
+  module _ {o : Maybe (ValNo × ValNo)} (n : i < h.n) (p : Paired s (h.p + i) (h.q + i) o) where
+    pub deep-name : o ≡ None → Compared s t a b false
     deep-name ne = record { joined = g.joined; answer = go-name g.going n p ne }
 
-    pub deep-no : {u : List ℕ} {y : Bool} → Compared s u m.a.0 m.b.0 y → not y ≡ true → Compared s u a b false
-    deep-no d ny = record { joined = d.joined; answer = go-no g.going n p d.answer ny }
+    module _ {c d : ValNo} (k : o ≡ Some (c, d)) where
+      pub deep-no : {u : List ℕ} {y : Bool} → Compared s u c.0 d.0 y → not y ≡ true → Compared s u a b false
+      deep-no f ny = record { joined = f.joined; answer = go-no g.going n p k f.answer ny }
 
-    pub deep_more : {u : List ℕ} {y : Bool} → not m.named ≡ false → Compared s u m.a.0 m.b.0 y → not y ≡ false → Deep s u a b h (i + 1)
-    deep_more nn d ny = record { joined = d.joined; going = go-more g.going n p nn d.answer ny }
+      pub deep_more : {u : List ℕ} {y : Bool} → Compared s u c.0 d.0 y → not y ≡ false → Deep s u a b h (i + 1)
+      deep_more f ny = record { joined = f.joined; going = go-more g.going n p k f.answer ny }

@@ -1,13 +1,12 @@
 -- Two values by what they show at once, and a table in which values found equal are joined
-use Rattle.std.specs.Prelude.{◌≡◌, Bool, true, false, List, ℕ, ◌-◌, ◌<◌, ◌≤◌, eqb, length, get_or}
+use Rattle.std.specs.Prelude.{◌≡◌, Bool, true, false, List, ℕ, ◌-◌, ◌<◌, ◌≤◌, eqb, length, get_or, Option, Some, None}
+use Rattle.std.proofs.Common.{ControlFlow, Break, Continue}
+use Rattle.meaning.specs.declared.ValNo.{ValNo}
 use Rattle.meaning.specs.Case.{case_of, value_word, member_word}
 use Rattle.meaning.specs.Check.{Checked}
 use Rattle.meaning.specs.Equal.{same_value}
 use Rattle.equality.specs.declared.Ends.{Ends}
-use Rattle.equality.specs.declared.Heads.{Heads}
-use Rattle.equality.specs.declared.Pair.{Pair}
-use Rattle.equality.specs.declared.Seen.{Seen}
-use Rattle.equality.specs.declared.Seen.TheVariants.{Same, Differ}
+use Rattle.equality.specs.declared.Runs.{Runs}
 
 -- two arrays or two objects, a and b: their kinds, their counts n, m and where their runs start, p, q, as the code has them
 pub record Holders (s : List ℕ) (a b n m p q : ℕ) : Type 0 where
@@ -20,24 +19,21 @@ pub record Holders (s : List ℕ) (a b n m p q : ℕ) : Type 0 where
   pub start-other : q ≡ value_word s b 1
 
 -- either the answer, or two runs of as many members
-pub record Headed (s : List ℕ) (a b : ℕ) (h : Heads) : Type 0 where
-  pub said : h.known ≡ true → h.same ≡ same_value (case_of s) a b
-  pub left : h.known ≡ false → Holders s a b h.n h.n h.p h.q
+pub record Headed (s : List ℕ) (a b : ℕ) (h : ControlFlow Bool Runs) : Type 0 where
+  pub said : (r : Bool) → h ≡ Break r → r ≡ same_value (case_of s) a b
+  pub left : (r : Runs) → h ≡ Continue r → Holders s a b r.n r.n r.p r.q
 
-pub record Told (r : Bool) (h : Heads) : Type 0 where
-  pub known : h.known ≡ true
-  pub same : h.same ≡ r
-
--- members u and v
-pub record Paired (s : List ℕ) (u v : ℕ) (r : Pair) : Type 0 where
-  pub named : r.named ≡ eqb (member_word s u 0) (member_word s v 0)
-  pub left : r.a.0 ≡ member_word s u 1
-  pub right : r.b.0 ≡ member_word s v 1
+-- the values of members u and v, if these have the same name
+pub record Paired (s : List ℕ) (u v : ℕ) (r : Option (ValNo × ValNo)) : Type 0 where
+  pub unnamed : r ≡ None → eqb (member_word s u 0) (member_word s v 0) ≡ false
+  pub named : (m : ValNo × ValNo) → r ≡ Some m → eqb (member_word s u 0) (member_word s v 0) ≡ true
+  pub left : (m : ValNo × ValNo) → r ≡ Some m → m.0.0 ≡ member_word s u 1
+  pub right : (m : ValNo × ValNo) → r ≡ Some m → m.1.0 ≡ member_word s v 1
 
 -- what a glance at a and b says, if anything
-pub record Glanced (s : List ℕ) (a b : ℕ) (r : Seen) : Type 0 where
-  pub same : r ≡ Same → true ≡ same_value (case_of s) a b
-  pub differ : r ≡ Differ → false ≡ same_value (case_of s) a b
+pub record Glanced (s : List ℕ) (a b : ℕ) (r : Option Bool) : Type 0 where
+  pub same : r ≡ Some true → true ≡ same_value (case_of s) a b
+  pub differ : r ≡ Some false → false ≡ same_value (case_of s) a b
 
 -- what is said of a and b while some is left, and of x and y where nothing is
 pub record Looked (s : List ℕ) (left x y a b : ℕ) (r : Bool) : Type 0 where

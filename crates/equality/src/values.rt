@@ -6,18 +6,13 @@ ghost use Rattle.meaning.specs.Check.{Checked, bodies};
 ghost use Rattle.meaning.specs.Equal.{same_value, bound_of};
 ghost use Rattle.meaning.specs.Rows.{in_cells, same_cell};
 ghost use Rattle.equality.specs.Cells.{Settled};
-ghost use Rattle.equality.specs.Joined.{Headed, Told, Paired, Glanced, Looked, Joined, Inside, Stepped, Next, Led, Leads, Ended, Met, Compared};
+ghost use Rattle.equality.specs.Joined.{Headed, Paired, Glanced, Looked, Joined, Inside, Stepped, Next, Led, Leads, Ended, Met, Compared};
 
-use crate::{Ends, Heads, Pair, Seen};
+use crate::{Ends, Runs};
 use meaning::{Binding, StrNo, ValNo};
 use numbers::decimal_eq;
-use tables::{both, halves, member_word, value_word, wide};
-
-pub fn long(x: u32) -> u64
-    ensures { result ≡ x }
-{
-    x as u64
-}
+use std::ops::ControlFlow;
+use tables::{halves, member_word, value_word, wide};
 
 // two values of the same kind, neither Array nor Object
 fn leaf_eq(s: &[u8], k: u32, a: ValNo, b: ValNo) -> bool
@@ -33,99 +28,75 @@ fn leaf_eq(s: &[u8], k: u32, a: ValNo, b: ValNo) -> bool
         0 => true,
         2 => halves(x, value_word(s, a, 2)) == halves(y, value_word(s, b, 2)),
         3 => decimal_eq(s, StrNo(x), StrNo(y)),
-        5 => both(x == y, value_word(s, a, 2) == value_word(s, b, 2)),
+        5 => x == y && value_word(s, a, 2) == value_word(s, b, 2),
         _ => x == y,
     }
 }
 
-// what a and b show at once: the same number, unlike kinds, leaves and unlike counts tell, two runs of members are left open
-fn heads(s: &[u8], a: ValNo, b: ValNo) -> Heads
+// what a and b show at once: the same number, unlike kinds, leaves and unlike counts tell, two runs of members are gone on with
+fn heads(s: &[u8], a: ValNo, b: ValNo) -> ControlFlow<bool, Runs>
     requires { Checked s.now }
     ensures { Headed s.now a.0 b.0 result }
 {
-    if a.0 == b.0 {
-        return told(true);
+    if a == b {
+        return ControlFlow::Break(true);
     }
     let k = value_word(s, a, 0);
     if k != value_word(s, b, 0) {
-        return told(false);
+        return ControlFlow::Break(false);
     }
     if k < 6 {
-        return told(leaf_eq(s, k, a, b));
+        return ControlFlow::Break(leaf_eq(s, k, a, b));
     }
     let n = value_word(s, a, 2);
     if n != value_word(s, b, 2) {
-        return told(false);
+        return ControlFlow::Break(false);
     }
     let p = value_word(s, a, 1);
     let q = value_word(s, b, 1);
-    Heads {
-        known: false,
-        same: false,
-        n,
-        p,
-        q,
-    }
+    ControlFlow::Continue(Runs { n, p, q })
 }
 
-fn told(same: bool) -> Heads
-    ensures { Told same result }
-{
-    Heads {
-        known: true,
-        same,
-        n: 0,
-        p: 0,
-        q: 0,
-    }
-}
-
-fn place(first: u32, i: u32) -> usize
-    ensures { result ≡ first + i }
-{
-    wide(first) + wide(i)
-}
-
-// member i of two runs that start at p and at q
-fn pair(s: &[u8], p: u32, q: u32, i: u32) -> Pair
+// the values of member i of two runs that start at p and at q, where both have the same name
+fn pair(s: &[u8], p: u32, q: u32, i: u32) -> Option<(ValNo, ValNo)>
     requires { bodies s.now ≡ true }
     ensures { Paired s.now (p + i) (q + i) result }
 {
-    let u = place(p, i);
-    let v = place(q, i);
-    let named = member_word(s, u, 0) == member_word(s, v, 0);
-    let a = ValNo(member_word(s, u, 1));
-    let b = ValNo(member_word(s, v, 1));
-    Pair { named, a, b }
+    let u = wide(p) + wide(i);
+    let v = wide(q) + wide(i);
+    if member_word(s, u, 0) != member_word(s, v, 0) {
+        return None;
+    }
+    Some((ValNo(member_word(s, u, 1)), ValNo(member_word(s, v, 1))))
 }
 
-// most members are told by their words alone: of any kind where all are the same, an Int or a String where the first differ
-fn glance(s: &[u8], a: ValNo, b: ValNo) -> Seen
+// most members are told by their words alone: of any kind where all are the same, an Int or a String where the first differ; None: not yet told
+fn glance(s: &[u8], a: ValNo, b: ValNo) -> Option<bool>
     requires { Checked s.now }
     ensures { Glanced s.now a.0 b.0 result }
 {
-    if a.0 == b.0 {
-        return Seen::Same;
+    if a == b {
+        return Some(true);
     }
     let k = value_word(s, a, 0);
     if k != value_word(s, b, 0) {
-        return Seen::Differ;
+        return Some(false);
     }
     let p = value_word(s, a, 2);
     let q = value_word(s, b, 2);
     if value_word(s, a, 1) == value_word(s, b, 1) {
         if p == q {
-            return Seen::Same;
+            return Some(true);
         }
-        return Seen::Open;
+        return None;
     }
     if k == 2 {
-        return Seen::Differ;
+        return Some(false);
     }
     if k == 4 {
-        return Seen::Differ;
+        return Some(false);
     }
-    Seen::Open
+    None
 }
 
 // a small value is compared without a table: a plain way through at most 64 members below those of a
@@ -143,30 +114,26 @@ fn plain_eq(s: &[u8], left: &mut usize, x: ValNo, y: ValNo, a: ValNo, b: ValNo) 
     requires left_nonzero { 0 < left.old }
     ensures { Looked s.now left.new x.0 y.0 a.0 b.0 result }
 {
-    let h = heads(s, a, b);
-    if h.known {
-        return h.same;
-    }
-    let n = wide(h.n);
+    let runs = match heads(s, a, b) {
+        ControlFlow::Break(same) => return same,
+        ControlFlow::Continue(runs) => runs,
+    };
+    let n = wide(runs.n);
     if *left <= n {
         *left = 0;
         return nested_eq(s, x, y);
     }
     *left -= n;
-    let mut i = 0;
-    while i < h.n {
-        let m = pair(s, h.p, h.q, i);
-        if !m.named {
+    for i in 0..runs.n {
+        let Some((c, d)) = pair(s, runs.p, runs.q, i) else {
             return false;
+        };
+        match glance(s, c, d) {
+            Some(true) => continue,
+            Some(false) => return false,
+            None => {}
         }
-        i += 1;
-        let g = glance(s, m.a, m.b);
-        match g {
-            Seen::Same => continue,
-            Seen::Differ => return false,
-            Seen::Open => {}
-        }
-        let r = plain_eq(s, left, x, y, m.a, m.b);
+        let r = plain_eq(s, left, x, y, c, d);
         if *left == 0 {
             return r;
         }
@@ -194,21 +161,18 @@ fn deep_eq(s: &[u8], lower: &mut [u16], a: ValNo, b: ValNo) -> bool
     requires joined { Joined s.now lower.old }
     ensures { Compared s.now lower.new a.0 b.0 result }
 {
-    let h = heads(s, a, b);
-    if h.known {
-        return h.same;
-    }
+    let runs = match heads(s, a, b) {
+        ControlFlow::Break(same) => return same,
+        ControlFlow::Continue(runs) => runs,
+    };
     if met(s, lower, a.0, b.0) {
         return true;
     }
-    let mut i = 0;
-    while i < h.n {
-        let m = pair(s, h.p, h.q, i);
-        if !m.named {
+    for i in 0..runs.n {
+        let Some((c, d)) = pair(s, runs.p, runs.q, i) else {
             return false;
-        }
-        i += 1;
-        if !deep_eq(s, lower, m.a, m.b) {
+        };
+        if !deep_eq(s, lower, c, d) {
             return false;
         }
     }
@@ -216,18 +180,11 @@ fn deep_eq(s: &[u8], lower: &mut [u16], a: ValNo, b: ValNo) -> bool
     true
 }
 
-fn short(x: u16) -> usize
-    ensures value { result ≡ x }
-    ensures upper_bound { result < 65536 }
-{
-    x as usize
-}
-
 fn step(lower: &[u16], v: usize) -> usize
     requires { v < length lower.now }
     ensures { Stepped lower.now v result }
 {
-    short(lower[v])
+    usize::from(lower[v])
 }
 
 // v is made to lead to the value that is d below it
@@ -247,6 +204,7 @@ fn lowest(s: &[u8], lower: &mut [u16], v: u32) -> usize
 {
     let mut k = wide(v);
     let mut d = step(lower, k);
+    // a while: how far it steps is read from what it has written
     while d != 0 {
         let e = d + step(lower, k - d);
         lead(s, lower, k, e);
@@ -281,12 +239,10 @@ fn join(s: &[u8], lower: &mut [u16], a: u32, b: u32)
     ensures { Joined s.now lower.new }
 {
     let e = ends(s, lower, a, b);
-    let v = e.v;
-    let w = e.w;
-    if v < w {
-        lead(s, lower, w, w - v);
+    if e.v < e.w {
+        lead(s, lower, e.w, e.w - e.v);
     } else {
-        lead(s, lower, v, v - w);
+        lead(s, lower, e.v, e.v - e.w);
     }
 }
 
@@ -296,10 +252,7 @@ fn join(s: &[u8], lower: &mut [u16], a: u32, b: u32)
 pub fn value_no(bits: u64) -> ValNo
     ensures { result.0 ≡ min 4294967295 bits }
 {
-    if 4294967295 <= bits {
-        return ValNo(4294967295);
-    }
-    ValNo(bits as u32)
+    ValNo(bits.min(4294967295) as u32)
 }
 
 // a variable bound to value v
@@ -311,8 +264,10 @@ pub fn binding_of(s: &[u8], v: ValNo) -> Binding
         let bits = halves(value_word(s, v, 1), value_word(s, v, 2));
         return Binding { tag: 1, bits };
     }
-    let bits = long(v.0);
-    Binding { tag: 2, bits }
+    Binding {
+        tag: 2,
+        bits: u64::from(v.0),
+    }
 }
 
 // the same thing, an Int always by its bits and a String always by its string's number
@@ -320,22 +275,22 @@ fn settled(s: &[u8], b: Binding) -> Binding
     requires { Checked s.now }
     ensures { Settled s.now b.tag b.bits result.tag result.bits }
 {
-    let tag = b.tag;
-    if tag == 2 {
+    if b.tag == 2 {
         let v = value_no(b.bits);
-        let k = value_word(s, v, 0);
         let x = value_word(s, v, 1);
-        if k == 2 {
-            let bits = halves(x, value_word(s, v, 2));
-            return Binding { tag: 1, bits };
-        }
-        if k == 4 {
-            let bits = long(x);
-            return Binding { tag: 3, bits };
-        }
-        return b;
+        return match value_word(s, v, 0) {
+            2 => Binding {
+                tag: 1,
+                bits: halves(x, value_word(s, v, 2)),
+            },
+            4 => Binding {
+                tag: 3,
+                bits: u64::from(x),
+            },
+            _ => b,
+        };
     }
-    if 3 < tag {
+    if 3 < b.tag {
         return Binding { tag: 0, bits: 0 };
     }
     b
@@ -350,11 +305,9 @@ pub fn binding_eq(s: &[u8], a: Binding, b: Binding) -> bool
     if x.tag != y.tag {
         return false;
     }
-    if x.tag == 0 {
-        return true;
+    match x.tag {
+        0 => true,
+        2 => dom_eq(s, value_no(x.bits), value_no(y.bits)),
+        _ => x.bits == y.bits,
     }
-    if x.tag == 2 {
-        return dom_eq(s, value_no(x.bits), value_no(y.bits));
-    }
-    x.bits == y.bits
 }

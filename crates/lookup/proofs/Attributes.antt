@@ -1,12 +1,13 @@
 -- An entity's attributes, its own parts, and what a path reaches from a root
 use mathlib.Core.Path.{◌≡◌, refl, sym, ◌∙◌, ap}
-use mathlib.Core.Bool.{Bool, true, false}
+use mathlib.Core.Bool.{Bool, true, false, ◌&&◌}
 use mathlib.Core.List.{List, [], ◌∷◌, map}
 use mathlib.Core.Option.{Option, none, some}
 use Prim.Native.Nat.{ℕ, zero, suc, ◌+◌, ◌*◌, ◌-◌, ◌<◌, ◌≤◌}
 use native.Mathlib.Omega.{arith}
 use lib.Dec.{eqb}
-use lib.ListN.{length, get_or}
+use lib.ListN.{length}
+use lib.Pointwise.{pointwise}
 use borrow.Author.Tests.{eq-eqb, ne_eqb}
 use Rattle.meaning.specs.declared.Run.{Run}
 use Rattle.meaning.specs.declared.Root.{Root}
@@ -59,12 +60,23 @@ module _ (s : List ℕ) (t i first count k : ℕ) (from : EntityFrom s t i first
     test : (eqb t (list s (first + 3 * k)) and eqb i (list s (first + 3 * k + 1))) ≡ r
     test = sym (er ∙ rw (ex, ey) refl)
 
-    pub entity-passed : r ≡ false → EntityFrom s t i first count (k + 1)
-    entity-passed e = record { inside = omega arith; rest = sym (entity-open false h (test ∙ e)) }
+    passed : r ≡ false → EntityFrom s t i first count (k + 1)
+    passed e = record { inside = omega arith; rest = sym (entity-open false h (test ∙ e)) }
 
-    pub entity-found : (p u w : ℕ) (v : ValNo) → first ≡ u → u ≡ point_word s p 10 → count ≡ w → w ≡ point_word s p 11 → v.0 ≡ list s (first + 3 * k + 2) → r ≡ true → found_at (Some v) ≡ attributes_of t i (point_at s p).entities
+    found-so : (p u w : ℕ) (v : ValNo) → first ≡ u → u ≡ point_word s p 10 → count ≡ w → w ≡ point_word s p 11 → v.0 ≡ list s (first + 3 * k + 2) → r ≡ true → found_at (Some v) ≡ attributes_of t i (point_at s p).entities
     unfolding found_at
-    entity-found p u w v ef eu ec ew ev e = ap some ev ∙ sym (ap (attributes_of t i) (entities-are s p first count u w ef eu ec ew) ∙ entity-open true h (test ∙ e))
+    found-so p u w v ef eu ec ew ev e = ap some ev ∙ sym (ap (attributes_of t i) (entities-are s p first count u w ef eu ec ew) ∙ entity-open true h (test ∙ e))
+
+  module _ (x : ℕ) (h : k < count) (ex : x ≡ list s (first + 3 * k)) where
+    pub other_type : (t ≡ x → ⊥) → EntityFrom s t i first count (k + 1)
+    other_type ne = passed x (list s (first + 3 * k + 1)) false h ex refl (sym (stop _ (ne_eqb t x ne))) refl
+
+    module _ (e : t ≡ x) (y : ℕ) (ey : y ≡ list s (first + 3 * k + 1)) where
+      pub other-id : (i ≡ y → ⊥) → EntityFrom s t i first count (k + 1)
+      other-id ne = passed x y false h ex ey (sym (skip _ (ne_eqb i y ne))) refl
+
+      pub entity-found : i ≡ y → (p u w : ℕ) (v : ValNo) → first ≡ u → u ≡ point_word s p 10 → count ≡ w → w ≡ point_word s p 11 → v.0 ≡ list s (first + 3 * k + 2) → found_at (Some v) ≡ attributes_of t i (point_at s p).entities
+      entity-found f p u w v ef eu ec ew ev = found-so x y true h ex ey (sym (after (eq-eqb t x e) ∙ eq-eqb i y f)) p u w v ef eu ec ew ev refl
 
 pub entity-none : (s : List ℕ) (t i first count k p u w : ℕ) → EntityFrom s t i first count k → first ≡ u → u ≡ point_word s p 10 → count ≡ w → w ≡ point_word s p 11 → count ≤ k → found_at None ≡ attributes_of t i (point_at s p).entities
 unfolding found_at attributes_of
@@ -74,49 +86,16 @@ entity-none s t i first count k p u w from ef eu ec ew h =
 
 -- ---- the entity's own parts
 
-pub short : (s l : List ℕ) → (length s ≡ length l → ⊥) → false ≡ same_list s l
-unfolding same_list
-short [] [] h = absurd (h refl)
-short [] (y ∷ l) h = refl
-short (x ∷ s) [] h = refl
-short (x ∷ s) (y ∷ l) h = sym (skip (eqb x y) (sym (short s l (λ e. h (ap suc e)))))
-
-differ-at : (s l : List ℕ) (k : ℕ) → k < length s → length s ≡ length l → (get_or s k 0 ≡ get_or l k 0 → ⊥) → same_list s l ≡ false
-unfolding same_list
-differ-at [] l k h e ne = absurd (omega arith)
-differ-at (x ∷ s) [] k h e ne = absurd (omega arith)
-differ-at (x ∷ s) (y ∷ l) zero h e ne = stop _ (ne_eqb x y ne)
-differ-at (x ∷ s) (y ∷ l) (suc k) h e ne = skip (eqb x y) (differ-at s l k (omega arith) (omega arith) ne)
-
--- a byte that is another: the first, the second, the third
-module _ (s l : List ℕ) (a b c : ℕ) where
-  pub first-other : length s ≡ length (a ∷ l) → (get_or s 0 0 ≡ a → ⊥) → false ≡ same_list s (a ∷ l)
-  first-other e ne = sym (differ-at s (a ∷ l) 0 (omega arith) e ne)
-
-  pub second-other : length s ≡ length (a ∷ b ∷ l) → (get_or s 1 0 ≡ b → ⊥) → false ≡ same_list s (a ∷ b ∷ l)
-  second-other e ne = sym (differ-at s (a ∷ b ∷ l) 1 (omega arith) e ne)
-
-  pub third-other : length s ≡ length (a ∷ b ∷ c ∷ l) → (get_or s 2 0 ≡ c → ⊥) → false ≡ same_list s (a ∷ b ∷ c ∷ l)
-  third-other e ne = sym (differ-at s (a ∷ b ∷ c ∷ l) 2 (omega arith) e ne)
-
-pub last_of_two : (s : List ℕ) (a b : ℕ) → length s ≡ 2 → get_or s 0 0 ≡ a → eqb (get_or s 1 0) b ≡ same_list s (a ∷ b ∷ [])
-unfolding same_list
-last_of_two [] a b h e = absurd (omega arith)
-last_of_two (x ∷ []) a b h e = absurd (omega arith)
-last_of_two (x ∷ y ∷ []) a b h e = sym (after (eq-eqb x a e) ∙ and-true (eqb y b))
-last_of_two (x ∷ y ∷ z ∷ s) a b h e = absurd (omega arith)
-
-pub last_of_four : (s : List ℕ) (a b c d : ℕ) → length s ≡ 4 → get_or s 0 0 ≡ a → get_or s 1 0 ≡ b → get_or s 2 0 ≡ c → eqb (get_or s 3 0) d ≡ same_list s (a ∷ b ∷ c ∷ d ∷ [])
-unfolding same_list
-last_of_four [] a b c d h e f g = absurd (omega arith)
-last_of_four (x ∷ s) a b c d h e f g = go s (omega arith) f g
+pub same_pointwise : (s l : List ℕ) → pointwise eqb s l ≡ same_list s l
+unfolding same_list ◌and◌
+same_pointwise [] [] = refl
+same_pointwise [] (y ∷ l) = refl
+same_pointwise (x ∷ s) [] = refl
+same_pointwise (x ∷ s) (y ∷ l) = go (eqb x y) (same_pointwise s l)
   where
-    go : (s : List ℕ) → length s ≡ 3 → get_or s 0 0 ≡ b → get_or s 1 0 ≡ c → eqb (get_or s 2 0) d ≡ (eqb x a and same_list s (b ∷ c ∷ d ∷ []))
-    go [] h f g = absurd (omega arith)
-    go (y ∷ s) h f g = more s (omega arith) g
-      where
-        more : (s : List ℕ) → length s ≡ 2 → get_or s 0 0 ≡ c → eqb (get_or s 1 0) d ≡ (eqb x a and same_list (y ∷ s) (b ∷ c ∷ d ∷ []))
-        more s h g = last_of_two s c d h g ∙ sym (after (eq-eqb x a e) ∙ (unfold same_list in after (eq-eqb y b f)))
+    go : (b : Bool) → pointwise eqb s l ≡ same_list s l → (b && pointwise eqb s l) ≡ (b and same_list s l)
+    go true e = e
+    go false e = refl
 
 pub own-none : (s : List ℕ) (t i : ℕ) (path : Run) → (path.count ≡ 1 → ⊥) → in_cells 0 0 ≡ own_part (case_of s) t i (names (case_of s) path)
 unfolding in_cells pick

@@ -8,7 +8,7 @@ use native.Mathlib.Omega.{arith}
 use lib.Dec.{eqb, ltb, leb}
 use lib.ListN.{length, length-append, get_or, set, replicate, take, drop, length-set, length-replicate}
 use lib.Seq.{drop-append_seam, get_or-set_same, get_or-set_other}
-use borrow.Author.Tests.{eqb-true, eqb-false, eq-eqb, ltb-true, ltb-false, lt-ltb, le-leb, lt-leb, le-ltb, not-true}
+use borrow.Author.Tests.{eqb-true, eqb-false, eq-eqb, ltb-true, ltb-false, leb-false, lt-ltb, le-leb, lt-leb, le-ltb, not-true}
 use Rattle.meaning.specs.declared.Run.{Run}
 use Rattle.meaning.specs.declared.ValNo.{ValNo}
 use Rattle.meaning.specs.Tests.{◌and◌, ◌or◌, choose, pick, or_else}
@@ -465,7 +465,7 @@ pub record PlainFrom (s : List ℕ) (first count at left : ℕ) : Type 0 where
 strings_of_lem : {s : List ℕ} → Checked s → (path : Run) → path_run s path.first path.count ≡ true → Every (λ n. n < strings s) (names (case_of s) path)
 strings_of_lem {s} c path h = every_map (names (case_of s) path) (λ n e. e.0) (names_of c path h)
 
-pub plain-start : (s : List ℕ) (path : Run) (first count : ℕ) → Checked s → path_run s path.first path.count ≡ true → first ≡ path.first → count ≡ path.count → PlainFrom s first count first count
+plain-start : (s : List ℕ) (path : Run) (first count : ℕ) → Checked s → path_run s path.first path.count ≡ true → first ≡ path.first → count ≡ path.count → PlainFrom s first count first count
 plain-start s path first count c h ef ec =
     record { inside = refl; known = rw (names-are s path first count ef ec) at (strings_of_lem c path h); same = refl }
 
@@ -491,7 +491,7 @@ module _ (s : List ℕ) (first count at left : ℕ) (g : PlainFrom s first count
     plain-string = (rw cut at g.known).0
 
     module _ (join : Bool) (ej : join ≡ may_join s name) where
-      pub plain-next : join ≡ false → PlainFrom s first count (at + 1) (left - 1)
+      plain-next : join ≡ false → PlainFrom s first count (at + 1) (left - 1)
       plain-next e =
           let apart : not (may_join s name) ≡ true = rw (← ej, e) refl in
           record { inside = omega (arith, g.inside); known = (rw cut at g.known).1; same = sym (sym g.same ∙ first_of ∙ after apart) }
@@ -508,6 +508,22 @@ module _ (s : List ℕ) (first count at left : ℕ) (g : PlainFrom s first count
       go zero h = unfold plain_names places in refl
       go (suc zero) h = unfold plain_names places in refl
       go (suc (suc k)) h = absurd (omega arith)
+
+-- the same, by the number of the name that is asked next, counted from 1
+abbrev pub PlainAt : List ℕ → ℕ → ℕ → ℕ → Type 0
+PlainAt s first count i = PlainFrom s first count (first + i - 1) (count + 1 - i)
+
+pub plain_begins : (s : List ℕ) (path : Run) (first count : ℕ) → Checked s → path_run s path.first path.count ≡ true → first ≡ path.first → count ≡ path.count → PlainAt s first count 1
+plain_begins s path first count c h ef ec =
+    let x : first + 1 - 1 ≡ first = omega arith in
+    let y : count + 1 - 1 ≡ count = omega arith in
+    rw (x, y) (plain-start s path first count c h ef ec)
+
+pub plain_on : (s : List ℕ) (first count i : ℕ) → PlainAt s first count i → 1 ≤ i → i < count → (name : ℕ) → name ≡ list s (first + i - 1) → (join : Bool) → join ≡ may_join s name → join ≡ false → PlainAt s first count (i + 1)
+plain_on s first count i g l h name en join ej e =
+    let x : first + (i + 1) - 1 ≡ first + i - 1 + 1 = omega arith in
+    let y : count + 1 - (i + 1) ≡ count + 1 - i - 1 = omega arith in
+    rw (x, y) (plain-next s first count (first + i - 1) (count + 1 - i) g (omega arith) name en join ej e)
 
 -- it is descended
 plain_descends : {s : List ℕ} → Checked s → (ns : List ℕ) → Every (λ n. n < strings s) ns → plain_names s ns ≡ true → (v : ℕ) → search (case_of s) v ns ≡ descend (case_of s) v ns
@@ -558,8 +574,8 @@ goes-not (x ∷ name) (y ∷ t) h = skip (eqb y x) (goes-not name t (omega arith
 pub goes-short : (name t : List ℕ) (end : ℕ) → end ≡ length name → length t ≤ end → false ≡ goes_on name t
 goes-short name t end e h = sym (goes-not name t (omega arith))
 
-pub goes-high : (name t : List ℕ) (end : ℕ) → end ≡ length name → end < length t → 46 < get_or t end 0 → false ≡ goes_on name t
-goes-high name t end e h l = sym (goes-is name t (omega arith) ∙ skip (begins name t) (lt-leb _ _ (rw e at l)))
+pub goes-high : (name t : List ℕ) (end : ℕ) (r : Bool) → end ≡ length name → end < length t → r ≡ leb (get_or t end 0) 46 → r ≡ false → false ≡ goes_on name t
+goes-high name t end r e h er f = let l = leb-false (get_or t end 0) 46 (sym er ∙ f) in sym (goes-is name t (omega arith) ∙ skip (begins name t) (lt-leb _ _ (rw e at l)))
 
 pub goes_so : (name t : List ℕ) (end : ℕ) (r : Bool) → end ≡ length name → end < length t → get_or t end 0 ≤ 46 → r ≡ begins name (drop 0 t) → r ≡ goes_on name t
 goes_so name t end r e h l er = er ∙ sym (goes-is name t (omega arith) ∙ and-pass (begins name t) (le-leb _ _ (rw e at l)))

@@ -6,7 +6,7 @@ mod paths;
 
 pub use paths::{context_at, field_at, path_descend, same_event, scope_at};
 
-// what is behind a name in a text: the end, a dot and the byte after it, or something else
+// what is behind a name in a text: the end, a dot and the byte after it, or something else; three ways, so no Option
 #[derive(Clone, Copy)]
 enum After {
     End,

@@ -13,9 +13,9 @@ ghost use Rattle.lookup.specs.Paths.{found_at};
 ghost use Rattle.lookup.specs.Dotted.{rest, begins, joins, Behind, goes_on, may_join, plain_names, key_of, Failed, Ready, Spans, Sought, Missed};
 
 use crate::{After, Span};
-use equality::{binding_of, long};
+use equality::binding_of;
 use meaning::{Binding, Root, Run, StrNo, ValNo};
-use tables::{both, list_at, member_word, offset_of, point_word, value_word, wide, word_at};
+use tables::{list_at, member_word, offset_of, point_word, value_word, wide, word_at};
 
 // ---- objects
 
@@ -32,6 +32,7 @@ fn member_named(s: &[u8], v: ValNo, n: StrNo) -> Option<ValNo>
     let table = wide(offset_of(s, 2)) / 4;
     let mut at = wide(value_word(s, v, 1));
     let mut left = wide(value_word(s, v, 2));
+    // a while: the names are words of the file, two apart, and no slice that could be searched by its own method
     while 0 < left {
         let half = left / 2;
         let middle = at + half;
@@ -78,8 +79,7 @@ fn reached(s: &[u8], v: ValNo, path: Run) -> Binding
     requires { Checked s.now }
     ensures { in_cells result.tag result.bits ≡ bound_at (case_of s.now) (descend (case_of s.now) v.0 (names (case_of s.now) path)) }
 {
-    let found = path_descend(s, v, path);
-    binding_found(s, found)
+    binding_found(s, path_descend(s, v, path))
 }
 
 // ---- names with dots: what a path gives in context and attributes
@@ -89,17 +89,7 @@ fn stands_at(t: &[u8], at: usize, name: &[u8]) -> bool
     requires { at ≤ length t.now }
     ensures { ◌≡◌ {A = Bool} result (begins name.now (drop at t.now)) }
 {
-    if t.len() - at < name.len() {
-        return false;
-    }
-    let mut i = 0;
-    while i < name.len() {
-        if t[at + i] != name[i] {
-            return false;
-        }
-        i += 1;
-    }
-    true
+    t[at..].starts_with(name)
 }
 
 // what is behind a name that stands at byte `at` of t
@@ -130,13 +120,10 @@ fn names_joined(s: &[u8], n: StrNo, path: Run, from: usize) -> usize
     let first = wide(path.first) + from;
     let left = wide(path.count) - from;
     let mut at = 0;
-    let mut k = 0;
-    while k < left {
-        let name = list_at(s, first + k);
-        k += 1;
-        let behind = behind_name(tables::text_of(s, n), at, tables::text_of(s, StrNo(name)));
-        match behind {
-            After::End => return k,
+    for k in 0..left {
+        let name = StrNo(list_at(s, first + k));
+        match behind_name(tables::text_of(s, n), at, tables::text_of(s, name)) {
+            After::End => return k + 1,
             After::Dot(next) => at = next,
             After::Other => return 0,
         }
@@ -148,13 +135,7 @@ fn goes_on(name: &[u8], t: &[u8]) -> bool
     ensures { ◌≡◌ {A = Bool} result (goes_on name.now t.now) }
 {
     let end = name.len();
-    if t.len() <= end {
-        return false;
-    }
-    if b'.' < t[end] {
-        return false;
-    }
-    stands_at(t, 0, name)
+    end < t.len() && t[end] <= b'.' && stands_at(t, 0, name)
 }
 
 // whether a string may begin with string n and a dot: then the one behind n in their order goes on so
@@ -165,10 +146,7 @@ fn may_join(s: &[u8], n: StrNo) -> bool
 {
     let count = tables::size_of(s, 0) / 8;
     let next = n.0 + 1;
-    if count == next {
-        return false;
-    }
-    goes_on(tables::text_of(s, n), tables::text_of(s, StrNo(next)))
+    count != next && goes_on(tables::text_of(s, n), tables::text_of(s, StrNo(next)))
 }
 
 // the number that value v with the names from `from` on is kept by
@@ -177,7 +155,7 @@ fn key_of(v: ValNo, from: usize) -> u64
     ensures value { result ≡ key_of v.0 from }
     ensures from_bound { from < 4294967295 }
 {
-    1 + (from as u64) + 4294967296 * long(v.0)
+    1 + (from as u64) + 4294967296 * u64::from(v.0)
 }
 
 fn place_of(key: u64) -> usize
@@ -233,8 +211,7 @@ fn look(s: &[u8], failed: &mut [u64], path: Run, v: ValNo, from: usize) -> Optio
     if known(failed, key_of(v, from)) {
         return None;
     }
-    let found = look_in(s, failed, path, v, from);
-    match found {
+    match look_in(s, failed, path, v, from) {
         Some(u) => Some(u),
         None => {
             note(s, failed, path, v, from);
@@ -250,20 +227,14 @@ fn look_in(s: &[u8], failed: &mut [u64], path: Run, v: ValNo, from: usize) -> Op
     ensures { Sought s.now path failed.new v.0 from result }
 {
     let run = members_of(s, v);
-    let first = run.first;
-    let mut m = run.end;
-    while first < m {
-        m -= 1;
-        let name = member_word(s, m, 0);
-        let k = names_joined(s, StrNo(name), path, from);
+    for m in (run.first..run.end).rev() {
+        let k = names_joined(s, StrNo(member_word(s, m, 0)), path, from);
         if k == 0 {
             continue;
         }
-        let u = member_word(s, m, 1);
-        let found = look(s, failed, path, ValNo(u), from + k);
-        match found {
-            Some(w) => return Some(w),
-            None => {}
+        let u = ValNo(member_word(s, m, 1));
+        if let Some(w) = look(s, failed, path, u, from + k) {
+            return Some(w);
         }
     }
     None
@@ -289,13 +260,11 @@ fn look_from(s: &[u8], path: Run, v: ValNo, from: usize) -> Binding
     if from == wide(path.count) {
         return binding_of(s, v);
     }
-    let name = list_at(s, wide(path.first) + from);
-    if may_join(s, StrNo(name)) {
-        let found = look_far(s, path, v, from);
-        return binding_found(s, found);
+    let name = StrNo(list_at(s, wide(path.first) + from));
+    if may_join(s, name) {
+        return binding_found(s, look_far(s, path, v, from));
     }
-    let found = member_named(s, v, StrNo(name));
-    match found {
+    match member_named(s, v, name) {
         Some(u) => look_from(s, path, u, from + 1),
         None => Binding { tag: 0, bits: 0 },
     }
@@ -307,15 +276,11 @@ fn plain_path(s: &[u8], path: Run) -> bool
     requires count_value { path_run s.now path.first path.count ≡ true }
     ensures { ◌≡◌ {A = Bool} result (plain_names s.now (names (case_of s.now) path)) }
 {
-    let mut at = wide(path.first);
-    let mut left = wide(path.count);
-    while 1 < left {
-        let name = list_at(s, at);
-        if may_join(s, StrNo(name)) {
+    let first = wide(path.first);
+    for i in 1..wide(path.count) {
+        if may_join(s, StrNo(list_at(s, first + i - 1))) {
             return false;
         }
-        at += 1;
-        left -= 1;
     }
     true
 }
@@ -327,10 +292,8 @@ fn path_lookup(s: &[u8], v: ValNo, path: Run) -> Binding
     ensures { in_cells result.tag result.bits ≡ bound_at (case_of s.now) (lookup (case_of s.now) v.0 (names (case_of s.now) path)) }
 {
     // no value is that deep: the names of a longer path are asked as they are reached
-    if path.count < 32 {
-        if plain_path(s, path) {
-            return reached(s, v, path);
-        }
+    if path.count < 32 && plain_path(s, path) {
+        return reached(s, v, path);
     }
     look_from(s, path, v, 0)
 }
@@ -341,8 +304,7 @@ pub fn field_at(s: &[u8], p: usize, path: Run) -> Binding
     requires { Checked s.now }
     ensures { in_cells result.tag result.bits ≡ field_at (case_of s.now) (point_at s.now p) (names (case_of s.now) path) }
 {
-    let v = point_word(s, p, 6);
-    reached(s, ValNo(v), path)
+    reached(s, ValNo(point_word(s, p, 6)), path)
 }
 
 pub fn context_at(s: &[u8], p: usize, path: Run) -> Binding
@@ -350,8 +312,7 @@ pub fn context_at(s: &[u8], p: usize, path: Run) -> Binding
     requires count_value { path_run s.now path.first path.count ≡ true }
     ensures { in_cells result.tag result.bits ≡ context_at (case_of s.now) (point_at s.now p) (names (case_of s.now) path) }
 {
-    let v = point_word(s, p, 7);
-    path_lookup(s, ValNo(v), path)
+    path_lookup(s, ValNo(point_word(s, p, 7)), path)
 }
 
 // the attribute object that point p has of an entity
@@ -359,19 +320,13 @@ fn attributes_of(s: &[u8], p: usize, t: StrNo, i: StrNo) -> Option<ValNo>
     requires { bodies s.now ≡ true }
     ensures { found_at result ≡ attributes_of t.0 i.0 (point_at s.now p).entities }
 {
-    let kind = t.0;
-    let id = i.0;
     let first = wide(point_word(s, p, 10));
     let count = wide(point_word(s, p, 11));
-    let mut k = 0;
-    while k < count {
+    for k in 0..count {
         let at = first + 3 * k;
-        let type_at = list_at(s, at);
-        let id_at = list_at(s, at + 1);
-        if both(kind == type_at, id == id_at) {
+        if t.0 == list_at(s, at) && i.0 == list_at(s, at + 1) {
             return Some(ValNo(list_at(s, at + 2)));
         }
-        k += 1;
     }
     None
 }
@@ -379,31 +334,13 @@ fn attributes_of(s: &[u8], p: usize, t: StrNo, i: StrNo) -> Option<ValNo>
 fn is_id(s: &[u8]) -> bool
     ensures { ◌≡◌ {A = Bool} result (same_list s.now (105 ∷ 100 ∷ [])) }
 {
-    if s.len() != 2 {
-        return false;
-    }
-    if s[0] != b'i' {
-        return false;
-    }
-    s[1] == b'd'
+    s == b"id".as_slice()
 }
 
 fn is_type(s: &[u8]) -> bool
     ensures { ◌≡◌ {A = Bool} result (same_list s.now (116 ∷ 121 ∷ 112 ∷ 101 ∷ [])) }
 {
-    if s.len() != 4 {
-        return false;
-    }
-    if s[0] != b't' {
-        return false;
-    }
-    if s[1] != b'y' {
-        return false;
-    }
-    if s[2] != b'p' {
-        return false;
-    }
-    s[3] == b'e'
+    s == b"type".as_slice()
 }
 
 // `id` and `type` alone fall back to the entity's own parts
@@ -414,15 +351,18 @@ fn own_part(s: &[u8], t: StrNo, i: StrNo, path: Run) -> Binding
     if path.count != 1 {
         return Binding { tag: 0, bits: 0 };
     }
-    let first = wide(path.first);
-    let name = list_at(s, first);
-    if is_id(tables::text_of(s, StrNo(name))) {
-        let bits = long(i.0);
-        return Binding { tag: 3, bits };
+    let name = tables::text_of(s, StrNo(list_at(s, wide(path.first))));
+    if is_id(name) {
+        return Binding {
+            tag: 3,
+            bits: u64::from(i.0),
+        };
     }
-    if is_type(tables::text_of(s, StrNo(name))) {
-        let bits = long(t.0);
-        return Binding { tag: 3, bits };
+    if is_type(name) {
+        return Binding {
+            tag: 3,
+            bits: u64::from(t.0),
+        };
     }
     Binding { tag: 0, bits: 0 }
 }
@@ -433,8 +373,7 @@ fn supplied(s: &[u8], p: usize, t: StrNo, i: StrNo, path: Run) -> Binding
     requires count_value { path_run s.now path.first path.count ≡ true }
     ensures { in_cells result.tag result.bits ≡ suppliedAt (case_of s.now) (attributes_of t.0 i.0 (point_at s.now p).entities) (names (case_of s.now) path) }
 {
-    let object = attributes_of(s, p, t, i);
-    match object {
+    match attributes_of(s, p, t, i) {
         Some(v) => path_lookup(s, v, path),
         None => Binding { tag: 0, bits: 0 },
     }
@@ -516,12 +455,10 @@ fn same_runs(s: &[u8], a: Run, b: Run) -> bool
     }
     let p = wide(a.first);
     let q = wide(b.first);
-    let mut i = 0;
-    while i < n {
+    for i in 0..n {
         if list_at(s, p + i) != list_at(s, q + i) {
             return false;
         }
-        i += 1;
     }
     true
 }
@@ -531,13 +468,12 @@ pub fn same_event(s: &[u8], namespace: Run, action: StrNo, kind: StrNo, p: usize
     requires { Checked s.now }
     ensures { ◌≡◌ {A = Bool} result (same_event (names (case_of s.now) namespace) action.0 kind.0 (point_at s.now p)) }
 {
-    if action.0 != point_word(s, p, 4) {
+    if action.0 != point_word(s, p, 4) || kind.0 != point_word(s, p, 5) {
         return false;
     }
-    if kind.0 != point_word(s, p, 5) {
-        return false;
-    }
-    let first = point_word(s, p, 2);
-    let count = point_word(s, p, 3);
-    same_runs(s, namespace, Run { first, count })
+    let own = Run {
+        first: point_word(s, p, 2),
+        count: point_word(s, p, 3),
+    };
+    same_runs(s, namespace, own)
 }

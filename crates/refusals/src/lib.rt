@@ -10,6 +10,7 @@ use meaning::Refusal;
 pub fn number(r: Refusal) -> u64
     ensures { (result ≡ number_of r) × (result < 16) }
 {
+    // a match and no cast of the enum: a number belongs to its name, wherever that stands in the list
     match r {
         Refusal::BadContents => 1,
         Refusal::TooLarge => 2,

@@ -20,13 +20,13 @@ use meaning::{ArithOp, CmpOp, Interval, Node, NodeNo, Root, Run, StrNo, TimeUnit
 pub fn both(a: bool, b: bool) -> bool
     ensures { ◌≡◌ {A = Bool} result (a and b) }
 {
-    if a { b } else { false }
+    a && b
 }
 
 pub fn either(a: bool, b: bool) -> bool
     ensures { ◌≡◌ {A = Bool} result (a or b) }
 {
-    if a { true } else { b }
+    a || b
 }
 
 // ---- words
@@ -126,10 +126,7 @@ pub fn member_word(s: &[u8], m: usize, j: usize) -> u32
     ensures { result ≡ member_word s.now m j }
 {
     let size = wide(size_of(s, 2));
-    if size <= j {
-        return 0;
-    }
-    if size <= m {
+    if size <= j || size <= m {
         return 0;
     }
     body_word(s, 2, 2 * m + j)
@@ -140,10 +137,7 @@ pub fn point_word(s: &[u8], p: usize, j: usize) -> u32
     ensures { result ≡ point_word s.now p j }
 {
     let size = wide(size_of(s, 3));
-    if size <= j {
-        return 0;
-    }
-    if size <= p {
+    if size <= j || size <= p {
         return 0;
     }
     body_word(s, 3, 12 * p + j)
@@ -184,7 +178,7 @@ pub fn text_of(s: &[u8], n: StrNo) -> &[u8]
 pub fn halves(low: u32, high: u32) -> u64
     ensures { result ≡ low + 4294967296 * high }
 {
-    (low as u64) + 4294967296 * (high as u64)
+    (low as u64) + ((high as u64) << 32)
 }
 
 // ---- nodes
@@ -235,9 +229,10 @@ fn root_from(o: u32) -> Root
 fn interval_of(low: u32, high: u32, unit: u32) -> Interval
     ensures { result ≡ interval low high unit }
 {
-    let amount = halves(low, high);
-    let u = unit_of(unit);
-    Interval { amount, unit: u }
+    Interval {
+        amount: halves(low, high),
+        unit: unit_of(unit),
+    }
 }
 
 // a node from its kind and its operands
@@ -248,43 +243,25 @@ fn node_from(k: u32, a: u32, b: u32, c: u32, d: u32, e: u32, f: u32) -> Node
         1 => Node::And(NodeNo(a), NodeNo(b)),
         2 => Node::Or(NodeNo(a), NodeNo(b)),
         3 => Node::Not(NodeNo(a)),
-        4 => {
-            let t = interval_of(a, b, c);
-            Node::Formerly(t, NodeNo(d))
-        }
-        5 => {
-            let t = interval_of(a, b, c);
-            Node::Previous(t, NodeNo(d))
-        }
-        6 => {
-            let t = interval_of(c, d, e);
-            Node::Since(NodeNo(a), NodeNo(b), t)
-        }
+        4 => Node::Formerly(interval_of(a, b, c), NodeNo(d)),
+        5 => Node::Previous(interval_of(a, b, c), NodeNo(d)),
+        6 => Node::Since(NodeNo(a), NodeNo(b), interval_of(c, d, e)),
         7 => Node::Predicate {
             namespace: Run { first: a, count: b },
             action: StrNo(c),
             kind: StrNo(d),
             arguments: Run { first: e, count: f },
         },
-        8 => {
-            let o = cmp_of(a);
-            Node::Comparison(o, NodeNo(b), NodeNo(c))
-        }
+        8 => Node::Comparison(cmp_of(a), NodeNo(b), NodeNo(c)),
         9 => Node::Exists(a, NodeNo(b)),
         10 => Node::Tp(a),
         20 => Node::Literal(ValNo(a)),
         21 => Node::Context(Run { first: a, count: b }),
-        22 => {
-            let o = root_from(a);
-            Node::Scope(o, Run { first: b, count: c })
-        }
+        22 => Node::Scope(root_from(a), Run { first: b, count: c }),
         23 => Node::Variable(a),
         24 => Node::Wildcard,
         25 => Node::Aggregate(NodeNo(a)),
-        26 => {
-            let o = arith_of(a);
-            Node::Arithmetic(o, NodeNo(b), NodeNo(c))
-        }
+        26 => Node::Arithmetic(arith_of(a), NodeNo(b), NodeNo(c)),
         30 => Node::Sum {
             variable: a,
             binders: Run { first: b, count: c },
@@ -308,14 +285,15 @@ pub fn node_at(s: &[u8], n: NodeNo) -> Node
         return Node::Broken;
     }
     let at = wide(offset_of(s, 4)) / 4 + 8 * k;
-    let kind = word_at(s, at);
-    let a = word_at(s, at + 1);
-    let b = word_at(s, at + 2);
-    let c = word_at(s, at + 3);
-    let d = word_at(s, at + 4);
-    let e = word_at(s, at + 5);
-    let f = word_at(s, at + 6);
-    node_from(kind, a, b, c, d, e, f)
+    node_from(
+        word_at(s, at),
+        word_at(s, at + 1),
+        word_at(s, at + 2),
+        word_at(s, at + 3),
+        word_at(s, at + 4),
+        word_at(s, at + 5),
+        word_at(s, at + 6),
+    )
 }
 
 // ---- points
@@ -330,9 +308,7 @@ pub fn time_at(s: &[u8], p: usize) -> u64
         return 0;
     }
     let at = wide(offset_of(s, 3)) / 4 + 12 * p;
-    let low = word_at(s, at);
-    let high = word_at(s, at + 1);
-    halves(low, high)
+    halves(word_at(s, at), word_at(s, at + 1))
 }
 
 // ---- values
@@ -356,10 +332,7 @@ fn value_from(k: u32, a: u32, b: u32) -> Value
 {
     match k {
         1 => Value::Bool(a),
-        2 => {
-            let bits = halves(a, b);
-            Value::Int(bits)
-        }
+        2 => Value::Int(halves(a, b)),
         3 => Value::Decimal(StrNo(a)),
         4 => Value::Text(StrNo(a)),
         5 => Value::Entity(StrNo(a), StrNo(b)),
@@ -373,8 +346,9 @@ pub fn value_at(s: &[u8], v: ValNo) -> Value
     requires { bodies s.now ≡ true }
     ensures { meant (part_at s.now) result ≡ value_at s.now v.0 }
 {
-    let kind = value_word(s, v, 0);
-    let a = value_word(s, v, 1);
-    let b = value_word(s, v, 2);
-    value_from(kind, a, b)
+    value_from(
+        value_word(s, v, 0),
+        value_word(s, v, 1),
+        value_word(s, v, 2),
+    )
 }

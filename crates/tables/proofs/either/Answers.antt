@@ -1,5 +1,5 @@
 -- `either` says a or b
-use mathlib.Core.Path.{◌≡◌}
+use mathlib.Core.Path.{◌≡◌, ◌∙◌}
 use mathlib.Core.Bool.{Bool, true, false}
 use Rattle.meaning.specs.Tests.{◌or◌}
 use Rattle.tables.proofs.either.Goals as goal
@@ -13,7 +13,7 @@ unfolding ◌or◌
 second a b e = rw e
 
 pub returns-then-a : goal.returns-then-a
-returns-then-a c = first _ _ c.if-a.true
+returns-then-a c = c.if-a.true ∙ first _ _ c.if-a.true
 
 pub returns-else-a : goal.returns-else-a
 returns-else-a c = second _ _ c.if-a.false

@@ -13,26 +13,26 @@ returns-then-size-k c = search (node-none, rules)
 pub offset_of-requires : goal.offset_of-requires
 offset_of-requires c = search (long, rules)
 
-pub word_at-kind-requires : goal.word_at-kind-requires
-word_at-kind-requires c = search (node-first, rules)
+pub word_at-requires : goal.word_at-requires
+word_at-requires c = search (node-first, rules)
 
-pub word_at-a-requires : goal.word_at-a-requires
-word_at-a-requires c = search (node-fits, rules)
+pub word_at-requires-2 : goal.word_at-requires-2
+word_at-requires-2 c = search (node-fits, rules)
 
-pub word_at-b-requires : goal.word_at-b-requires
-word_at-b-requires c = search (node-fits, rules)
+pub word_at-requires-3 : goal.word_at-requires-3
+word_at-requires-3 c = search (node-fits, rules)
 
-pub word_at-c-requires : goal.word_at-c-requires
-word_at-c-requires c = search (node-fits, rules)
+pub word_at-requires-4 : goal.word_at-requires-4
+word_at-requires-4 c = search (node-fits, rules)
 
-pub word_at-d-requires : goal.word_at-d-requires
-word_at-d-requires c = search (node-fits, rules)
+pub word_at-requires-5 : goal.word_at-requires-5
+word_at-requires-5 c = search (node-fits, rules)
 
-pub word_at-e-requires : goal.word_at-e-requires
-word_at-e-requires c = search (node-fits, rules)
+pub word_at-requires-6 : goal.word_at-requires-6
+word_at-requires-6 c = search (node-fits, rules)
 
-pub word_at-f-requires : goal.word_at-f-requires
-word_at-f-requires c = search (node-fits, rules)
+pub word_at-requires-7 : goal.word_at-requires-7
+word_at-requires-7 c = search (node-fits, rules)
 
 pub returns : goal.returns
 returns c = search (node-whole, rules)

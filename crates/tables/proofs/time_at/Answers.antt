@@ -12,11 +12,11 @@ returns-then-size-p c = search (time-none, rules)
 pub offset_of-requires : goal.offset_of-requires
 offset_of-requires c = search (long, rules)
 
-pub word_at-low-requires : goal.word_at-low-requires
-word_at-low-requires c = search (time-first, rules)
+pub word_at-requires : goal.word_at-requires
+word_at-requires c = search (time-first, rules)
 
-pub word_at-high-requires : goal.word_at-high-requires
-word_at-high-requires c = search (time-fits, rules)
+pub word_at-requires-2 : goal.word_at-requires-2
+word_at-requires-2 c = search (time-fits, rules)
 
 pub returns : goal.returns
 returns c = search (time-whole, rules)

@@ -4,8 +4,8 @@ use Rattle.equality.proofs.Alike.{go-end, go-falls}
 use Rattle.equality.proofs.Joining.{deep_in, deep-said, deep-met, deep-start, deep-name, deep-no, deep_more, deep-end}
 use Rattle.equality.proofs.values.+deep_eq.Goals as goal
 
-pub returns-then-h : goal.returns-then-h
-returns-then-h t c = search (deep-said, rules)
+pub returns-in-Break : goal.returns-in-Break
+returns-in-Break t c = search (deep-said, rules)
 
 pub met-requires : goal.met-requires
 met-requires t c = search (deep_in, rules)
@@ -16,11 +16,11 @@ returns-then-met t c = search (deep-met, rules)
 pub loop-i-init : goal.loop-i-init
 loop-i-init t c = search (deep-start, rules)
 
-pub pair-m-requires : goal.pair-m-requires
-pair-m-requires t c = search (checked-bodies, rules)
+pub pair-requires : goal.pair-requires
+pair-requires t c = search (checked-bodies, rules)
 
-pub returns-then-not-m : goal.returns-then-not-m
-returns-then-not-m t c = search (deep-name, rules)
+pub returns-in_default : goal.returns-in_default
+returns-in_default t c = search (deep-name, rules)
 
 pub deep_eq-requires : goal.deep_eq-requires
 deep_eq-requires t c = search (go-falls, rules)

@@ -1,4 +1,3 @@
-use Prim.Native.Nat.{◌-◌}
 use Rattle.equality.proofs.Joining.{Deep}
 use Rattle.equality.proofs.values.+deep_eq.Given as goal
 
@@ -6,7 +5,4 @@ abbrev pub decreases-deep_eq : goal.decreases-deep_eq
 decreases-deep_eq l = l.a.0
 
 abbrev pub invariant-loop-i : goal.invariant-loop-i
-invariant-loop-i l = Deep l.s l.lower l.a.0 l.b.0 l.h l.i
-
-abbrev pub decreases-loop-i : goal.decreases-loop-i
-decreases-loop-i l = l.h.n - l.i
+invariant-loop-i l = Deep l.s l.lower l.a.0 l.b.0 l.runs l.i

@@ -3,8 +3,8 @@ use Rattle.laws.specs.Checked.{checked-bodies}
 use Rattle.equality.proofs.Alike.{look-said, look-start, look-whole, look-spent, look-falls, look-name, look-same, look-differ, look-no, look-more, look-end}
 use Rattle.equality.proofs.values.+plain_eq.Goals as goal
 
-pub returns-then-h : goal.returns-then-h
-returns-then-h t c = search (look-said, rules)
+pub returns-in-Break : goal.returns-in-Break
+returns-in-Break t c = search (look-said, rules)
 
 pub returns-then-left-n : goal.returns-then-left-n
 returns-then-left-n t c = search (look-whole, rules)
@@ -12,17 +12,17 @@ returns-then-left-n t c = search (look-whole, rules)
 pub loop-i-init : goal.loop-i-init
 loop-i-init t c = search (look-start, rules)
 
-pub pair-m-requires : goal.pair-m-requires
-pair-m-requires t c = search (checked-bodies, rules)
+pub pair-requires : goal.pair-requires
+pair-requires t c = search (checked-bodies, rules)
 
-pub returns-then-not-m : goal.returns-then-not-m
-returns-then-not-m t c = search (look-name, rules)
+pub returns-in_default : goal.returns-in_default
+returns-in_default t c = search (look-name, rules)
 
-pub loop-i-preserved-in-Same : goal.loop-i-preserved-in-Same
-loop-i-preserved-in-Same t c = search (look-same, rules)
+pub loop-i-preserved-in-Some-true : goal.loop-i-preserved-in-Some-true
+loop-i-preserved-in-Some-true t c = search (look-same, rules)
 
-pub returns-in-Differ : goal.returns-in-Differ
-returns-in-Differ t c = search (look-differ, rules)
+pub returns-in-Some-false : goal.returns-in-Some-false
+returns-in-Some-false t c = search (look-differ, rules)
 
 pub plain_eq-r-requires : goal.plain_eq-r-requires
 plain_eq-r-requires t c = search (look-falls, rules)

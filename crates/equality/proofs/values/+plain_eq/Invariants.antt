@@ -1,4 +1,3 @@
-use Prim.Native.Nat.{◌-◌}
 use Rattle.equality.proofs.Alike.{Looking}
 use Rattle.equality.proofs.values.+plain_eq.Given as goal
 
@@ -6,7 +5,4 @@ abbrev pub decreases-plain_eq : goal.decreases-plain_eq
 decreases-plain_eq l = l.a.0
 
 abbrev pub invariant-loop-i : goal.invariant-loop-i
-invariant-loop-i l = Looking l.s l.left l.h l.i
-
-abbrev pub decreases-loop-i : goal.decreases-loop-i
-decreases-loop-i l = l.h.n - l.i
+invariant-loop-i l = Looking l.s l.left l.runs l.i

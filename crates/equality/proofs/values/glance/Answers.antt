@@ -3,8 +3,8 @@ use Rattle.laws.specs.Checked.{checked-bodies}
 use Rattle.equality.proofs.Alike.{glance_open, glance_number, glance_unlike, glance_same, glance_int, glance_text}
 use Rattle.equality.proofs.values.glance.Goals as goal
 
-pub returns-then-a-b : goal.returns-then-a-b
-returns-then-a-b c = search (glance_number, rules)
+pub returns-then-eq : goal.returns-then-eq
+returns-then-eq c = search (glance_number, rules)
 
 pub value_word-k-requires : goal.value_word-k-requires
 value_word-k-requires c = search (checked-bodies, rules)

@@ -3,8 +3,8 @@ use Rattle.laws.specs.Checked.{checked-bodies}
 use Rattle.equality.proofs.Alike.{head-same, head-unlike, head-told, head-counts, head-runs}
 use Rattle.equality.proofs.values.heads.Goals as goal
 
-pub returns-then-a-b : goal.returns-then-a-b
-returns-then-a-b c = search (head-same, rules)
+pub returns-then-eq : goal.returns-then-eq
+returns-then-eq c = search (head-same, rules)
 
 pub value_word-k-requires : goal.value_word-k-requires
 value_word-k-requires c = search (checked-bodies, rules)

@@ -5,5 +5,5 @@ use Rattle.equality.proofs.values.join.Goals as goal
 pub lead-requires : goal.lead-requires
 lead-requires c = search (join-down, rules)
 
-pub lead-requires-else-v-w : goal.lead-requires-else-v-w
-lead-requires-else-v-w c = search (join_up, rules)
+pub lead-requires-else-e : goal.lead-requires-else-e
+lead-requires-else-e c = search (join_up, rules)

@@ -1,6 +1,6 @@
 use Rattle.std.proofs.Common.{rules}
 use Rattle.laws.specs.Checked.{checked-bodies}
-use Rattle.equality.proofs.Alike.{leaf_null, leaf-int, leaf-decimal, leaf-entity, leaf-other}
+use Rattle.equality.proofs.Alike.{leaf_null, leaf-int, leaf-decimal, entity-first, entity-other, leaf-other}
 use Rattle.equality.proofs.values.leaf_eq.Goals as goal
 
 pub value_word-x-requires : goal.value_word-x-requires
@@ -15,11 +15,11 @@ value_word-requires c = search (checked-bodies, rules)
 pub value_word-requires-in-2 : goal.value_word-requires-in-2
 value_word-requires-in-2 c = search (checked-bodies, rules)
 
-pub value_word-requires-in-5 : goal.value_word-requires-in-5
-value_word-requires-in-5 c = search (checked-bodies, rules)
+pub value_word-requires-then-x-y : goal.value_word-requires-then-x-y
+value_word-requires-then-x-y c = search (checked-bodies, rules)
 
-pub value_word-requires-in-5-2 : goal.value_word-requires-in-5-2
-value_word-requires-in-5-2 c = search (checked-bodies, rules)
+pub value_word-requires-then-x-y-2 : goal.value_word-requires-then-x-y-2
+value_word-requires-then-x-y-2 c = search (checked-bodies, rules)
 
 pub returns-in-0 : goal.returns-in-0
 returns-in-0 c = search (leaf_null, rules)
@@ -30,8 +30,11 @@ returns-in-2 c = search (leaf-int, rules)
 pub returns-in-3 : goal.returns-in-3
 returns-in-3 c = search (leaf-decimal, rules)
 
-pub returns-in-5 : goal.returns-in-5
-returns-in-5 c = search (leaf-entity, rules)
+pub returns-then-x-y : goal.returns-then-x-y
+returns-then-x-y c = search (entity-first, rules)
+
+pub returns-else-x-y : goal.returns-else-x-y
+returns-else-x-y c = search (entity-other, rules)
 
 pub returns-in_default : goal.returns-in_default
 returns-in_default c = search (leaf-other, rules)

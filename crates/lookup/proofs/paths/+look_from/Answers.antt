@@ -7,8 +7,8 @@ use Rattle.lookup.proofs.paths.+look_from.Goals as goal
 pub returns-then-from-wide : goal.returns-then-from-wide
 returns-then-from-wide t c = search (from_end, rules)
 
-pub list_at-name-requires : goal.list_at-name-requires
-list_at-name-requires t c = search (checked-bodies, rules)
+pub list_at-requires : goal.list_at-requires
+list_at-requires t c = search (checked-bodies, rules)
 
 pub may_join-requires : goal.may_join-requires
 may_join-requires t c = search (from-string, rules)

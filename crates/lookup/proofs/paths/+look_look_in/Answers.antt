@@ -9,8 +9,8 @@ look-returns-then-from-wide t c = search (sought_end, rules)
 pub look-returns-then-known : goal.look-returns-then-known
 look-returns-then-known t c = search (sought_known, rules)
 
-pub look-look_in-found-requires : goal.look-look_in-found-requires
-look-look_in-found-requires t c = (search (look_in_falls, rules), search (ready, rules))
+pub look-look_in-requires : goal.look-look_in-requires
+look-look_in-requires t c = (search (look_in_falls, rules), search (ready, rules))
 
 pub look-note-requires-clause-missed : goal.look-note-requires-clause-missed
 look-note-requires-clause-missed t c = search (sought_none, rules)
@@ -21,17 +21,17 @@ look-returns-in-Some t c = search (sought_same, rules)
 pub look_in-loop-m-init : goal.look_in-loop-m-init
 look_in-loop-m-init t c = (search (seeking_start, rules), search rules)
 
-pub look_in-member_word-name-requires : goal.look_in-member_word-name-requires
-look_in-member_word-name-requires t c = search (checked-bodies, rules)
+pub look_in-member_word-requires : goal.look_in-member_word-requires
+look_in-member_word-requires t c = search (checked-bodies, rules)
 
 pub look_in-loop-m-preserved-then-k-eq0 : goal.look_in-loop-m-preserved-then-k-eq0
 look_in-loop-m-preserved-then-k-eq0 t c = (search (seeking_skip, rules), search rules)
 
-pub look_in-member_word-u-requires : goal.look_in-member_word-u-requires
-look_in-member_word-u-requires t c = search (checked-bodies, rules)
+pub look_in-member_word-requires-in-loop-m : goal.look_in-member_word-requires-in-loop-m
+look_in-member_word-requires-in-loop-m t c = search (checked-bodies, rules)
 
-pub look_in-look-found-requires : goal.look_in-look-found-requires
-look_in-look-found-requires t c = (search (look-falls, rules), (search rules, (search rules, search rules)))
+pub look_in-look-requires : goal.look_in-look-requires
+look_in-look-requires t c = (search (look-falls, rules), (search rules, (search rules, search rules)))
 
 pub look_in-returns-in-Some : goal.look_in-returns-in-Some
 look_in-returns-in-Some t c = search (seeking_found, rules)

@@ -11,7 +11,4 @@ abbrev pub decreases-look_in : goal.decreases-look_in
 decreases-look_in l = 2 * (l.path.count - l.from)
 
 abbrev pub invariant-look_in-loop-m : goal.invariant-look_in-loop-m
-invariant-look_in-loop-m l = Seeking l.s l.path l.failed l.from l.first l.initial.m l.m × (length l.initial.failed ≡ 3989)
-
-abbrev pub decreases-look_in-loop-m : goal.decreases-look_in-loop-m
-decreases-look_in-loop-m l = l.m - l.first
+invariant-look_in-loop-m l = Seeking l.s l.path l.failed l.from l.m-start l.initial.m l.m × (length l.initial.failed ≡ 3989)

@@ -3,8 +3,8 @@ use Rattle.laws.specs.Checked.{checked-bodies}
 use Rattle.lookup.proofs.Reach.{context-is}
 use Rattle.lookup.proofs.paths.context_at.Goals as goal
 
-pub point_word-v-requires : goal.point_word-v-requires
-point_word-v-requires c = search (checked-bodies, rules)
+pub point_word-requires : goal.point_word-requires
+point_word-requires c = search (checked-bodies, rules)
 
 pub returns : goal.returns
 returns c = search (context-is, rules)

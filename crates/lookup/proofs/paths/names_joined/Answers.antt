@@ -6,8 +6,8 @@ use Rattle.lookup.proofs.paths.names_joined.Goals as goal
 pub loop-k-init : goal.loop-k-init
 loop-k-init c = search (joins-start, rules)
 
-pub list_at-name-requires : goal.list_at-name-requires
-list_at-name-requires c = search (checked-bodies, rules)
+pub list_at-requires : goal.list_at-requires
+list_at-requires c = search (checked-bodies, rules)
 
 pub text_of-requires : goal.text_of-requires
 text_of-requires c = search (checked-bodies, checked-strings, rules)
@@ -15,8 +15,8 @@ text_of-requires c = search (checked-bodies, checked-strings, rules)
 pub text_of-requires-in-loop-k : goal.text_of-requires-in-loop-k
 text_of-requires-in-loop-k c = search (checked-bodies, checked-strings, rules)
 
-pub behind_name-behind-requires : goal.behind_name-behind-requires
-behind_name-behind-requires c = search (joins-inside, rules)
+pub behind_name-requires : goal.behind_name-requires
+behind_name-requires c = search (joins-inside, rules)
 
 pub returns-in-End-clause-value : goal.returns-in-End-clause-value
 returns-in-End-clause-value c = search (joined-so-many, rules)

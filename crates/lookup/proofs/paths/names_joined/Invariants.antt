@@ -1,10 +1,6 @@
 use Rattle.lookup.proofs.Dotted.{JoinsFrom}
-use Prim.Native.Nat.{◌-◌}
 use Rattle.meaning.specs.Case.{text}
 use Rattle.lookup.proofs.paths.names_joined.Given as goal
 
 abbrev pub invariant-loop-k : goal.invariant-loop-k
 invariant-loop-k l = JoinsFrom l.s (text l.s l.n.0) l.first l.left l.at l.k
-
-abbrev pub decreases-loop-k : goal.decreases-loop-k
-decreases-loop-k l = l.left - l.k

@@ -6,20 +6,14 @@ use Rattle.lookup.proofs.paths.own_part.Goals as goal
 pub returns-then-path-ne1 : goal.returns-then-path-ne1
 returns-then-path-ne1 c = own-none _ _ _ _ c.if-path-ne1.true
 
-pub wide-first-requires : goal.wide-first-requires
-wide-first-requires c = tt
+pub list_at-requires : goal.list_at-requires
+list_at-requires c = search (checked-bodies, rules)
 
-pub list_at-name-requires : goal.list_at-name-requires
-list_at-name-requires c = search (checked-bodies, rules)
-
-pub text_of-requires : goal.text_of-requires
-text_of-requires c = search (checked-bodies, checked-strings, rules)
+pub text_of-name-requires : goal.text_of-name-requires
+text_of-name-requires c = search (checked-bodies, checked-strings, rules)
 
 pub returns-then-is_id : goal.returns-then-is_id
 returns-then-is_id c = search (own-id, rules)
-
-pub text_of-requires-2 : goal.text_of-requires-2
-text_of-requires-2 c = search (checked-bodies, checked-strings, rules)
 
 pub returns-then-is_type : goal.returns-then-is_type
 returns-then-is_type c = search (own-type, rules)

@@ -1,10 +1,6 @@
 -- Whether two runs of the lists hold the same words
-use Prim.Native.Nat.{◌-◌}
 use Rattle.lookup.proofs.Reach.{RunsFrom}
 use Rattle.lookup.proofs.paths.same_runs.Given as goal
 
 abbrev pub invariant-loop-i : goal.invariant-loop-i
 invariant-loop-i l = RunsFrom l.s l.p l.q l.n l.i
-
-abbrev pub decreases-loop-i : goal.decreases-loop-i
-decreases-loop-i l = l.n - l.i

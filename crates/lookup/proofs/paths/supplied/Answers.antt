@@ -3,8 +3,8 @@ use Rattle.laws.specs.Checked.{checked-bodies}
 use Rattle.lookup.proofs.Attributes.{supplied-none, supplied-found}
 use Rattle.lookup.proofs.paths.supplied.Goals as goal
 
-pub attributes_of-object-requires : goal.attributes_of-object-requires
-attributes_of-object-requires c = search (checked-bodies, rules)
+pub attributes_of-requires : goal.attributes_of-requires
+attributes_of-requires c = search (checked-bodies, rules)
 
 pub returns-in-Some : goal.returns-in-Some
 returns-in-Some c = search (supplied-found, rules)

@@ -2,8 +2,9 @@
 
 #![tactic(auto)]
 
-ghost use Rattle.std.specs.Prelude.{◌≡◌, Bool, true, [], ◌∷◌, ◌+◌, ◌*◌, ◌<◌, ◌≤◌, length, get_or};
+ghost use Rattle.std.specs.Prelude.{◌≡◌, Bool, true, [], ◌∷◌, ◌+◌, ◌*◌, ◌<◌, ◌≤◌, leb, length, get_or};
 ghost use Rattle.laws.specs.Writing.{Writing};
+ghost use Rattle.meaning.specs.Tests.{◌and◌};
 ghost use Rattle.meaning.specs.Case.{vars, size};
 ghost use Rattle.meaning.specs.Check.{bodies};
 ghost use Rattle.encode.specs.Words.{packed};
@@ -16,7 +17,7 @@ use encode::{copy_at, put_word};
 use joining::{narrow, number_of, text_in};
 use meaning::{NodeNo, StrNo, ValNo};
 use stringcheck::var_count;
-use tables::{body_word, both, either, node_word, size_of, value_word, wide};
+use tables::{body_word, node_word, size_of, value_word, wide};
 
 // ---- sizes
 
@@ -37,12 +38,8 @@ pub fn text_bytes(s: &[u8], order: &[u32], n: usize) -> usize
     ensures { TextBytes s.now result }
 {
     let mut total = 0;
-    let mut i = 0;
-    while i < n {
-        let k = order[i];
-        let t = text_in(s, StrNo(k));
-        total += t.len();
-        i += 1;
+    for i in 0..n {
+        total += text_in(s, StrNo(order[i])).len();
     }
     total
 }
@@ -66,14 +63,10 @@ fn put_strings(s: &[u8], order: &[u32], n: usize, out: &mut [u8], at: usize)
     ensures { Writing out.old out.new at (packed (placed 0 (texts s.now))) }
 {
     let mut start = 0;
-    let mut i = 0;
-    while i < n {
-        let k = order[i];
-        let t = text_in(s, StrNo(k));
-        let size = t.len();
+    for i in 0..n {
+        let size = text_in(s, StrNo(order[i])).len();
         put_place(out, at + 8 * i, start, size);
         start += size;
-        i += 1;
     }
 }
 
@@ -93,16 +86,19 @@ fn put_text(s: &[u8], order: &[u32], n: usize, out: &mut [u8], at: usize)
     ensures { Writing out.old out.new at (flat (texts s.now)) }
 {
     let mut next = at;
-    let mut i = 0;
-    while i < n {
-        let k = order[i];
-        let t = text_in(s, StrNo(k));
-        next = copy_text(out, next, t);
-        i += 1;
+    for i in 0..n {
+        next = copy_text(out, next, text_in(s, StrNo(order[i])));
     }
 }
 
 // ---- the other tables
+
+// is n from low to high?
+fn within(n: usize, low: usize, high: usize) -> bool
+    ensures { ◌≡◌ {A = Bool} result (leb low n and leb n high) }
+{
+    low <= n && n <= high
+}
 
 // does word i of the values name a string?
 fn value_names(s: &[u8], i: usize) -> bool
@@ -111,10 +107,11 @@ fn value_names(s: &[u8], i: usize) -> bool
     ensures { ◌≡◌ {A = Bool} result (value_names s.now i) }
 {
     let kind = value_word(s, ValNo(narrow(i / 4)), 0);
-    let j = i % 4;
-    let first = both(j == 1, both(3 <= kind, kind <= 5));
-    let second = both(j == 2, kind == 5);
-    either(first, second)
+    match i % 4 {
+        1 => within(wide(kind), 3, 5),
+        2 => kind == 5,
+        _ => false,
+    }
 }
 
 // does word i of the nodes name a string?
@@ -124,17 +121,13 @@ fn node_names(s: &[u8], i: usize) -> bool
     ensures { ◌≡◌ {A = Bool} result (node_names s.now i) }
 {
     let kind = node_word(s, NodeNo(narrow(i / 8)), 0);
-    let j = i % 8;
-    both(both(3 <= j, j <= 4), kind == 7)
+    within(i % 8, 3, 4) && kind == 7
 }
 
 pub fn is_marked(marks: &[u8], i: usize) -> bool
     ensures { ◌≡◌ {A = Bool} result (marked marks.now i) }
 {
-    if marks.len() <= i {
-        return false;
-    }
-    marks[i] != 0
+    i < marks.len() && marks[i] != 0
 }
 
 // does word i of body k name a string?
@@ -146,10 +139,7 @@ fn is_name(s: &[u8], marks: &[u8], k: usize, i: usize) -> bool
     match k {
         1 => value_names(s, i),
         2 => i % 2 == 0,
-        3 => {
-            let j = i % 12;
-            both(4 <= j, j <= 5)
-        }
+        3 => within(i % 12, 4, 5),
         4 => node_names(s, i),
         5 => is_marked(marks, i),
         _ => false,
@@ -178,11 +168,9 @@ fn put_table(s: &[u8], marks: &[u8], order: &[u32], n: usize, k: usize, out: &mu
     ensures { Writing out.old out.new at (table s.now marks.now k) }
 {
     let many = body_size(s, k) / 4;
-    let mut i = 0;
-    while i < many {
+    for i in 0..many {
         let w = renamed_word(s, marks, order, n, k, i);
         put_word(out, at + 4 * i, w);
-        i += 1;
     }
 }
 
@@ -195,13 +183,11 @@ pub fn part_size(s: &[u8], marks: &[u8], n: usize, total: usize, k: usize) -> us
     requires k_bound { k < 7 }
     ensures { PartSize (get_or (parts s.now marks.now) k []) result }
 {
-    if k == 0 {
-        return 8 * n;
+    match k {
+        0 => 8 * n,
+        6 => total,
+        _ => body_size(s, k),
     }
-    if k == 6 {
-        return total;
-    }
-    body_size(s, k)
 }
 
 fn put_contents(s: &[u8], marks: &[u8], n: usize, total: usize, out: &mut [u8])
@@ -213,12 +199,10 @@ fn put_contents(s: &[u8], marks: &[u8], n: usize, total: usize, out: &mut [u8])
     put_word(out, 0, 1);
     put_word(out, 4, var_count(s));
     let mut at = 64;
-    let mut k = 0;
-    while k < 7 {
+    for k in 0..7 {
         let size = part_size(s, marks, n, total, k);
         put_place(out, 8 + 8 * k, at, size);
         at += size;
-        k += 1;
     }
 }
 
@@ -231,11 +215,9 @@ fn put_tables(s: &[u8], marks: &[u8], order: &[u32], n: usize, out: &mut [u8], a
     ensures { Put out.old out.new at (flat (tables s.now marks.now)) result }
 {
     let mut next = at;
-    let mut i = 0;
-    while i < 5 {
+    for i in 0..5 {
         put_table(s, marks, order, n, i + 1, out, next);
         next += body_size(s, i + 1);
-        i += 1;
     }
     next
 }

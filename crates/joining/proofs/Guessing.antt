@@ -1,7 +1,7 @@
 -- A guessed order: its places, one string more behind those in order, and that nothing is missing
 use Rattle.std.proofs.Common.{◌≡◌, ℕ, zero, suc, ◌+◌, ◌-◌, ◌<◌, ◌≤◌, Bool, true, false, not, eqb, ltb, List, [], ◌∷◌, length, get_or, set, replicate, sym, refl, ap, ◌∙◌, subst, add-one, arith, length-set, get_or-set_other, get_or-set_same, ltb-false, ltb-true, eqb-true}
 use lib.ListN.{length-replicate}
-use borrow.Author.Tests.{eqb-false, not-true, not-false}
+use borrow.Author.Tests.{eqb-false, not-false}
 use Rattle.meaning.specs.Tests.{choose}
 use Rattle.meaning.specs.Text.{before}
 use Rattle.meaning.specs.Case.{text, strings}
@@ -14,10 +14,8 @@ use Rattle.joining.specs.Fresh.{insert_all}
 use Rattle.joining.specs.Run.{Begun}
 use Rattle.joining.specs.Laws.{listed-long, listed_at, listed_more}
 use Rattle.joining.specs.Insert.{before-after, commute, again, all-below, all_more}
-use Rattle.joining.specs.Guess.{Beyond, picked, Same, IsKept, PutNext, PutsNext, KeptOne, KeepsOne, Sifts, Few, Follows, Repeats, Grows, Seen, Takes}
-use Rattle.joining.specs.declared.Joined.TheVariants.{Made}
-use Rattle.joining.specs.declared.Next.{Next}
-use Rattle.joining.specs.declared.Next.TheVariants as nexts
+use Rattle.joining.specs.Guess.{Beyond, picked, IsKept, PutNext, PutsNext, KeptOne, KeepsOne, Sifts, Few, Follows, Repeats, Grows, Seen, Takes}
+use Rattle.std.specs.Prelude.{Option, Some, None}
 use Rattle.joining.specs.declared.Taken.{Taken}
 use Rattle.joining.specs.declared.Taken.TheVariants as takes
 use Rattle.joining.proofs.Rules.{put, stands-not}
@@ -60,10 +58,10 @@ there-at (y ∷ ys) (suc i) r h = rw (every-at (λ z. before y z ≡ true) ys i 
 pub repeats-not : {x : List ℕ} {l : List (List ℕ)} → Repeats x l false
 repeats-not = record { is = λ e. never e }
 
-pub repeats-as : {s order x t : List ℕ} {n : ℕ} {a b : Bool} → InOrder s order n → (n ≡ 0 → ⊥) → Cut s (get_or order (n - 1) 0) t → a ≡ before x t → a ≡ false → b ≡ before t x → Repeats x (listed s order n) (not b)
-repeats-as {s} {order} {x} {t} {n} {a} {b} o z is said away told = record {
+pub repeats-as : {s order x t : List ℕ} {n : ℕ} {r : Bool} → InOrder s order n → (n ≡ 0 → ⊥) → Cut s (get_or order (n - 1) 0) t → (r ≡ true → x ≡ t) → Repeats x (listed s order n) r
+repeats-as {s} {order} {x} {t} {n} {r} o z is told = record {
   is = λ e.
-      let same : x ≡ t = before-neither x t (sym said ∙ away) (sym told ∙ not-true b e) in
+      let same : x ≡ t = told e in
       let there : insert_new (get_or (listed s order n) (n - 1) []) (listed s order n) ≡ listed s order n = there-at (listed s order n) (n - 1) o.rises (omega (arith, z, listed-long s order n o.fits)) in
       ap (λ (y : List ℕ). insert_new y (listed s order n)) (same ∙ sym (last-at o z is)) ∙ there;
 }
@@ -76,7 +74,7 @@ put_last {old} n k h = record {
   upper = λ i l m. absurd (omega arith);
 }
 
-pub grows-more : {s old x : List ℕ} {n k : ℕ} {r : Bool} → InOrder s old n → n < length old → Cut s k x → Follows x (listed s old n) n r → r ≡ true → Grows s old n k (set old n k) (nexts.Upto (n + 1))
+pub grows-more : {s old x : List ℕ} {n k : ℕ} {r : Bool} → InOrder s old n → n < length old → Cut s k x → Follows x (listed s old n) n r → r ≡ true → Grows s old n k (set old n k) (Some (n + 1))
 grows-more {s} {old} {x} {n} {k} {r} o room is f e = record {
   is = (omega arith, (record { fits = omega (arith, length-set old n k); rises = subst Rising (sym same) (insert_rises (text s k) (listed s old n) o.rises) }, same));
 }
@@ -84,12 +82,12 @@ grows-more {s} {old} {x} {n} {k} {r} o room is f e = record {
     same : listed s (set old n k) (n + 1) ≡ insert_new (text s k) (listed s old n)
     same = listed_more s old (set old n k) n n k (put_last n k room) room (omega arith) ∙ sym (put o is (f.is e) (stands-not (omega arith)) refl)
 
-pub grows_same : {s old x : List ℕ} {n k : ℕ} {r : Bool} → InOrder s old n → Cut s k x → Repeats x (listed s old n) r → r ≡ true → Grows s old n k old (nexts.Upto n)
+pub grows_same : {s old x : List ℕ} {n k : ℕ} {r : Bool} → InOrder s old n → Cut s k x → Repeats x (listed s old n) r → r ≡ true → Grows s old n k old (Some n)
 grows_same {s} {old} {x} {n} {k} {r} o is f e = record {
   is = (omega arith, (o, sym (ap (λ (y : List ℕ). insert_new y (listed s old n)) (sym is.is) ∙ f.is e)));
 }
 
-pub grows-not : {s old order : List ℕ} {n k : ℕ} → Grows s old n k order nexts.Not
+pub grows-not : {s old order : List ℕ} {n k : ℕ} → Grows s old n k order None
 grows-not = record { is = tt }
 
 -- ---- which strings were seen
@@ -146,19 +144,13 @@ with_all f l n (suc k) r h le =
 
 -- ---- those kept
 
-pub same_not : {x y : List ℕ} → Same x y false
-same_not = record { is = λ e. never e }
-
-pub same-as : {x y : List ℕ} {a b : Bool} → a ≡ before x y → a ≡ false → b ≡ before y x → Same x y (not b)
-same-as {x} {y} {a} {b} said away told = record { is = λ e. before-neither x y (sym said ∙ away) (sym told ∙ not-true b e) }
-
 pub kept-not : {s kept : List ℕ} {m k : ℕ} → IsKept s kept m k false
 kept-not = record { is = λ e. never e }
 
-pub kept-as : {s kept x y : List ℕ} {m j k : ℕ} {r : Bool} → j < m → Cut s (get_or kept j 0) x → Cut s k y → Same x y r → IsKept s kept m k r
+pub kept-as : {s kept x y : List ℕ} {m j k : ℕ} {r : Bool} → j < m → Cut s (get_or kept j 0) x → Cut s k y → (r ≡ true → x ≡ y) → IsKept s kept m k r
 kept-as {s} {kept} {x} {y} {m} {j} {k} {r} h one other same = record {
   is = λ e.
-      ap (λ (t : List ℕ). insert_new t (joined (picked s kept) m)) (sym other.is ∙ sym (same.is e) ∙ one.is)
+      ap (λ (t : List ℕ). insert_new t (joined (picked s kept) m)) (sym other.is ∙ sym (same e) ∙ one.is)
       ∙ joined-there (picked s kept) j m h;
 }
 
@@ -172,22 +164,22 @@ joined-next : (f : ℕ → List ℕ) (n : ℕ) → joined f (n + 1) ≡ insert_n
 unfolding joined
 joined-next f n = ap (joined f) (add-one n)
 
-pub keeps-old : {s kept : List ℕ} {m k : ℕ} {r : Bool} → m ≤ length kept → IsKept s kept m k r → r ≡ true → KeepsOne s kept m k kept (nexts.Upto m)
+pub keeps-old : {s kept : List ℕ} {m k : ℕ} {r : Bool} → m ≤ length kept → IsKept s kept m k r → r ≡ true → KeepsOne s kept m k kept (Some m)
 keeps-old h is e = record { is = (h, sym (is.is e)) }
 
-pub keeps-last : {s kept x y : List ℕ} {m i k : ℕ} {a b : Bool} → m ≤ length kept → (m ≡ 0 → ⊥) → i ≡ get_or kept (m - 1) 0 → Cut s i y → Cut s k x → a ≡ before y x → a ≡ false → b ≡ before x y → b ≡ false → KeepsOne s kept m k kept (nexts.Upto m)
-keeps-last {s} {kept} {x} {y} {m} {i} {k} {a} {b} fits some at one other said away told off = record { is = (fits, sym (ap (λ (t : List ℕ). insert_new t (joined (picked s kept) m)) same ∙ joined-there (picked s kept) (m - 1) m (omega (arith, some)))) }
+pub keeps-last : {s kept x y : List ℕ} {m k : ℕ} {a b : Bool} → m ≤ length kept → (m ≡ 0 → ⊥) → Cut s (get_or kept (m - 1) 0) y → Cut s k x → a ≡ before y x → a ≡ false → b ≡ before x y → b ≡ false → KeepsOne s kept m k kept (Some m)
+keeps-last {s} {kept} {x} {y} {m} {k} {a} {b} fits some one other said away told off = record { is = (fits, sym (ap (λ (t : List ℕ). insert_new t (joined (picked s kept) m)) same ∙ joined-there (picked s kept) (m - 1) m (omega (arith, some)))) }
   where
     same : text s k ≡ text s (get_or kept (m - 1) 0)
-    same = sym other.is ∙ before-neither x y (sym told ∙ off) (sym said ∙ away) ∙ one.is ∙ ap (text s) at
+    same = sym other.is ∙ before-neither x y (sym told ∙ off) (sym said ∙ away) ∙ one.is
 
-pub keeps-not : {s kept : List ℕ} {m k : ℕ} → KeepsOne s kept m k kept nexts.Not
+pub keeps-not : {s kept : List ℕ} {m k : ℕ} → KeepsOne s kept m k kept None
 keeps-not = record { is = refl }
 
-pub puts_not : {kept : List ℕ} {m k : ℕ} → PutsNext kept m k kept nexts.Not
+pub puts_not : {kept : List ℕ} {m k : ℕ} → PutsNext kept m k kept None
 puts_not = record { is = refl }
 
-pub puts_more : {kept : List ℕ} {m k : ℕ} → m < length kept → PutsNext kept m k (set kept m k) (nexts.Upto (m + 1))
+pub puts_more : {kept : List ℕ} {m k : ℕ} → m < length kept → PutsNext kept m k (set kept m k) (Some (m + 1))
 puts_more h = record { is = (refl, (h, refl)) }
 
 -- one more behind those kept
@@ -197,11 +189,11 @@ next-joined s kept m k h =
     ∙ ap (λ (i : ℕ). insert_new (text s i) (joined (picked s (set kept m k)) m)) (get_or-set_same kept m k 0 h)
     ∙ ap (insert_new (text s k)) (joined_same (picked s (set kept m k)) (picked s kept) m (λ i l. ap (text s) (get_or-set_other kept m i k 0 (λ d. absurd (omega arith)))))
 
-kept_new : (s old kept : List ℕ) (m k : ℕ) (r : Next) → PutNext old m k kept r → KeptOne s old m k kept r
-kept_new s old kept m k (nexts.Upto n) p = rw (p.1.1, p.0) (omega (arith, length-set old m k, p.1.0), next-joined s old m k p.1.0)
-kept_new s old kept m k nexts.Not p = p
+kept_new : (s old kept : List ℕ) (m k : ℕ) (r : Option ℕ) → PutNext old m k kept r → KeptOne s old m k kept r
+kept_new s old kept m k (Some n) p = rw (p.1.1, p.0) (omega (arith, length-set old m k, p.1.0), next-joined s old m k p.1.0)
+kept_new s old kept m k None p = p
 
-pub keeps-new : {s old kept : List ℕ} {m k : ℕ} {r : Next} → PutsNext old m k kept r → KeepsOne s old m k kept r
+pub keeps-new : {s old kept : List ℕ} {m k : ℕ} {r : Option ℕ} → PutsNext old m k kept r → KeepsOne s old m k kept r
 keeps-new {s} {old} {kept} {m} {k} {r} p = record { is = kept_new s old kept m k r p.is }
 
 -- the texts of the first k, on the way
@@ -220,7 +212,7 @@ module _ {s first old : List ℕ} {all m k : ℕ} (g : Sifting s first old all m
   pub sifting_fits : m ≤ length old
   sifting_fits = g.sifts.fits
 
-  pub sifting_more : {kept : List ℕ} {n : ℕ} {r : Next} → k < all → KeepsOne s old m k kept r → r ≡ nexts.Upto n → length kept ≡ length old → Sifting s first kept all n (k + 1)
+  pub sifting_more : {kept : List ℕ} {n : ℕ} {r : Option ℕ} → k < all → KeepsOne s old m k kept r → r ≡ Some n → length kept ≡ length old → Sifting s first kept all n (k + 1)
   sifting_more {kept} {n} {r} h one e l = record {
     sifts = record {
       is = kept-is.1 ∙ ap (insert_new (text s k)) g.sifts.is ∙ sym (joined-next (text s) k);
@@ -233,7 +225,7 @@ module _ {s first old : List ℕ} {all m k : ℕ} (g : Sifting s first old all m
       kept-is : (n ≤ length kept) × (joined (picked s kept) n ≡ insert_new (text s k) (joined (picked s old) m))
       kept-is = (rw e at one).is
 
-  pub sifting_not : {kept : List ℕ} {r : Next} → KeepsOne s old m k kept r → r ≡ nexts.Not → Sifts s kept all m k
+  pub sifting_not : {kept : List ℕ} {r : Option ℕ} → KeepsOne s old m k kept r → r ≡ None → Sifts s kept all m k
   sifting_not {kept} {r} one e = subst (λ (t : List ℕ). Sifts s t all m k) (sym (rw e at one).is) g.sifts
 
 pub few-all : {s kept order : List ℕ} {all m k : ℕ} → Sifts s kept all m k → all ≡ strings s → all ≤ k → m ≤ length order → m ≤ 16384 → Few s kept m order
@@ -276,7 +268,7 @@ module _ {s kept first order : List ℕ} {seen : List Bool} {many n i : ℕ} (g 
   pub gathering-room : i < many → Few s kept many first → n < length order
   gathering-room h f = omega (arith, g.few, g.long, f.room)
 
-  pub gathering_more : {new : List ℕ} {r : Next} {m at : ℕ} → i < many → at < many → Grows s order n (get_or kept at 0) new r → r ≡ nexts.Upto m → length new ≡ length order → Gathering s kept first many new (set seen at true) m (i + 1)
+  pub gathering_more : {new : List ℕ} {r : Option ℕ} {m at : ℕ} → i < many → at < many → Grows s order n (get_or kept at 0) new r → r ≡ Some m → length new ≡ length order → Gathering s kept first many new (set seen at true) m (i + 1)
   gathering_more {new} {r} {m} {at} h lt grows e l = record {
     low = omega arith;
     few = omega (arith, grown.0, g.few);
@@ -320,7 +312,7 @@ module _ {s kept first order : List ℕ} {seen : List Bool} {many n i : ℕ} (g 
 pub takes_none : {s order : List ℕ} → Takes s order (takes.First 0)
 takes_none = record { is = begun-none }
 
-pub took_all : {s order : List ℕ} {r : Taken} {n : ℕ} → Takes s order r → r ≡ takes.All n → Joins s order (texts s) (Made n)
+pub took_all : {s order : List ℕ} {r : Taken} {n : ℕ} → Takes s order r → r ≡ takes.All n → Joins s order (texts s) (Some n)
 took_all t e = record { is = (rw e at t).is }
 
 pub took_first : {s order : List ℕ} {r : Taken} {k : ℕ} → Takes s order r → r ≡ takes.First k → Begun s order k

@@ -8,11 +8,8 @@ use Rattle.laws.specs.Lists.{Every}
 use Rattle.encode.specs.Join.{below, insert_new, joined}
 use Rattle.encode.specs.Unsorted.{number, texts}
 use Rattle.encode.proofs.Laws.Join.{Rising, every-at, insert_every, insert_rises, joined-rises, joined-long, joined-most, place-above, place-below, place_inside, insert_there, insert_at}
-use Rattle.joining.specs.declared.Joined.{Joined}
-use Rattle.joining.specs.declared.Joined.TheVariants.{Made, TooMany}
 use Rattle.joining.specs.Order.{Cut, Place, Stands, listed, InOrder, Joins, Sorted, Moved, Put}
-use Rattle.joining.specs.declared.Filled.{Filled}
-use Rattle.joining.specs.declared.Filled.TheVariants.{Till, NoRoom}
+use Rattle.std.specs.Prelude.{Option, Some, None}
 use Rattle.joining.specs.Fresh.{insert_all, New, Fresh, together, Floor, Roof, Beside, Keeps, Reaches, Ready, Merged, Upto}
 use Rattle.joining.specs.Run.{Begun}
 use Rattle.joining.specs.Laws.{listed-long, listed_at, listed-part, listed_more, more-long, more-before, more-there, more-after}
@@ -109,7 +106,7 @@ module _ {s order x : List ℕ} {n k p : ℕ} {r : Bool} (o : InOrder s order n)
 -- ---- one string beside fresh ones
 
 module _ {s order fresh places x : List ℕ} {n m k q : ℕ} {r : Bool} (f : Fresh s order n fresh places m) (is : Cut s k x) (at : Place x (listed s fresh m) m q) (said : Stands x (listed s fresh m) m q r) where
-  pub keeps-fresh : r ≡ true → Keeps s order n fresh places (insert_new (text s k) (together s order n fresh m)) (Made m)
+  pub keeps-fresh : r ≡ true → Keeps s order n fresh places (insert_new (text s k) (together s order n fresh m)) (Some m)
   keeps-fresh e = record {
     is = (f, ap (λ (l : List (List ℕ)). insert_all l (listed s order n)) (sym (there f.rises is at said e)) ∙ all_more (text s k) (listed s fresh m) (listed s order n));
   }
@@ -129,7 +126,7 @@ module _ {s order fresh places x : List ℕ} {n m k q : ℕ} {r : Bool} (f : Fre
       fresh_at i l = listed_at s fresh m i f.rises.fits l
 
   module _ {p : ℕ} {w : Bool} (e : r ≡ false) (here : Place x (listed s order n) n p) (told : Stands x (listed s order n) n p w) where
-    pub keeps-ordered : w ≡ true → Keeps s order n fresh places (insert_new (text s k) (together s order n fresh m)) (Made m)
+    pub keeps-ordered : w ≡ true → Keeps s order n fresh places (insert_new (text s k) (together s order n fresh m)) (Some m)
     keeps-ordered g = record {
       is = (f, sym (all-below (text s k) (listed s fresh m) (listed s order n) ∙ ap (insert_all (listed s fresh m)) (there f.sorted is here told g)));
     }
@@ -140,7 +137,7 @@ module _ {s order fresh places x : List ℕ} {n m k q : ℕ} {r : Bool} (f : Fre
     more-new : w ≡ false → Every (λ y. New y (listed s order n)) (insert_new (text s k) (listed s fresh m))
     more-new g = insert_every (λ y. New y (listed s order n)) (text s k) (listed s fresh m) (subst (λ (y : List ℕ). New y (listed s order n)) is.is (new f.sorted is here told g)) f.new
 
-    pub keeps-none : w ≡ false → length order ≤ n + m → Keeps s order n fresh places (insert_new (text s k) (together s order n fresh m)) TooMany
+    pub keeps-none : w ≡ false → length order ≤ n + m → Keeps s order n fresh places (insert_new (text s k) (together s order n fresh m)) None
     keeps-none g h = record {
       is = omega (
         arith,
@@ -151,7 +148,7 @@ module _ {s order fresh places x : List ℕ} {n m k q : ℕ} {r : Bool} (f : Fre
       );
     }
 
-    pub keeps-more : {fresh1 places1 : List ℕ} {v : ℕ} → w ≡ false → n + m < length order → m < length fresh → Put q m k fresh fresh1 → Put q m v places places1 → v ≡ p → Keeps s order n fresh1 places1 (insert_new (text s k) (together s order n fresh m)) (Made (m + 1))
+    pub keeps-more : {fresh1 places1 : List ℕ} {v : ℕ} → w ≡ false → n + m < length order → m < length fresh → Put q m k fresh fresh1 → Put q m v places places1 → v ≡ p → Keeps s order n fresh1 places1 (insert_new (text s k) (together s order n fresh m)) (Some (m + 1))
     keeps-more {fresh1} {places1} {v} g h room mf mp vp = record {
       is = (
         record {
@@ -297,7 +294,7 @@ module _ {s order fresh places : List ℕ} {n from many a b k m : ℕ} (f : Fill
   unfolding joined
   grown = ap (insert_new (text s k)) f.same ∙ ap (joined (text s)) (sym (add-one k))
 
-  pub filling_more : {fresh1 places1 : List ℕ} {r : Joined} {m1 : ℕ} → k < many → Keeps s order n fresh1 places1 (insert_new (text s k) (together s order n fresh m)) r → r ≡ Made m1 → length fresh1 ≡ length fresh → length places1 ≡ length places → Filling s order n from many a b fresh1 places1 (k + 1) m1
+  pub filling_more : {fresh1 places1 : List ℕ} {r : Option ℕ} {m1 : ℕ} → k < many → Keeps s order n fresh1 places1 (insert_new (text s k) (together s order n fresh m)) r → r ≡ Some m1 → length fresh1 ≡ length fresh → length places1 ≡ length places → Filling s order n from many a b fresh1 places1 (k + 1) m1
   filling_more {fresh1} {places1} {r} {m1} l j e lf lp =
       let h = rw e at j in
       record {
@@ -312,16 +309,18 @@ module _ {s order fresh places : List ℕ} {n from many a b k m : ℕ} (f : Fill
         same = h.is.1 ∙ grown;
       }
 
-  pub filling_many : {fresh1 places1 : List ℕ} {r : Joined} → k < many → Keeps s order n fresh1 places1 (insert_new (text s k) (together s order n fresh m)) r → r ≡ TooMany → Reaches s order n fresh1 places1 from NoRoom
+  pub filling_many : {fresh1 places1 : List ℕ} {r : Option ℕ} → k < many → Keeps s order n fresh1 places1 (insert_new (text s k) (together s order n fresh m)) r → r ≡ None → Reaches s order n fresh1 places1 from None
   filling_many l j e =
       let h = rw e at j in
       record { is = omega (arith, h.is, ap length grown, f.count, joined-long (text s) (k + 1) (strings s) (omega (arith, f.count))) }
 
-  pub filling_full : length fresh ≤ m → 0 < a → Reaches s order n fresh places from (Till k m)
+  pub filling_full : length fresh ≤ m → 0 < a → Reaches s order n fresh places from (Some (k, m))
   filling_full l z = record { is = (f.moved (omega (arith, f.fresh-long)), (omega (arith, f.high, f.count), (f.is, f.same))) }
 
-  pub filling_all : from < strings s → many ≤ k → Reaches s order n fresh places from (Till k m)
-  filling_all l z = record { is = (omega (arith, f.count), (omega (arith, f.high, f.count), (f.is, f.same))) }
+  pub filling_all : from < strings s → many ≤ k → Reaches s order n fresh places from (Some (many, m))
+  filling_all l z =
+      let e : k ≡ many = omega (arith, f.high) in
+      record { is = (omega (arith, f.count), (omega (arith, f.count), (f.is, f.same ∙ ap (joined (text s)) e))) }
 
 -- ---- the fresh ones go between the others
 
@@ -401,7 +400,7 @@ merging_none {order} {fresh} {places} {n} {m} c = record {
 pub merging_at : {old fresh places order : List ℕ} {n m end j at : ℕ} → Merging old n fresh places m order end j → 0 < j → at ≡ get_or places (j - 1) 0 → at ≤ end
 merging_at {old} {fresh} {places} {order} {n} {m} {end} {j} {at} g h e = omega (arith, g.most (j - 1) (omega arith))
 
-pub merging_more : {old fresh places order new : List ℕ} {n m end j at : ℕ} → Merging old n fresh places m order end j → 0 < j → Ready old n fresh places m → at ≡ get_or places (j - 1) 0 → Moved at end j order new → Merging old n fresh places m (set new (at + (j - 1)) (get_or fresh (j - 1) 0)) at (j - 1)
+pub merging_more : {old fresh places order new : List ℕ} {n m end j at : ℕ} → Merging old n fresh places m order end j → 0 < j → Ready old n fresh places m → at ≡ get_or places (j - 1) 0 → Moved at end (j - 1 + 1) order new → Merging old n fresh places m (set new (at + (j - 1)) (get_or fresh (j - 1) 0)) at (j - 1)
 merging_more {old} {fresh} {places} {order} {new} {n} {m} {end} {j} {at} g h c e mv = record {
   few = omega (arith, g.few);
   inside = omega (arith, c.inside (j - 1) (omega (arith, g.few)));
@@ -417,7 +416,7 @@ merging_more {old} {fresh} {places} {order} {new} {n} {m} {end} {j} {at} g h c e
     back = omega arith
 
     step : (s : List ℕ) → Fresh s old n fresh places m → Spread s (set new (at + (j - 1)) (get_or fresh (j - 1) 0)) at (j - 1) (insert_all (drop (j - 1) (listed s fresh m)) (listed s old n))
-    step s f = subst (Spread s (set new (at + (j - 1)) (get_or fresh (j - 1) 0)) at (j - 1)) (sym put_in) (spread-more (j - 1) (get_or fresh (j - 1) 0) (subst (λ (t : ℕ). Spread s order end t rest) (sym back) (g.is s f)) le under (subst (λ (t : ℕ). Moved at end t order new) (sym back) mv) (omega (arith, le, c.room, mv.long, g.long, g.few, g.inside)))
+    step s f = subst (Spread s (set new (at + (j - 1)) (get_or fresh (j - 1) 0)) at (j - 1)) (sym put_in) (spread-more (j - 1) (get_or fresh (j - 1) 0) (subst (λ (t : ℕ). Spread s order end t rest) (sym back) (g.is s f)) le under mv (omega (arith, le, c.room, mv.long, g.long, g.few, g.inside)))
       where
         x : List ℕ
         x = text s (get_or fresh (j - 1) 0)
@@ -506,8 +505,8 @@ turn-none {s} {before} {order} {fresh} {places} {many} {n} {k} e g z l a b = rec
 pub turn_on : {s before order fresh places : List ℕ} {many n k : ℕ} → Turn s before many order fresh places n k → k < many → k < strings s
 turn_on t h = omega (arith, t.count)
 
-module _ {s before order fresh0 places0 fresh places : List ℕ} {many n k next m : ℕ} {r : Filled} (t : Turn s before many order fresh0 places0 n k) (g : Reaches s order n fresh places k r) (e : r ≡ Till next m) where
-  reached : Reaches s order n fresh places k (Till next m)
+module _ {s before order fresh0 places0 fresh places : List ℕ} {many n k next m : ℕ} {r : Option (ℕ × ℕ)} (t : Turn s before many order fresh0 places0 n k) (g : Reaches s order n fresh places k r) (e : r ≡ Some (next, m)) where
+  reached : Reaches s order n fresh places k (Some (next, m))
   reached = rw e at g
 
   turn-fresh : Fresh s order n fresh places m
@@ -529,11 +528,11 @@ module _ {s before order fresh0 places0 fresh places : List ℕ} {many n k next 
     upto = record { fits = omega (arith, turn-fresh.room, l); is = h.is s turn-fresh ∙ reached.is.1.1.1 };
   }
 
-pub turn_many : {s before order fresh0 places0 fresh places : List ℕ} {many n k : ℕ} {r : Filled} → Turn s before many order fresh0 places0 n k → Reaches s order n fresh places k r → r ≡ NoRoom → Joins s order (texts s) TooMany
+pub turn_many : {s before order fresh0 places0 fresh places : List ℕ} {many n k : ℕ} {r : Option (ℕ × ℕ)} → Turn s before many order fresh0 places0 n k → Reaches s order n fresh places k r → r ≡ None → Joins s order (texts s) None
 unfolding texts
 turn_many t g e = let h = rw e at g in record { is = h.is }
 
-pub turn-all : {s before order fresh places : List ℕ} {many n k : ℕ} → Turn s before many order fresh places n k → many ≤ k → Joins s order (texts s) (Made n)
+pub turn-all : {s before order fresh places : List ℕ} {many n k : ℕ} → Turn s before many order fresh places n k → many ≤ k → Joins s order (texts s) (Some n)
 unfolding texts
 turn-all {s} {before} {order} {fresh} {places} {many} {n} {k} t h =
     let z : k ≡ strings s = omega (arith, t.low, t.count) in

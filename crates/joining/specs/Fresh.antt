@@ -1,14 +1,10 @@
 -- Fresh texts, not yet put between those in order: each is new there, and has its place
-use Rattle.std.specs.Prelude.{◌≡◌, ℕ, ◌+◌, ◌<◌, ◌≤◌, true, List, [], ◌∷◌, length, slice_index, slice_index_or}
+use Rattle.std.specs.Prelude.{◌≡◌, ℕ, ◌+◌, ◌<◌, ◌≤◌, true, List, [], ◌∷◌, length, slice_index, slice_index_or, Option, Some, None}
 use Rattle.meaning.specs.Text.{before}
 use Rattle.meaning.specs.Case.{text, strings}
 use Rattle.laws.specs.Lists.{Every}
 use Rattle.encode.specs.Join.{insert_new, below, joined}
 use Rattle.joining.specs.Order.{listed, InOrder}
-use Rattle.joining.specs.declared.Joined.{Joined}
-use Rattle.joining.specs.declared.Joined.TheVariants as joins
-use Rattle.joining.specs.declared.Filled.{Filled}
-use Rattle.joining.specs.declared.Filled.TheVariants as fills
 
 -- all of xs among l, the last first
 unfoldable pub insert_all : List (List ℕ) → List (List ℕ) → List (List ℕ)
@@ -49,20 +45,20 @@ pub record Beside (s order : List ℕ) (n : ℕ) (places : List ℕ) (m q : ℕ)
   pub inside : q < m → slice_index places q ≤ n
 
 -- so many fresh ones make, with those in order, these texts; or there is no room for them
-abbrev pub Kept : List ℕ → List ℕ → ℕ → List ℕ → List ℕ → List (List ℕ) → Joined → Type 0
-Kept s order n fresh places l (joins.Made m) = Fresh s order n fresh places m × (together s order n fresh m ≡ l)
-Kept s order n fresh places l joins.TooMany = length order < length l
+abbrev pub Kept : List ℕ → List ℕ → ℕ → List ℕ → List ℕ → List (List ℕ) → Option ℕ → Type 0
+Kept s order n fresh places l (Some m) = Fresh s order n fresh places m × (together s order n fresh m ≡ l)
+Kept s order n fresh places l None = length order < length l
 
-pub record Keeps (s order : List ℕ) (n : ℕ) (fresh places : List ℕ) (l : List (List ℕ)) (r : Joined) : Type 0 where
+pub record Keeps (s order : List ℕ) (n : ℕ) (fresh places : List ℕ) (l : List (List ℕ)) (r : Option ℕ) : Type 0 where
   pub is : Kept s order n fresh places l r
 
 -- the first k strings are joined, or there is no room for all
-abbrev pub Reached : List ℕ → List ℕ → ℕ → List ℕ → List ℕ → ℕ → Filled → Type 0
-Reached s order n fresh places from (fills.Till k m) =
+abbrev pub Reached : List ℕ → List ℕ → ℕ → List ℕ → List ℕ → ℕ → Option (ℕ × ℕ) → Type 0
+Reached s order n fresh places from (Some (k, m)) =
     (from < k) × ((k ≤ strings s) × (Fresh s order n fresh places m × (together s order n fresh m ≡ joined (text s) k)))
-Reached s order n fresh places from fills.NoRoom = length order < length (joined (text s) (strings s))
+Reached s order n fresh places from None = length order < length (joined (text s) (strings s))
 
-pub record Reaches (s order : List ℕ) (n : ℕ) (fresh places : List ℕ) (from : ℕ) (r : Filled) : Type 0 where
+pub record Reaches (s order : List ℕ) (n : ℕ) (fresh places : List ℕ) (from : ℕ) (r : Option (ℕ × ℕ)) : Type 0 where
   pub is : Reached s order n fresh places from r
 
 -- m fresh entries that may go between the n in order: there is room, and places never fall, up to n

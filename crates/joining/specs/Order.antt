@@ -1,13 +1,11 @@
 -- Texts in order: a table of string numbers, and the texts that its first entries name
-use Rattle.std.specs.Prelude.{◌≡◌, ℕ, ◌+◌, ◌<◌, ◌≤◌, Bool, not, ltb, List, [], map, length, get_or, take, nat_lt, slice_index, slice_index_or}
+use Rattle.std.specs.Prelude.{◌≡◌, ℕ, ◌+◌, ◌<◌, ◌≤◌, Bool, not, ltb, List, [], map, length, get_or, take, nat_lt, slice_index, slice_index_or, Option, Some, None}
 use Rattle.meaning.specs.Tests.{◌and◌, choose}
 use Rattle.meaning.specs.Text.{before}
 use Rattle.meaning.specs.Case.{text}
 use Rattle.encode.specs.Join.{below}
 use Rattle.encode.specs.Unsorted.{texts}
 use Rattle.encode.proofs.Laws.Join.{Rising}
-use Rattle.joining.specs.declared.Joined.{Joined}
-use Rattle.joining.specs.declared.Joined.TheVariants.{Made, TooMany}
 
 -- the lesser of two
 pub record Least (a b r : ℕ) : Type 0 where
@@ -39,11 +37,11 @@ pub record Stands (x : List ℕ) (l : List (List ℕ)) (n p : ℕ) (r : Bool) : 
   pub is : r ≡ (ltb p n and not (before x (slice_index_or l p [])))
 
 -- so many entries name these texts, or there are more texts than entries
-abbrev pub Holds : List ℕ → List ℕ → List (List ℕ) → Joined → Type 0
-Holds s order l (Made m) = (m ≤ length order) × (listed s order m ≡ l)
-Holds s order l TooMany = length order < length l
+abbrev pub Holds : List ℕ → List ℕ → List (List ℕ) → Option ℕ → Type 0
+Holds s order l (Some m) = (m ≤ length order) × (listed s order m ≡ l)
+Holds s order l None = length order < length l
 
-pub record Joins (s order : List ℕ) (l : List (List ℕ)) (r : Joined) : Type 0 where
+pub record Joins (s order : List ℕ) (l : List (List ℕ)) (r : Option ℕ) : Type 0 where
   pub is : Holds s order l r
 
 -- all strings, joined

@@ -3,44 +3,23 @@ ghost use Rattle.std.specs.Prelude.{◌≡◌, ◌+◌, ◌<◌, ◌≤◌, true
 ghost use Rattle.meaning.specs.Check.{bodies};
 ghost use Rattle.joining.specs.Guess.{Beyond};
 
-use super::{is_same, least, text_in};
+use super::text_in;
 use meaning::StrNo;
-use std::num::{wrapping_add_u32, wrapping_add_usize};
 use stringcheck::is_before;
-use tables::either;
 
 // ---- tables: nothing stands outside of them
 
-pub fn entry_in(table: &[u64; 16384], i: usize) -> u64 {
-    if 16384 <= i {
-        return 0;
+pub fn entry_in<T: Copy + Default>(table: &[T], i: usize) -> T {
+    if i < table.len() {
+        table[i]
+    } else {
+        T::default()
     }
-    table[i]
 }
 
-pub fn put_entry(table: &mut [u64; 16384], i: usize, entry: u64) {
-    if i < 16384 {
+pub fn put_entry<T: Copy>(table: &mut [T], i: usize, entry: T) {
+    if i < table.len() {
         table[i] = entry;
-    }
-}
-
-pub fn kept_in(kept: &[u32], i: usize) -> u32 {
-    if kept.len() <= i {
-        return 0;
-    }
-    kept[i]
-}
-
-fn count_in(counts: &[u32; 512], i: usize) -> u32 {
-    if 512 <= i {
-        return 0;
-    }
-    counts[i]
-}
-
-fn put_count(counts: &mut [u32; 512], i: usize, many: u32) {
-    if i < 512 {
-        counts[i] = many;
     }
 }
 
@@ -67,27 +46,16 @@ fn group_begun(entry: u64) -> u64 {
 fn entry_of(key: u64, more: bool, entry: u64) -> u64
     requires { key ≤ 281474976710655 }
 {
-    let low = entry % 16384;
-    if more {
-        return key * 65536 + 32768 + low;
-    }
-    key * 65536 + low
+    let told = if more { 32768 } else { 0 };
+    key * 65536 + told + entry % 16384
 }
 
 // an entry's string
 fn string_by(kept: &[u32], entry: u64) -> StrNo {
-    StrNo(kept_in(kept, place_in(entry)))
+    StrNo(entry_in(kept, place_in(entry)))
 }
 
 // ---- keys: what six bytes tell
-
-// byte i, or 0 where there is none
-fn byte_or_0(x: &[u8], i: usize) -> u8 {
-    if x.len() <= i {
-        return 0;
-    }
-    x[i]
-}
 
 // six bytes as one number, the first the highest
 fn six(a: u8, b: u8, c: u8, d: u8, e: u8, f: u8) -> u64
@@ -103,12 +71,12 @@ fn six_of(x: &[u8]) -> u64
     ensures { result ≤ 281474976710655 }
 {
     let r = six(
-        byte_or_0(x, 0),
-        byte_or_0(x, 1),
-        byte_or_0(x, 2),
-        byte_or_0(x, 3),
-        byte_or_0(x, 4),
-        byte_or_0(x, 5),
+        entry_in(x, 0),
+        entry_in(x, 1),
+        entry_in(x, 2),
+        entry_in(x, 3),
+        entry_in(x, 4),
+        entry_in(x, 5),
     );
     if r < 281474976710654 {
         return r + 1;
@@ -119,45 +87,30 @@ fn six_of(x: &[u8]) -> u64
 // do six bytes leave something to tell? where it is longer, and where it ends with a byte 0
 fn is_more(x: &[u8]) -> bool {
     let n = x.len();
-    if n == 0 {
-        return false;
-    }
-    either(6 < n, x[n - 1] == 0)
+    n != 0 && (6 < n || x[n - 1] == 0)
 }
 
 // how many bytes at the front are the same, up to so many
 fn alike(x: &[u8], y: &[u8], most: usize) -> usize
     ensures { result ≤ most }
 {
-    let n = least(least(x.len(), y.len()), most);
-    let mut i = 0;
-    while i < n {
+    let n = x.len().min(y.len()).min(most);
+    for i in 0..n {
         if x[i] != y[i] {
             return i;
         }
-        i += 1;
     }
-    i
-}
-
-// does x begin with the start? y is as much of it
-fn begins_so(start: &[u8], y: &[u8]) -> bool {
-    let n = start.len();
-    if n < 8 {
-        return alike(start, y, n) == n;
-    }
-    is_same(start, y)
+    n
 }
 
 // the six bytes after the start; what does not begin with it is before all of these, or after them
 fn keyed(start: &[u8], x: &[u8], entry: u64) -> u64 {
-    let few = least(start.len(), x.len());
-    let from = 0;
-    let y = &x[from..few];
-    if begins_so(start, y) {
+    let few = start.len().min(x.len());
+    let y = &x[..few];
+    if start == y {
         let rest = &x[few..];
         let key = six_of(rest);
-        return entry_of(key, either(key == 281474976710654, is_more(rest)), entry);
+        return entry_of(key, key == 281474976710654 || is_more(rest), entry);
     }
     if is_before(y, start) {
         return entry_of(0, true, entry);
@@ -180,6 +133,7 @@ fn start_size(
 {
     let mut most = first.len();
     let mut k = high - low;
+    // a while: k is halved
     while 1 < k {
         let entry = entry_in(table, low + k - 1);
         most = alike(first, text_in(s, string_by(kept, entry)), most);
@@ -199,15 +153,13 @@ fn key_group(
 )
     requires { bodies s.now ≡ true }
 {
-    let mut i = low;
-    while i < high {
+    for i in low..high {
         let entry = entry_in(table, i);
         put_entry(
             table,
             i,
             keyed(start, text_in(s, string_by(kept, entry)), entry),
         );
-        i += 1;
     }
 }
 
@@ -222,13 +174,11 @@ fn goes_first(s: &[u8], kept: &[u32], a: u64, b: u64) -> bool
     if x != y {
         return x < y;
     }
-    if x % 2 == 0 {
-        return false;
-    }
-    is_before(
-        text_in(s, string_by(kept, a)),
-        text_in(s, string_by(kept, b)),
-    )
+    x % 2 != 0
+        && is_before(
+            text_in(s, string_by(kept, a)),
+            text_in(s, string_by(kept, b)),
+        )
 }
 
 fn go_down(s: &[u8], kept: &[u32], table: &mut [u64; 16384], low: usize, from: usize)
@@ -236,12 +186,9 @@ fn go_down(s: &[u8], kept: &[u32], table: &mut [u64; 16384], low: usize, from: u
 {
     let entry = entry_in(table, from);
     let mut i = from;
-    while low < i {
+    // a while: it ends where the entry belongs
+    while low < i && goes_first(s, kept, entry, entry_in(table, i - 1)) {
         let other = entry_in(table, i - 1);
-        if !goes_first(s, kept, entry, other) {
-            put_entry(table, i, entry);
-            return;
-        }
         put_entry(table, i, other);
         i -= 1;
     }
@@ -251,50 +198,52 @@ fn go_down(s: &[u8], kept: &[u32], table: &mut [u64; 16384], low: usize, from: u
 fn go_down_all(s: &[u8], kept: &[u32], table: &mut [u64; 16384], low: usize, high: usize)
     requires { bodies s.now ≡ true }
 {
-    let mut i = low;
-    while i < high {
+    for i in low..high {
         go_down(s, kept, table, low, i);
-        i += 1;
     }
 }
 
 // nothing is left to tell: each is a group
 fn end_groups(table: &mut [u64; 16384], low: usize, high: usize) {
-    let mut i = low;
-    while i < high {
-        put_entry(table, i, group_begun(entry_in(table, i)));
-        i += 1;
+    for i in low..high {
+        let entry = entry_in(table, i);
+        put_entry(table, i, group_begun(entry));
     }
 }
 
 // ---- few runs: those that fall are turned, and all are merged
 
+// where an entry's key first ends a run that begins at low, by itself and the key before it
+fn end_where<F: Fn(u64, u64) -> bool>(
+    table: &[u64; 16384],
+    low: usize,
+    high: usize,
+    ends: F,
+) -> usize
+    requires some { low < high }
+    requires callable { F.IsAlwaysCallable ends }
+    ensures { (low < result) × (result ≤ high) }
+{
+    for i in low + 1..high {
+        if ends(told_by(entry_in(table, i - 1)), told_by(entry_in(table, i))) {
+            return i;
+        }
+    }
+    high
+}
+
 fn rising_end(table: &[u64; 16384], low: usize, high: usize) -> usize
     requires { low < high }
     ensures { (low < result) × (result ≤ high) }
 {
-    let mut i = low + 1;
-    while i < high {
-        if told_by(entry_in(table, i)) < told_by(entry_in(table, i - 1)) {
-            return i;
-        }
-        i += 1;
-    }
-    i
+    end_where(table, low, high, |before, key| key < before)
 }
 
 fn falling_end(table: &[u64; 16384], low: usize, high: usize) -> usize
     requires { low < high }
     ensures { (low < result) × (result ≤ high) }
 {
-    let mut i = low + 1;
-    while i < high {
-        if told_by(entry_in(table, i - 1)) < told_by(entry_in(table, i)) {
-            return i;
-        }
-        i += 1;
-    }
-    i
+    end_where(table, low, high, |before, key| before < key)
 }
 
 // the end of the run at low; where one rises it is not long enough to fall
@@ -302,33 +251,31 @@ fn run_end(table: &[u64; 16384], low: usize, high: usize) -> usize
     requires { low < high }
     ensures { (low < result) × (result ≤ high) }
 {
-    let up = rising_end(table, low, high);
-    let down = falling_end(table, low, high);
-    if up < down { down } else { up }
+    rising_end(table, low, high).max(falling_end(table, low, high))
 }
 
 // are there few runs?
 fn has_few_runs(table: &[u64; 16384], low: usize, high: usize) -> bool {
-    let mut left = 40u32;
     let mut i = low;
-    while i < high {
-        if left == 0 {
-            return false;
+    for _ in 0..40 {
+        if high <= i {
+            return true;
         }
         i = run_end(table, i, high);
-        left -= 1;
     }
-    true
+    high <= i
 }
 
 // the entries of a part, the last first
 fn turn(table: &mut [u64; 16384], low: usize, high: usize) {
     let mut i = low;
     let mut j = high;
+    // a while: two places move towards each other
     while i < j {
         j -= 1;
         let a = entry_in(table, i);
-        put_entry(table, i, entry_in(table, j));
+        let b = entry_in(table, j);
+        put_entry(table, i, b);
         put_entry(table, j, a);
         i += 1;
     }
@@ -338,14 +285,14 @@ fn turn(table: &mut [u64; 16384], low: usize, high: usize) {
 fn turn_run(table: &mut [u64; 16384], low: usize, high: usize)
     requires { low < high }
 {
-    if rising_end(table, low, high) == high {
-        return;
+    if rising_end(table, low, high) != high {
+        turn(table, low, high);
     }
-    turn(table, low, high);
 }
 
 fn turn_falling(table: &mut [u64; 16384], low: usize, high: usize) {
     let mut i = low;
+    // a while: each turn goes on where a run ended
     while i < high {
         let end = run_end(table, i, high);
         turn_run(table, i, end);
@@ -357,30 +304,17 @@ fn turn_falling(table: &mut [u64; 16384], low: usize, high: usize) {
 fn merge_runs(from: &[u64; 16384], to: &mut [u64; 16384], low: usize, middle: usize, high: usize) {
     let mut i = low;
     let mut j = middle;
-    let mut k = low;
-    while k < high {
+    for k in low..high {
         let a = entry_in(from, i);
         let b = entry_in(from, j);
-        if picks_left(i < middle, j < high, a, b) {
+        if i < middle && (high <= j || told_by(a) <= told_by(b)) {
             put_entry(to, k, a);
-            i = wrapping_add_usize(i, 1);
-            k += 1;
+            i = i.wrapping_add(1);
         } else {
             put_entry(to, k, b);
-            j = wrapping_add_usize(j, 1);
-            k += 1;
+            j = j.wrapping_add(1);
         }
     }
-}
-
-fn picks_left(left: bool, right: bool, a: u64, b: u64) -> bool {
-    if !left {
-        return false;
-    }
-    if !right {
-        return true;
-    }
-    told_by(a) <= told_by(b)
 }
 
 fn second_end(table: &[u64; 16384], middle: usize, high: usize) -> usize
@@ -388,14 +322,16 @@ fn second_end(table: &[u64; 16384], middle: usize, high: usize) -> usize
     ensures { (middle ≤ result) × (result ≤ high) }
 {
     if middle == high {
-        return high;
+        high
+    } else {
+        rising_end(table, middle, high)
     }
-    rising_end(table, middle, high)
 }
 
 // runs, two and two
 fn merge_pass(from: &[u64; 16384], to: &mut [u64; 16384], low: usize, high: usize) {
     let mut i = low;
+    // a while: each turn goes on where a run ended
     while i < high {
         let middle = rising_end(from, i, high);
         let end = second_end(from, middle, high);
@@ -408,91 +344,84 @@ fn merge_all(table: &mut [u64; 16384], other: &mut [u64; 16384], low: usize, hig
     requires { low < high }
 {
     turn_falling(table, low, high);
-    let mut left = 3u32;
-    while 0 < left {
+    for _ in 0..3 {
         if rising_end(table, low, high) == high {
             return;
         }
         merge_pass(table, other, low, high);
         merge_pass(other, table, low, high);
-        left -= 1;
     }
 }
 
 // ---- many: by their digits, the lowest first
 
-fn digit_of(entry: u64, d: u32) -> usize {
-    match d {
-        0 => (entry / 32768 % 512) as usize,
-        1 => (entry / 16777216 % 256) as usize,
-        2 => (entry / 4294967296 % 256) as usize,
-        3 => (entry / 1099511627776 % 256) as usize,
-        4 => (entry / 281474976710656 % 256) as usize,
-        _ => (entry / 72057594037927936 % 256) as usize,
-    }
-}
-
-fn count_digits(table: &[u64; 16384], low: usize, high: usize, d: u32, counts: &mut [u32; 512]) {
-    let mut i = low;
-    while i < high {
-        let at = digit_of(entry_in(table, i), d);
-        put_count(counts, at, wrapping_add_u32(count_in(counts, at), 1));
-        i += 1;
+fn count_digits<F: Fn(u64) -> usize>(
+    table: &[u64; 16384],
+    low: usize,
+    high: usize,
+    digit: &F,
+    counts: &mut [u32; 512],
+)
+    requires { F.IsAlwaysCallable digit.now }
+{
+    for i in low..high {
+        let at = digit(entry_in(table, i));
+        let many = entry_in(counts, at);
+        put_entry(counts, at, many.wrapping_add(1));
     }
 }
 
 // how many have a lower digit
 fn add_counts(counts: &mut [u32; 512]) {
-    let mut sum = 0;
-    let mut i = 0;
-    while i < 512 {
-        let many = counts[i];
-        counts[i] = sum;
-        sum = wrapping_add_u32(sum, many);
-        i += 1;
+    let mut sum = 0u32;
+    for count in counts.iter_mut() {
+        let many = *count;
+        *count = sum;
+        sum = sum.wrapping_add(many);
     }
 }
 
-fn move_digits(
+fn move_digits<F: Fn(u64) -> usize>(
     from: &[u64; 16384],
     to: &mut [u64; 16384],
     low: usize,
     high: usize,
-    d: u32,
+    digit: &F,
     counts: &mut [u32; 512],
-) {
-    let mut i = low;
-    while i < high {
+)
+    requires { F.IsAlwaysCallable digit.now }
+{
+    for i in low..high {
         let entry = entry_in(from, i);
-        let at = digit_of(entry, d);
-        let many = count_in(counts, at);
-        put_count(counts, at, wrapping_add_u32(many, 1));
-        put_entry(to, low_and(low, many), entry);
-        i += 1;
+        let at = digit(entry);
+        let many = entry_in(counts, at);
+        put_entry(counts, at, many.wrapping_add(1));
+        put_entry(to, low.wrapping_add(many as usize), entry);
     }
 }
 
-fn low_and(low: usize, many: u32) -> usize {
-    if 16384 <= low {
-        return low;
-    }
-    low + (many as usize)
-}
-
-fn digit_pass(from: &[u64; 16384], to: &mut [u64; 16384], low: usize, high: usize, d: u32) {
+fn digit_pass<F: Fn(u64) -> usize>(
+    from: &[u64; 16384],
+    to: &mut [u64; 16384],
+    low: usize,
+    high: usize,
+    digit: F,
+)
+    requires { F.IsAlwaysCallable digit }
+{
     let mut counts = [0u32; 512];
-    count_digits(from, low, high, d, &mut counts);
+    count_digits(from, low, high, &digit, &mut counts);
     add_counts(&mut counts);
-    move_digits(from, to, low, high, d, &mut counts);
+    move_digits(from, to, low, high, &digit, &mut counts);
 }
 
 fn by_digits(table: &mut [u64; 16384], other: &mut [u64; 16384], low: usize, high: usize) {
-    digit_pass(table, other, low, high, 0);
-    digit_pass(other, table, low, high, 1);
-    digit_pass(table, other, low, high, 2);
-    digit_pass(other, table, low, high, 3);
-    digit_pass(table, other, low, high, 4);
-    digit_pass(other, table, low, high, 5);
+    digit_pass(table, other, low, high, |e| ((e >> 15) % 512) as usize);
+    digit_pass(other, table, low, high, |e| ((e >> 24) % 256) as usize);
+    digit_pass(table, other, low, high, |e| ((e >> 32) % 256) as usize);
+    digit_pass(other, table, low, high, |e| ((e >> 40) % 256) as usize);
+    digit_pass(table, other, low, high, |e| ((e >> 48) % 256) as usize);
+    digit_pass(other, table, low, high, |e| ((e >> 56) % 256) as usize);
 }
 
 // ---- groups: entries whose keys are the same and leave something to tell
@@ -503,18 +432,13 @@ fn group_end(table: &[u64; 16384], low: usize, many: usize) -> usize
     ensures { (low < result) × (result ≤ many) }
 {
     let told = told_by(entry_in(table, low));
-    let mut i = low + 1;
-    while i < many {
+    for i in low + 1..many {
         let entry = entry_in(table, i);
-        if either(
-            either(told % 2 == 0, told_by(entry) != told),
-            begins_group(entry),
-        ) {
+        if told % 2 == 0 || told_by(entry) != told || begins_group(entry) {
             return i;
         }
-        i += 1;
     }
-    i
+    many
 }
 
 // new keys, where there are more than a few
@@ -527,8 +451,7 @@ fn key_some(s: &[u8], kept: &[u32], table: &mut [u64; 16384], low: usize, high: 
     }
     let first = text_in(s, string_by(kept, entry_in(table, low)));
     let most = start_size(s, first, kept, table, low, high);
-    let from = 0;
-    key_group(s, kept, &first[from..most], table, low, high);
+    key_group(s, kept, &first[..most], table, low, high);
 }
 
 fn sort_keys(table: &mut [u64; 16384], other: &mut [u64; 16384], low: usize, high: usize)
@@ -563,7 +486,8 @@ fn sort_group(
         return true;
     }
     sort_keys(table, other, low, high);
-    put_entry(table, low, group_begun(entry_in(table, low)));
+    let first = entry_in(table, low);
+    put_entry(table, low, group_begun(first));
     true
 }
 
@@ -580,9 +504,10 @@ fn sort_groups(
 {
     let mut any = false;
     let mut low = 0;
+    // a while: each turn goes on where a group ended
     while low < many {
         let high = group_end(table, low, many);
-        any = either(sort_group(s, kept, table, other, low, high), any);
+        any |= sort_group(s, kept, table, other, low, high);
         low = high;
     }
     any
@@ -590,10 +515,8 @@ fn sort_groups(
 
 // all as one group
 fn put_all(table: &mut [u64; 16384], many: usize) {
-    let mut i = 0;
-    while i < many {
+    for i in 0..many {
         put_entry(table, i, entry_of(0, true, (i % 16384) as u64));
-        i += 1;
     }
 }
 
@@ -603,18 +526,13 @@ pub fn guess(s: &[u8], kept: &[u32], sorts: bool, many: usize, table: &mut [u64;
     requires { bodies s.now ≡ true }
 {
     put_all(table, many);
-    if !sorts {
-        return;
-    }
-    if 16384 < many {
+    if !sorts || 16384 < many {
         return;
     }
     let mut other = [0u64; 16384];
-    let mut left = 24u32;
-    while 0 < left {
+    for _ in 0..24 {
         if !sort_groups(s, kept, table, &mut other, many) {
             return;
         }
-        left -= 1;
     }
 }

@@ -5,7 +5,7 @@
 mod guess;
 mod sift;
 
-ghost use Rattle.std.specs.Prelude.{◌≡◌, ◌+◌, ◌-◌, ◌<◌, ◌≤◌, Bool, true, length, slice_index};
+ghost use Rattle.std.specs.Prelude.{◌≡◌, ◌+◌, ◌-◌, ◌<◌, ◌≤◌, Bool, true, length};
 ghost use Rattle.meaning.specs.Tests.{choose};
 ghost use Rattle.meaning.specs.Case.{text, strings};
 ghost use Rattle.meaning.specs.Check.{bodies};
@@ -14,7 +14,7 @@ ghost use Rattle.encode.specs.Unsorted.{number, texts};
 ghost use Rattle.joining.specs.Order.{Least, Cut, Place, Stands, listed, InOrder, Joins, Sorted, Moved, Put};
 ghost use Rattle.joining.specs.Fresh.{Fresh, together, Floor, Roof, Beside, Keeps, Reaches, Ready, Merged, Upto};
 ghost use Rattle.joining.specs.Run.{onward, Run, Counted, Begun};
-ghost use Rattle.joining.specs.Guess.{Few, Follows, Repeats, Grows, Seen, Takes, Same, IsKept, PutsNext, KeepsOne, Sifts};
+ghost use Rattle.joining.specs.Guess.{Few, Follows, Repeats, Grows, Seen, Takes, IsKept, PutsNext, KeepsOne, Sifts};
 
 use guess::{guess, place_in};
 use meaning::StrNo;
@@ -68,11 +68,7 @@ fn stands_at(s: &[u8], order: &[u32], n: usize, p: usize, x: &[u8]) -> bool
     requires in_order { InOrder s.now order.now n }
     ensures { Stands x.now (listed s.now order.now n) n p result }
 {
-    if n <= p {
-        return false;
-    }
-    let k = order[p];
-    !is_before(x, text_in(s, StrNo(k)))
+    p < n && !is_before(x, text_in(s, StrNo(order[p])))
 }
 
 // the entries from..n move up by so many
@@ -82,17 +78,7 @@ fn move_up(a: &mut [u32], from: usize, n: usize, by: usize)
     requires by_nonzero { 0 < by }
     ensures { Moved from n by a.old a.new }
 {
-    let mut j = n;
-    while from < j {
-        j -= 1;
-        a[j + by] = a[j];
-    }
-}
-
-#[derive(Clone, Copy)]
-pub enum Joined {
-    Made(usize),
-    TooMany,
+    a.copy_within(from..n, from + by);
 }
 
 // the place of the fresh one before the q-th
@@ -100,10 +86,7 @@ fn floor_at(places: &[u32], q: usize) -> usize
     requires { q ≤ length places.now }
     ensures { Floor places.now q result }
 {
-    if q == 0 {
-        return 0;
-    }
-    wide(places[q - 1])
+    if q == 0 { 0 } else { wide(places[q - 1]) }
 }
 
 // the place of the q-th fresh one of m; where there is none, the end
@@ -111,10 +94,7 @@ fn roof_at(places: &[u32], m: usize, n: usize, q: usize) -> usize
     requires { m ≤ length places.now }
     ensures { Roof places.now m n q result }
 {
-    if m <= q {
-        return n;
-    }
-    wide(places[q])
+    if m <= q { n } else { wide(places[q]) }
 }
 
 // k goes to place p of n, and what stood there moves one up
@@ -146,11 +126,10 @@ fn place_beside(
 {
     let low = floor_at(places, q);
     let high = roof_at(places, m, n, q);
-    let part = &order[low..];
-    low + place_of(s, part, high - low, x)
+    low + place_of(s, &order[low..], high - low, x)
 }
 
-// string k joins the m fresh texts, unless it stands there or in order
+// string k joins the m fresh texts, unless it stands there or in order: how many these are then, where there is room
 fn join_one(
     s: &[u8],
     order: &[u32],
@@ -159,7 +138,7 @@ fn join_one(
     places: &mut [u32],
     m: usize,
     k: u32,
-) -> Joined
+) -> Option<usize>
     requires s_value { bodies s.now ≡ true }
     requires fresh { Fresh s.now order.now n fresh.old places.old m }
     requires m_in_bounds { m < length fresh.old }
@@ -169,27 +148,21 @@ fn join_one(
     let x = text_in(s, StrNo(k));
     let q = place_of(s, fresh, m, x);
     if stands_at(s, fresh, m, q, x) {
-        return Joined::Made(m);
+        return Some(m);
     }
     let p = place_beside(s, order, n, places, m, q, x);
     if stands_at(s, order, n, p, x) {
-        return Joined::Made(m);
+        return Some(m);
     }
     if order.len() <= n + m {
-        return Joined::TooMany;
+        return None;
     }
     put_at(fresh, q, m, k);
     put_at(places, q, m, narrow(p));
-    Joined::Made(m + 1)
+    Some(m + 1)
 }
 
-#[derive(Clone, Copy)]
-pub enum Filled {
-    Till(u32, usize),
-    NoRoom,
-}
-
-// strings from `from` on are joined, until there are as many fresh ones as fit
+// strings from `from` on are joined, until there are as many fresh ones as fit: the next string, and how many are fresh
 fn fill(
     s: &[u8],
     order: &[u32],
@@ -197,7 +170,7 @@ fn fill(
     fresh: &mut [u32],
     places: &mut [u32],
     from: u32,
-) -> Filled
+) -> Option<(u32, usize)>
     requires s_value { bodies s.now ≡ true }
     requires upto { Upto s.now order.now n from }
     requires from_bound { from < strings s.now }
@@ -206,24 +179,17 @@ fn fill(
     ensures { Reaches s.now order.now n fresh.new places.new from result }
 {
     let many = string_count(s);
-    let mut k = from;
     let mut m = 0;
-    while k < many {
+    for k in from..many {
         if fresh.len() <= m {
-            return Filled::Till(k, m);
+            return Some((k, m));
         }
-        let joined = join_one(s, order, n, fresh, places, m, k);
-        match joined {
-            Joined::Made(more) => {
-                m = more;
-            }
-            Joined::TooMany => {
-                return Filled::NoRoom;
-            }
-        }
-        k += 1;
+        let Some(more) = join_one(s, order, n, fresh, places, m, k) else {
+            return None;
+        };
+        m = more;
     }
-    Filled::Till(k, m)
+    Some((many, m))
 }
 
 // the m fresh entries go between the n in order, each to its place, from the last to the first
@@ -232,12 +198,9 @@ fn merge(order: &mut [u32], n: usize, fresh: &[u32], places: &[u32], m: usize)
     ensures { Merged order.old n fresh.now places.now m order.new }
 {
     let mut end = n;
-    let mut j = m;
-    while 0 < j {
-        let by = j;
-        j -= 1;
+    for j in (0..m).rev() {
         let at = wide(places[j]);
-        move_up(order, at, end, by);
+        move_up(order, at, end, j + 1);
         order[at + j] = fresh[j];
         end = at;
     }
@@ -264,14 +227,12 @@ fn run_length(s: &[u8], many: u32, down: bool) -> u32
     requires many_nonzero { 0 < many }
     ensures { Run s.now many down result }
 {
-    let mut k = 1;
-    while k < many {
+    for k in 1..many {
         if !goes_on(s, k - 1, down) {
             return k;
         }
-        k += 1;
     }
-    k
+    many
 }
 
 // the i-th of 0 to n - 1, rising or falling
@@ -287,11 +248,9 @@ fn put_run(order: &mut [u32], n: u32, down: bool)
     requires { n ≤ length order.old }
     ensures { Counted down n n order.new }
 {
-    let mut i = 0;
-    while i < n {
+    for i in 0..n {
         let at = wide(i);
         order[at] = nth_of(n, down, i);
-        i += 1;
     }
 }
 
@@ -321,11 +280,7 @@ fn follows(s: &[u8], order: &[u32], n: usize, x: &[u8]) -> bool
     requires in_order { InOrder s.now order.now n }
     ensures { Follows x.now (listed s.now order.now n) n result }
 {
-    if n == 0 {
-        return true;
-    }
-    let k = order[n - 1];
-    is_before(text_in(s, StrNo(k)), x)
+    n == 0 || is_before(text_in(s, StrNo(order[n - 1])), x)
 }
 
 // is x the last of the n in order?
@@ -334,25 +289,11 @@ fn repeats(s: &[u8], order: &[u32], n: usize, x: &[u8]) -> bool
     requires in_order { InOrder s.now order.now n }
     ensures { Repeats x.now (listed s.now order.now n) result }
 {
-    if n == 0 {
-        return false;
-    }
-    let k = order[n - 1];
-    let y = text_in(s, StrNo(k));
-    if is_before(x, y) {
-        return false;
-    }
-    !is_before(y, x)
+    n != 0 && x == text_in(s, StrNo(order[n - 1]))
 }
 
-#[derive(Clone, Copy)]
-pub enum Next {
-    Upto(usize),
-    Not,
-}
-
-// string k behind the n in order, where it goes there
-fn take_one(s: &[u8], order: &mut [u32], n: usize, k: u32) -> Next
+// string k behind the n in order, where it goes there: how many are in order then
+fn take_one(s: &[u8], order: &mut [u32], n: usize, k: u32) -> Option<usize>
     requires s_value { bodies s.now ≡ true }
     requires in_order { InOrder s.now order.old n }
     requires n_in_bounds { n < length order.old }
@@ -361,12 +302,12 @@ fn take_one(s: &[u8], order: &mut [u32], n: usize, k: u32) -> Next
     let x = text_in(s, StrNo(k));
     if follows(s, order, n, x) {
         order[n] = k;
-        return Next::Upto(n + 1);
+        return Some(n + 1);
     }
     if repeats(s, order, n, x) {
-        return Next::Upto(n);
+        return Some(n);
     }
-    Next::Not
+    None
 }
 
 // are the first n seen?
@@ -374,12 +315,10 @@ fn all_seen(seen: &[bool; 16384], n: usize) -> bool
     requires { n ≤ 16384 }
     ensures { Seen seen.now n result }
 {
-    let mut i = 0;
-    while i < n {
+    for i in 0..n {
         if !seen[i] {
             return false;
         }
-        i += 1;
     }
     true
 }
@@ -393,63 +332,41 @@ pub enum Taken {
 
 // ---- texts that are the same, kept once where that is told
 
-fn is_same(x: &[u8], y: &[u8]) -> bool
-    ensures { Same x.now y.now result }
-{
-    if is_before(x, y) {
-        return false;
-    }
-    !is_before(y, x)
-}
-
 // has string k the text of the j-th of the first m kept?
 fn is_kept(s: &[u8], kept: &[u32], m: usize, j: usize, k: u32) -> bool
     requires s_value { bodies s.now ≡ true }
     requires m_in_bounds { m ≤ length kept.now }
     ensures { IsKept s.now kept.now m k result }
 {
-    if m <= j {
-        return false;
-    }
-    let i = kept[j];
-    is_same(text_in(s, StrNo(i)), text_in(s, StrNo(k)))
+    j < m && text_in(s, StrNo(kept[j])) == text_in(s, StrNo(k))
 }
 
-// k is kept, where there is room
-fn put_next(kept: &mut [u32], m: usize, k: u32) -> Next
+// k is kept, where there is room: how many are kept then
+fn put_next(kept: &mut [u32], m: usize, k: u32) -> Option<usize>
     requires { m ≤ length kept.old }
     ensures { PutsNext kept.old m k kept.new result }
 {
     if kept.len() <= m {
-        return Next::Not;
+        return None;
     }
     kept[m] = k;
-    let more = m + 1;
-    Next::Upto(more)
+    Some(m + 1)
 }
 
 // string k is kept, unless it has the text of the j-th
-fn keep_one(s: &[u8], kept: &mut [u32], m: usize, j: usize, k: u32) -> Next
+fn keep_one(s: &[u8], kept: &mut [u32], m: usize, j: usize, k: u32) -> Option<usize>
     requires s_value { bodies s.now ≡ true }
     requires m_in_bounds { m ≤ length kept.old }
     ensures { KeepsOne s.now kept.old m k kept.new result }
 {
     if is_kept(s, kept, m, j, k) {
-        return Next::Upto(m);
+        return Some(m);
     }
     put_next(kept, m, k)
 }
 
-fn last_of(kept: &[u32], m: usize) -> u32
-    requires m_nonzero { 0 < m }
-    requires m_in_bounds { m ≤ length kept.now }
-    ensures { result ≡ slice_index kept.now (m - 1) }
-{
-    kept[m - 1]
-}
-
 // string k is kept where it is behind them, and need not be where it is the last
-fn keep_next(s: &[u8], kept: &mut [u32], m: usize, k: u32) -> Next
+fn keep_next(s: &[u8], kept: &mut [u32], m: usize, k: u32) -> Option<usize>
     requires s_value { bodies s.now ≡ true }
     requires m_in_bounds { m ≤ length kept.old }
     ensures { KeepsOne s.now kept.old m k kept.new result }
@@ -457,16 +374,15 @@ fn keep_next(s: &[u8], kept: &mut [u32], m: usize, k: u32) -> Next
     if m == 0 {
         return put_next(kept, m, k);
     }
-    let i = last_of(kept, m);
-    let last = text_in(s, StrNo(i));
+    let last = text_in(s, StrNo(kept[m - 1]));
     let x = text_in(s, StrNo(k));
     if is_before(last, x) {
         return put_next(kept, m, k);
     }
     if is_before(x, last) {
-        return Next::Not;
+        return None;
     }
-    Next::Upto(m)
+    Some(m)
 }
 
 // the first `upto` strings have the texts of `many` of them, which are kept, and rise
@@ -483,10 +399,8 @@ fn keep_rising(s: &[u8], all: u32, kept: &mut [u32]) -> Sifted
     ensures { Sifts s.now kept.new all result.many result.upto }
 {
     let mut m = 0;
-    let mut k = 0;
-    while k < all {
-        let next = keep_next(s, kept, m, k);
-        let Next::Upto(more) = next else {
+    for k in 0..all {
+        let Some(more) = keep_next(s, kept, m, k) else {
             return Sifted {
                 upto: k,
                 many: m,
@@ -494,10 +408,9 @@ fn keep_rising(s: &[u8], all: u32, kept: &mut [u32]) -> Sifted
             };
         };
         m = more;
-        k += 1;
     }
     Sifted {
-        upto: k,
+        upto: all,
         many: m,
         rises: true,
     }
@@ -518,10 +431,8 @@ fn keep_others(
     ensures { Sifts s.now kept.new all result.many result.upto }
 {
     let mut m = many;
-    let mut k = upto;
-    while k < all {
-        let next = keep_one(s, kept, m, likely(s, table, told, k, m), k);
-        let Next::Upto(more) = next else {
+    for k in upto..all {
+        let Some(more) = keep_one(s, kept, m, likely(s, table, told, k, m), k) else {
             return Sifted {
                 upto: k,
                 many: m,
@@ -529,10 +440,9 @@ fn keep_others(
             };
         };
         m = more;
-        k += 1;
     }
     Sifted {
-        upto: k,
+        upto: all,
         many: m,
         rises: m == many,
     }
@@ -544,11 +454,9 @@ fn keep_all(s: &[u8], all: u32, kept: &mut [u32], table: &mut [u64; 16384]) -> S
     ensures { Sifts s.now kept.new all result.many result.upto }
 {
     let first = keep_rising(s, all, kept);
-    let upto = first.upto;
-    let many = first.many;
-    let told = is_often(s, all, upto);
-    tell_all(s, table, told, kept, many);
-    keep_others(s, all, told, kept, table, upto, many)
+    let told = is_often(s, all, first.upto);
+    tell_all(s, table, told, kept, first.many);
+    keep_others(s, all, told, kept, table, first.upto, first.many)
 }
 
 // ---- a guess, checked: all of those kept
@@ -561,20 +469,16 @@ fn gather(s: &[u8], kept: &[u32], table: &[u64; 16384], many: usize, order: &mut
 {
     let mut seen = [false; 16384];
     let mut n = 0;
-    let mut i = 0;
-    while i < many {
+    for i in 0..many {
         let at = place_in(table[i]);
         if many <= at {
             return Taken::First(0);
         }
-        let k = kept[at];
-        let next = take_one(s, order, n, k);
-        let Next::Upto(more) = next else {
+        let Some(more) = take_one(s, order, n, kept[at]) else {
             return Taken::First(0);
         };
         n = more;
         seen[at] = true;
-        i += 1;
     }
     if all_seen(&seen, many) {
         return Taken::All(n);
@@ -597,13 +501,7 @@ fn take_kept(
     requires sifts { Sifts s.now kept.now all many upto }
     ensures { Takes s.now order.new result }
 {
-    if upto < all {
-        return Taken::First(0);
-    }
-    if order.len() < many {
-        return Taken::First(0);
-    }
-    if 16384 < many {
+    if upto < all || order.len() < many || 16384 < many {
         return Taken::First(0);
     }
     gather(s, kept, table, many, order)
@@ -618,10 +516,8 @@ fn take_guessed(s: &[u8], all: u32, order: &mut [u32]) -> Taken
     let mut kept = [0u32; 16384];
     let mut table = [0u64; 16384];
     let sifted = keep_all(s, all, &mut kept, &mut table);
-    let many = sifted.many;
-    let upto = sifted.upto;
-    guess(s, &kept, !sifted.rises, many, &mut table);
-    take_kept(s, all, &kept, &table, upto, many, order)
+    guess(s, &kept, !sifted.rises, sifted.many, &mut table);
+    take_kept(s, all, &kept, &table, sifted.upto, sifted.many, order)
 }
 
 // do some of many strings rise and others fall? then no run is looked for
@@ -634,6 +530,7 @@ fn turns(s: &[u8], all: u32) -> bool
     let step = all / 16;
     let down = goes_on(s, 0, true);
     let mut k = 0;
+    // a while: of a `step_by` it is not proved that it ends
     while k < all {
         if !goes_on(s, k, down) {
             return true;
@@ -657,10 +554,7 @@ fn take_first(s: &[u8], order: &mut [u32]) -> Taken
         return take_guessed(s, all, order);
     }
     let k = first_run(s, order);
-    if all <= k {
-        return Taken::First(k);
-    }
-    if all < 512 {
+    if all <= k || all < 512 {
         return Taken::First(k);
     }
     take_guessed(s, all, order)
@@ -669,7 +563,7 @@ fn take_first(s: &[u8], order: &mut [u32]) -> Taken
 // ---- all strings
 
 // with the first so many joined
-fn join_from(s: &[u8], order: &mut [u32], from: u32) -> Joined
+fn join_from(s: &[u8], order: &mut [u32], from: u32) -> Option<usize>
     requires s_value { bodies s.now ≡ true }
     requires begun { Begun s.now order.old from }
     ensures { Joins s.now order.new (texts s.now) result }
@@ -679,30 +573,25 @@ fn join_from(s: &[u8], order: &mut [u32], from: u32) -> Joined
     let mut places = [0u32; 256];
     let mut k = from;
     let mut n = wide(k);
+    // a while: each turn goes on where the one before it stopped
     while k < many {
-        let filled = fill(s, order, n, &mut fresh, &mut places, k);
-        match filled {
-            Filled::Till(next, m) => {
-                merge(order, n, &fresh, &places, m);
-                n += m;
-                k = next;
-            }
-            Filled::NoRoom => {
-                return Joined::TooMany;
-            }
-        }
+        let Some((next, m)) = fill(s, order, n, &mut fresh, &mut places, k) else {
+            return None;
+        };
+        merge(order, n, &fresh, &places, m);
+        n += m;
+        k = next;
     }
-    Joined::Made(n)
+    Some(n)
 }
 
-// all strings in order, each text once: how many there are
-pub fn join_strings(s: &[u8], order: &mut [u32]) -> Joined
+// all strings in order, each text once: how many there are, where there is room
+pub fn join_strings(s: &[u8], order: &mut [u32]) -> Option<usize>
     requires { bodies s.now ≡ true }
     ensures { Joins s.now order.new (texts s.now) result }
 {
-    let taken = take_first(s, order);
-    match taken {
-        Taken::All(n) => Joined::Made(n),
+    match take_first(s, order) {
+        Taken::All(n) => Some(n),
         Taken::First(k) => join_from(s, order, k),
     }
 }

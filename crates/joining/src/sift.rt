@@ -2,31 +2,18 @@
 ghost use Rattle.std.specs.Prelude.{◌≡◌, ◌+◌, ◌<◌, ◌≤◌, true, length};
 ghost use Rattle.meaning.specs.Check.{bodies};
 
-use super::guess::{entry_in, kept_in, put_entry};
-use super::{is_same, least, text_in};
+use super::guess::{entry_in, put_entry};
+use super::text_in;
 use meaning::StrNo;
-use std::num::wrapping_add_u64;
 
 // ---- a number of a text, likely another one for another text
 
-fn one(a: u8) -> u64
-    ensures { result ≤ 255 }
-{
-    a as u64
-}
-
 // four bytes as one number, the first the lowest
-fn four(a: u8, b: u8, c: u8, d: u8) -> u64
-    ensures { result ≤ 4294967295 }
-{
-    (a as u64) + 256 * ((b as u64) + 256 * ((c as u64) + 256 * (d as u64)))
-}
-
 fn four_at(x: &[u8], i: usize) -> u64
     requires { i + 4 ≤ length x.now }
     ensures { result ≤ 4294967295 }
 {
-    four(x[i], x[i + 1], x[i + 2], x[i + 3])
+    u64::from(u32::from_le_bytes([x[i], x[i + 1], x[i + 2], x[i + 3]]))
 }
 
 fn mixed(h: u64, a: u64, b: u64) -> u64
@@ -35,15 +22,13 @@ fn mixed(h: u64, a: u64, b: u64) -> u64
 {
     let p = (h % 4294967296 + a) * 1640531527;
     let q = (h / 4294967296 + b) * 1540483477;
-    wrapping_add_u64(p, q % 4294967296 * 4294967296 + q / 4294967296)
+    p.wrapping_add(q.rotate_left(32))
 }
 
 fn mixed_bytes(x: &[u8]) -> u64 {
     let mut h = x.len() as u64;
-    let mut i = 0;
-    while i < x.len() {
-        h = mixed(h, one(x[i]), 0);
-        i += 1;
+    for byte in x {
+        h = mixed(h, u64::from(*byte), 0);
     }
     h
 }
@@ -55,8 +40,9 @@ fn mixed_eights(x: &[u8], n: usize) -> u64
 {
     let mut h = n as u64;
     let mut i = 0;
+    // a while: of a `step_by` it is not proved that it ends
     while i < n {
-        let at = least(i, n - 8);
+        let at = i.min(n - 8);
         h = mixed(h, four_at(x, at), four_at(x, at + 4));
         if n - i <= 8 {
             return h;
@@ -68,7 +54,7 @@ fn mixed_eights(x: &[u8], n: usize) -> u64
 
 // of the last 256 bytes
 fn mixed_text(text: &[u8]) -> u64 {
-    let from = text.len() - least(text.len(), 256);
+    let from = text.len() - text.len().min(256);
     let x = &text[from..];
     if x.len() < 8 {
         return mixed_bytes(x);
@@ -78,12 +64,14 @@ fn mixed_text(text: &[u8]) -> u64 {
 
 // ---- a table of places, two in an entry: 17 bits of a text's number, and its place among those kept, one more
 
-// the place in half an entry where it tells this, one more
-fn told_in(half: u64, tag: u64) -> u64 {
-    if half / 32768 == tag {
-        return half % 32768;
+// the place in half an entry, where it tells this
+fn told_in(half: u64, tag: u64) -> Option<usize> {
+    let more = half % 32768;
+    if half / 32768 == tag && more != 0 {
+        Some((more - 1) as usize)
+    } else {
+        None
     }
-    0
 }
 
 // the place that is told for a number; where none is, this one is put there and is it
@@ -94,8 +82,7 @@ fn place_by(table: &mut [u64; 16384], number: u64, place: usize) -> usize
     let tag = g / 1048576 % 131072;
     let own = tag * 32768 + (place as u64) + 1;
     let mut at = (g / 1099511627776 % 16384) as usize;
-    let mut left = 64u32;
-    while 0 < left {
+    for _ in 0..64 {
         let entry = entry_in(table, at);
         let low = entry % 4294967296;
         let high = entry / 4294967296;
@@ -103,20 +90,17 @@ fn place_by(table: &mut [u64; 16384], number: u64, place: usize) -> usize
             put_entry(table, at, own);
             return place;
         }
-        let a = told_in(low, tag);
-        if 0 < a {
-            return (a - 1) as usize;
+        if let Some(told) = told_in(low, tag) {
+            return told;
         }
         if high == 0 {
             put_entry(table, at, low + own % 4294967296 * 4294967296);
             return place;
         }
-        let b = told_in(high, tag);
-        if 0 < b {
-            return (b - 1) as usize;
+        if let Some(told) = told_in(high, tag) {
+            return told;
         }
         at = (at + 1) % 16384;
-        left -= 1;
     }
     place
 }
@@ -125,10 +109,7 @@ fn place_by(table: &mut [u64; 16384], number: u64, place: usize) -> usize
 pub fn likely(s: &[u8], table: &mut [u64; 16384], told: bool, k: u32, many: usize) -> usize
     requires { bodies s.now ≡ true }
 {
-    if !told {
-        return many;
-    }
-    if 16384 < many {
+    if !told || 16384 < many {
         return many;
     }
     place_by(table, mixed_text(text_in(s, StrNo(k))), many)
@@ -138,10 +119,8 @@ pub fn likely(s: &[u8], table: &mut [u64; 16384], told: bool, k: u32, many: usiz
 pub fn tell_all(s: &[u8], table: &mut [u64; 16384], told: bool, kept: &[u32], many: usize)
     requires { bodies s.now ≡ true }
 {
-    let mut i = 0;
-    while i < many {
-        likely(s, table, told, kept_in(kept, i), i);
-        i += 1;
+    for i in 0..many {
+        likely(s, table, told, entry_in(kept, i), i);
     }
 }
 
@@ -155,8 +134,9 @@ fn is_repeated(s: &[u8], k: u32, step: u32) -> bool
     requires step_bound { step ≤ 16384 }
 {
     let mut j = 0;
+    // a while: of a `step_by` it is not proved that it ends
     while j < k {
-        if is_same(text_in(s, StrNo(j)), text_in(s, StrNo(k))) {
+        if text_in(s, StrNo(j)) == text_in(s, StrNo(k)) {
             return true;
         }
         j += step;
@@ -173,13 +153,12 @@ fn repeated(s: &[u8], n: u32, step: u32) -> u32
 {
     let mut many = 0;
     let mut k = 0;
+    // a while: of a `step_by` it is not proved that it ends
     while k < n {
         if is_repeated(s, k, step) {
             many += 1;
-            k += step;
-        } else {
-            k += step;
         }
+        k += step;
     }
     many
 }
@@ -188,14 +167,5 @@ fn repeated(s: &[u8], n: u32, step: u32) -> u32
 pub fn is_often(s: &[u8], n: u32, rise: u32) -> bool
     requires { bodies s.now ≡ true }
 {
-    if n <= rise {
-        return false;
-    }
-    if 16384 < n {
-        return true;
-    }
-    if n < 32 {
-        return false;
-    }
-    0 < repeated(s, n, n / 32)
+    rise < n && (16384 < n || 32 <= n && 0 < repeated(s, n, n / 32))
 }

@@ -21,22 +21,20 @@ use Rattle.encode.specs.Unsorted.{texts, parts, finished}
 use Rattle.encode.specs.Write.{make_refusal, room_after, over}
 use Rattle.encode.proofs.Laws.Encode.{step-long}
 use Rattle.encode.proofs.Laws.Unsorted.{seven, finished-long, mosts-as}
-use Rattle.joining.specs.declared.Joined.{Joined}
-use Rattle.joining.specs.declared.Joined.TheVariants as J
 use Rattle.joining.specs.Order.{Joins, Sorted}
 use Rattle.joining.specs.Laws.{listed-long}
 use Rattle.finish.specs.Sizes.{Sized, TextBytes, PartSize, Fits}
-use Rattle.std.specs.Prelude.{Ok, Err}
+use Rattle.std.specs.Prelude.{Option, Some, None, Ok, Err}
 use Rattle.making.specs.Made.{FinishedSize, made_as, Makes}
 
 -- ---- tables
 
-pub tables-not : {b t : Bool} (x : Bool) → t ≡ b → not t ≡ true → false ≡ (b and x)
-tables-not {b} {t} x e h = sym (stop x (sym e ∙ not-true t h))
+pub tables-not : {b t : Bool} (x : Bool) → t ≡ b → t ≡ false → t ≡ (b and x)
+tables-not {b} {t} x e h = h ∙ sym (stop x (sym e ∙ h))
 
-pub tables-as : {t : Bool} {m l : ℕ} (s : List ℕ) (n : ℕ) → t ≡ bodies s → not t ≡ false → m ≡ l → l ≡ lists s → eqb n m ≡ (bodies s and eqb n (lists s))
+pub tables-as : {t : Bool} {m l : ℕ} (s : List ℕ) (n : ℕ) → t ≡ bodies s → t ≡ true → m ≡ l → l ≡ lists s → eqb n m ≡ (bodies s and eqb n (lists s))
 unfolding ◌and◌
-tables-as {t} s n e h f g = rw (sym e ∙ not-false t h) (ap (eqb n) (f ∙ g))
+tables-as {t} s n e h f g = rw (sym e ∙ h) (ap (eqb n) (f ∙ g))
 
 pub told : {t : Bool} (x : Bool) → t ≡ x → not t ≡ false → x ≡ true
 told {t} x e h = sym e ∙ not-false t h
@@ -80,10 +78,10 @@ mosts-kept {r} {r₂} {r₃} {r₄} {r₅} {n} {size} {a} {b} {d} {e} s marks e1
 
 -- ---- the strings in order
 
-pub sorted_of : {s order : List ℕ} {n : ℕ} {r : Joined} → Joins s order (texts s) r → r ≡ J.Made n → Sorted s order n
+pub sorted_of : {s order : List ℕ} {n : ℕ} {r : Option ℕ} → Joins s order (texts s) r → r ≡ Some n → Sorted s order n
 sorted_of j e = let h = rw e at j in record { fits = h.is.0; is = h.is.1 }
 
-pub sorted-few : {s order : List ℕ} {n : ℕ} {r : Joined} → Joins s order (texts s) r → r ≡ J.Made n → length order ≡ 16384 → n ≤ 16384
+pub sorted-few : {s order : List ℕ} {n : ℕ} {r : Option ℕ} → Joins s order (texts s) r → r ≡ Some n → length order ≡ 16384 → n ≤ 16384
 sorted-few j e l = let h = rw e at j in omega (arith, h.is.0)
 
 many-texts : {s order : List ℕ} {n : ℕ} → Sorted s order n → n ≡ length (texts s)
@@ -114,7 +112,7 @@ module _ {s marks room : List ℕ} where
     pub makes-large : {t : Bool} → t ≡ mosts (finished s marks) → not t ≡ true → Makes s marks room room (Err TooLarge)
     makes-large {t} e g = too_large (sym e ∙ not-true t g)
 
-    pub makes-many : {order : List ℕ} {r : Joined} → Joins s order (texts s) r → r ≡ J.TooMany → length order ≡ 16384 → Makes s marks room room (Err TooLarge)
+    pub makes-many : {order : List ℕ} {r : Option ℕ} → Joins s order (texts s) r → r ≡ None → length order ≡ 16384 → Makes s marks room room (Err TooLarge)
     makes-many {order} {r} j e l =
         let k = rw e at j in
         too_large (mosts-as s marks (both _ _ h).0 ∙ skip _ (stop _ (lt-leb (length (texts s)) 16384 (omega (arith, k.is)))))

@@ -12,7 +12,7 @@ ghost use Rattle.finish.specs.Sizes.{Sized};
 ghost use Rattle.making.specs.Made.{FinishedSize, Makes};
 
 use finish::{finish, part_size, text_bytes};
-use joining::{Joined, join_strings};
+use joining::join_strings;
 use meaning::Refusal;
 use stringcheck::{check_bodies, list_count, node_count, point_count, value_count, var_count};
 use tables::{both, wide};
@@ -21,10 +21,7 @@ use tables::{both, wide};
 fn has_tables(s: &[u8], marks: &[u8]) -> bool
     ensures { ◌≡◌ {A = Bool} result (bodies s.now and eqb (length marks.now) (lists s.now)) }
 {
-    if !check_bodies(s) {
-        return false;
-    }
-    marks.len() == wide(list_count(s))
+    check_bodies(s) && marks.len() == wide(list_count(s))
 }
 
 fn finished_size(s: &[u8], marks: &[u8], n: usize, total: usize) -> usize
@@ -33,10 +30,8 @@ fn finished_size(s: &[u8], marks: &[u8], n: usize, total: usize) -> usize
     ensures { FinishedSize s.now marks.now result }
 {
     let mut size = 64;
-    let mut k = 0;
-    while k < 7 {
+    for k in 0..7 {
         size += part_size(s, marks, n, total, k);
-        k += 1;
     }
     size
 }
@@ -56,7 +51,13 @@ fn keeps_mosts(s: &[u8], marks: &[u8], n: usize, size: usize) -> bool
 }
 
 // with the strings in order
-fn make_sorted(s: &[u8], marks: &[u8], order: &[u32], n: usize, room: &mut [u8]) -> Result<usize, Refusal>
+fn make_sorted(
+    s: &[u8],
+    marks: &[u8],
+    order: &[u32],
+    n: usize,
+    room: &mut [u8],
+) -> Result<usize, Refusal>
     requires s_value { (bodies s.now and eqb (length marks.now) (lists s.now)) ≡ true }
     requires sorted { Sorted s.now order.now n }
     requires n_bound { n ≤ 16384 }
@@ -81,8 +82,8 @@ pub fn make(s: &[u8], marks: &[u8], room: &mut [u8]) -> Result<usize, Refusal>
     if !has_tables(s, marks) {
         return Err(Refusal::BadContents);
     }
-    let mut order: [u32; 16384] = [0; 16384];
-    let Joined::Made(n) = join_strings(s, &mut order) else {
+    let mut order = [0u32; 16384];
+    let Some(n) = join_strings(s, &mut order) else {
         return Err(Refusal::TooLarge);
     };
     make_sorted(s, marks, &order, n, room)

@@ -2,8 +2,8 @@ use Rattle.std.proofs.Common.{rules}
 use Rattle.finish.proofs.Names.{marked-not, marked-as}
 use Rattle.finish.proofs.is_marked.Goals as goal
 
-pub returns-then-marks-i : goal.returns-then-marks-i
-returns-then-marks-i c = search (marked-not, rules)
+pub returns-then-i-marks : goal.returns-then-i-marks
+returns-then-i-marks c = search (marked-as, rules)
 
-pub returns : goal.returns
-returns c = search (marked-as, rules)
+pub returns-else-i-marks : goal.returns-else-i-marks
+returns-else-i-marks c = search (marked-not, rules)

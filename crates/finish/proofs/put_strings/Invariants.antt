@@ -1,10 +1,6 @@
 use Rattle.finish.proofs.Parts.{Placing}
 use Rattle.encode.specs.Unsorted.{texts}
-use Prim.Native.Nat.{◌-◌}
 use Rattle.finish.proofs.put_strings.Given as goal
 
 abbrev pub invariant-loop-i : goal.invariant-loop-i
 invariant-loop-i l = Placing l.initial.out l.out l.at 0 (texts l.s) l.i l.start
-
-abbrev pub decreases-loop-i : goal.decreases-loop-i
-decreases-loop-i l = l.n - l.i

@@ -1,9 +1,5 @@
 use Rattle.finish.proofs.Parts.{Counting}
-use Prim.Native.Nat.{◌-◌}
 use Rattle.finish.proofs.text_bytes.Given as goal
 
 abbrev pub invariant-loop-i : goal.invariant-loop-i
 invariant-loop-i l = Counting l.s l.n l.i l.total
-
-abbrev pub decreases-loop-i : goal.decreases-loop-i
-decreases-loop-i l = l.n - l.i

@@ -1,9 +1,5 @@
 use Rattle.joining.proofs.Guessing.{Seeing}
-use Rattle.std.proofs.Common.{◌-◌}
 use Rattle.joining.proofs.all_seen.Given as goal
 
 abbrev pub invariant-loop-i : goal.invariant-loop-i
 invariant-loop-i l = Seeing l.seen l.n l.i
-
-abbrev pub decreases-loop-i : goal.decreases-loop-i
-decreases-loop-i l = l.n - l.i

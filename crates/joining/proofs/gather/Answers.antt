@@ -8,11 +8,11 @@ loop-i-init c = search (gathering_none, rules)
 pub returns-then-many-at : goal.returns-then-many-at
 returns-then-many-at c = search (takes_none, rules)
 
-pub take_one-next-requires-clause-in_order : goal.take_one-next-requires-clause-in_order
-take_one-next-requires-clause-in_order c = search (gathering_sorted, rules)
+pub take_one-requires-clause-in_order : goal.take_one-requires-clause-in_order
+take_one-requires-clause-in_order c = search (gathering_sorted, rules)
 
-pub take_one-next-requires-clause-n_in_bounds : goal.take_one-next-requires-clause-n_in_bounds
-take_one-next-requires-clause-n_in_bounds c = search (gathering-room, rules)
+pub take_one-requires-clause-n_in_bounds : goal.take_one-requires-clause-n_in_bounds
+take_one-requires-clause-n_in_bounds c = search (gathering-room, rules)
 
 pub returns-in_default : goal.returns-in_default
 returns-in_default c = search (takes_none, rules)

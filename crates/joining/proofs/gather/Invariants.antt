@@ -1,9 +1,5 @@
 use Rattle.joining.proofs.Guessing.{Gathering}
-use Rattle.std.proofs.Common.{◌-◌}
 use Rattle.joining.proofs.gather.Given as goal
 
 abbrev pub invariant-loop-i : goal.invariant-loop-i
 invariant-loop-i l = Gathering l.s l.kept l.initial.order l.many l.order l.seen l.n l.i
-
-abbrev pub decreases-loop-i : goal.decreases-loop-i
-decreases-loop-i l = l.many - l.i

@@ -5,14 +5,14 @@ use Rattle.joining.proofs.join_from.Goals as goal
 pub loop-k-init : goal.loop-k-init
 loop-k-init c = search (turn-none, rules)
 
-pub fill-filled-requires-clause-upto : goal.fill-filled-requires-clause-upto
-fill-filled-requires-clause-upto c = c.loop-k.invariant.upto
+pub fill-requires-clause-upto : goal.fill-requires-clause-upto
+fill-requires-clause-upto c = c.loop-k.invariant.upto
 
-pub fill-filled-requires-clause-from_bound : goal.fill-filled-requires-clause-from_bound
-fill-filled-requires-clause-from_bound c = turn_on c.loop-k.invariant c.loop-k-test.true
+pub fill-requires-clause-from_bound : goal.fill-requires-clause-from_bound
+fill-requires-clause-from_bound c = turn_on c.loop-k.invariant c.loop-k-test.true
 
 pub merge-requires : goal.merge-requires
-merge-requires c = turn-ready c.loop-k.invariant c.fill-filled.ensures c.in-Till.is
+merge-requires c = turn-ready c.loop-k.invariant c.fill.ensures c.in-Some.is
 
 pub loop-k-smaller : goal.loop-k-smaller
 loop-k-smaller c = search (turn-less, rules)
@@ -20,8 +20,8 @@ loop-k-smaller c = search (turn-less, rules)
 pub loop-k-preserved : goal.loop-k-preserved
 loop-k-preserved c = search (turn_more, rules)
 
-pub returns-in-NoRoom : goal.returns-in-NoRoom
-returns-in-NoRoom c = search (turn_many, rules)
+pub returns-in_default : goal.returns-in_default
+returns-in_default c = search (turn_many, rules)
 
 pub returns : goal.returns
 returns c = search (turn-all, rules)

@@ -5,8 +5,8 @@ use Rattle.joining.proofs.keep_others.Goals as goal
 pub loop-k-init : goal.loop-k-init
 loop-k-init c = search (sifting_from, rules)
 
-pub keep_one-next-requires-clause-m_in_bounds : goal.keep_one-next-requires-clause-m_in_bounds
-keep_one-next-requires-clause-m_in_bounds c = search (sifting_fits, rules)
+pub keep_one-requires-clause-m_in_bounds : goal.keep_one-requires-clause-m_in_bounds
+keep_one-requires-clause-m_in_bounds c = search (sifting_fits, rules)
 
 pub returns-in_default : goal.returns-in_default
 returns-in_default c = search (sifting_not, rules)

@@ -1,9 +1,5 @@
 use Rattle.joining.proofs.Guessing.{Sifting}
-use Rattle.std.proofs.Common.{◌-◌}
 use Rattle.joining.proofs.keep_others.Given as goal
 
 abbrev pub invariant-loop-k : goal.invariant-loop-k
 invariant-loop-k l = Sifting l.s l.initial.kept l.kept l.all l.m l.k
-
-abbrev pub decreases-loop-k : goal.decreases-loop-k
-decreases-loop-k l = l.all - l.k

@@ -5,8 +5,8 @@ use Rattle.joining.proofs.keep_rising.Goals as goal
 pub loop-k-init : goal.loop-k-init
 loop-k-init c = search (sifting-none, rules)
 
-pub keep_next-next-requires-clause-m_in_bounds : goal.keep_next-next-requires-clause-m_in_bounds
-keep_next-next-requires-clause-m_in_bounds c = search (sifting_fits, rules)
+pub keep_next-requires-clause-m_in_bounds : goal.keep_next-requires-clause-m_in_bounds
+keep_next-requires-clause-m_in_bounds c = search (sifting_fits, rules)
 
 pub returns-in_default : goal.returns-in_default
 returns-in_default c = search (sifting_not, rules)

@@ -1,9 +1,5 @@
 use Rattle.joining.specs.Run.{Run}
-use Rattle.std.proofs.Common.{◌-◌}
 use Rattle.joining.proofs.run_length.Given as goal
 
 abbrev pub invariant-loop-k : goal.invariant-loop-k
 invariant-loop-k l = Run l.s l.many l.down l.k
-
-abbrev pub decreases-loop-k : goal.decreases-loop-k
-decreases-loop-k l = l.many - l.k

@@ -5,11 +5,5 @@ use Rattle.joining.proofs.take_kept.Goals as goal
 pub returns-then-upto-all : goal.returns-then-upto-all
 returns-then-upto-all c = search (takes_none, rules)
 
-pub returns-then-order-many : goal.returns-then-order-many
-returns-then-order-many c = search (takes_none, rules)
-
-pub returns-then-many-gt16384 : goal.returns-then-many-gt16384
-returns-then-many-gt16384 c = search (takes_none, rules)
-
 pub gather-requires-clause-few : goal.gather-requires-clause-few
 gather-requires-clause-few c = search (few-all, rules)

@@ -1,9 +1,5 @@
 use Rattle.making.proofs.Rules.{Summing}
-use Prim.Native.Nat.{◌-◌}
 use Rattle.making.proofs.finished_size.Given as goal
 
 abbrev pub invariant-loop-k : goal.invariant-loop-k
 invariant-loop-k l = Summing l.s l.marks l.k l.size
-
-abbrev pub decreases-loop-k : goal.decreases-loop-k
-decreases-loop-k l = 7 - l.k

@@ -1,5 +1,5 @@
 // Meters and shapes, made in one place: a number more beside steps and rows is one field here.
-ghost use Rattle.std.specs.Prelude.{◌≡◌, ◌<◌, max};
+ghost use Rattle.std.specs.Prelude.{◌≡◌, ◌<◌};
 ghost use Rattle.meaning.specs.Walk.{started};
 ghost use Rattle.rows.specs.Meters.{stepped, holding, raised};
 ghost use Rattle.rows.specs.Stack.{shape_of};
@@ -23,11 +23,9 @@ pub fn stepped(m: Meter, limit: u64) -> Meter
     requires { m.steps < limit }
     ensures { result ≡ stepped m }
 {
-    let spent = m.steps + 1;
     Meter {
-        steps: spent,
-        held: m.held,
-        most: m.most,
+        steps: m.steps + 1,
+        ..m
     }
 }
 
@@ -35,33 +33,18 @@ pub fn stepped(m: Meter, limit: u64) -> Meter
 pub fn holding(m: Meter, held: usize) -> Meter
     ensures { result ≡ holding m held }
 {
-    Meter {
-        steps: m.steps,
-        held,
-        most: m.most,
-    }
+    Meter { held, ..m }
 }
 
 // so many rows held, perhaps more than ever before
 pub fn raised(m: Meter, held: usize) -> Meter
     ensures { result ≡ raised m held }
 {
-    let most = more(m.most, held);
     Meter {
-        steps: m.steps,
         held,
-        most,
+        most: m.most.max(held),
+        ..m
     }
-}
-
-// the greater of two numbers
-fn more(a: usize, b: usize) -> usize
-    ensures { result ≡ max a b }
-{
-    if a < b {
-        return b;
-    }
-    a
 }
 
 // rows of so many variables, in the room of a call

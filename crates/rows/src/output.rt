@@ -6,7 +6,7 @@ ghost use Rattle.meaning.specs.Calls.{cells_of, filled};
 ghost use Rattle.rows.specs.Table.{Fit, rows_in, row_in, Variables};
 ghost use Rattle.laws.specs.Writing.{Writing};
 
-use super::{Shape, get};
+use super::{Shape, get, is_bound};
 use meaning::Binding;
 use tables::wide;
 
@@ -14,13 +14,11 @@ use tables::wide;
 fn plain(b: Binding) -> Binding
     ensures { result.tag ∷ (result.bits ∷ []) ≡ cells (in_cells b.tag b.bits) }
 {
-    if b.tag == 0 {
-        return Binding { tag: 0, bits: 0 };
+    if is_bound(b) {
+        b
+    } else {
+        Binding { tag: 0, bits: 0 }
     }
-    if b.tag <= 3 {
-        return b;
-    }
-    Binding { tag: 0, bits: 0 }
 }
 
 // row h on the binders, from a cell of the output on
@@ -28,17 +26,12 @@ fn write_row(work: &[u64], shape: Shape, h: usize, binders: &[u32], out: &mut [u
     requires { Fit shape work.now × (h < shape.room) × Variables shape.vars binders.now × (at + 2 * length binders.now ≤ length out.old) }
     ensures { Writing out.old out.new at (cells_of binders.now (row_in shape work.now h)) }
 {
-    let n = binders.len();
-    let mut k = 0;
-    while k < n {
-        let x = wide(binders[k]);
-        let b = get(work, shape, h, x);
+    for (k, x) in binders.iter().enumerate() {
+        let b = get(work, shape, h, wide(*x));
         let c = plain(b);
         let p = at + 2 * k;
-        let q = p + 1;
         out[p] = c.tag;
-        out[q] = c.bits;
-        k += 1;
+        out[p + 1] = c.bits;
     }
 }
 
@@ -54,12 +47,9 @@ pub fn write_rows(
     requires { Fit shape work.now × (from ≤ to) × (to ≤ shape.room) × Variables shape.vars binders.now × ((to - from) * (2 * length binders.now) ≤ length out.old) }
     ensures { Writing out.old out.new 0 (filled binders.now (slice from to (rows_in shape work.now))) }
 {
-    let n = binders.len();
     let mut at = 0;
-    let mut h = from;
-    while h < to {
+    for h in from..to {
         write_row(work, shape, h, binders, out, at);
-        at = at + 2 * n;
-        h += 1;
+        at += 2 * binders.len();
     }
 }

@@ -10,8 +10,8 @@ loop-k-init c = search (row-none, rules)
 pub get-b-requires : goal.get-b-requires
 get-b-requires c = search (binder_in, rules)
 
-pub bounds-out-q : goal.bounds-out-q
-bounds-out-q c = simp length-set (omega arith)
+pub bounds-out-p-in-loop-k : goal.bounds-out-p-in-loop-k
+bounds-out-p-in-loop-k c = simp length-set (omega arith)
 
 pub loop-k-preserved : goal.loop-k-preserved
 loop-k-preserved c = search (row_more, rules)

@@ -1,10 +1,6 @@
-use Prim.Native.Nat.{◌-◌}
 use Rattle.rows.specs.Table.{row_in}
 use Rattle.rows.proofs.Out.{RowOut}
 use Rattle.rows.proofs.output.write_row.Given as goal
 
 abbrev pub invariant-loop-k : goal.invariant-loop-k
 invariant-loop-k l = RowOut l.initial.out l.out l.at l.k l.binders (row_in l.shape l.work l.h)
-
-abbrev pub decreases-loop-k : goal.decreases-loop-k
-decreases-loop-k l = l.n - l.k

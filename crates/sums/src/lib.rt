@@ -8,7 +8,13 @@ ghost use Rattle.std.specs.Int.{w64};
 ghost use Rattle.meaning.specs.Number.{clamp};
 ghost use Rattle.sums.specs.Halves.{value_of, Adds};
 
-// two halves: the upper one is 2^20 above what it stands for, so that it stays above 0
+// the bits of the least 64-bit number, from which on bits are those of a negative one
+const LEAST: u64 = 1 << 63;
+
+// what the upper half is where the sum's own is 0
+const MIDDLE: u64 = 1 << 20;
+
+// two halves, and no i128: document 01 names this form (docs/DECISIONS.md, "Forms that 01 names"). The upper one is MIDDLE above what it stands for, so that it stays above 0
 #[derive(Clone, Copy)]
 pub struct Wide {
     pub lo: u64,
@@ -21,8 +27,8 @@ pub fn add_wide(w: Wide, u: u64) -> Wide
     ensures { Adds w u result }
 {
     let hi = w.hi;
-    let lo = std::num::wrapping_add_u64(w.lo, u);
-    if u < 9223372036854775808 {
+    let lo = w.lo.wrapping_add(u);
+    if u < LEAST {
         if lo < u {
             return Wide { lo, hi: hi + 1 };
         }
@@ -38,21 +44,15 @@ pub fn add_wide(w: Wide, u: u64) -> Wide
 pub fn clamp_wide(w: Wide) -> u64
     ensures { to_z w64 result ≡ clamp (value_of w) }
 {
-    let hi = w.hi;
-    let lo = w.lo;
-    if hi < 1048575 {
-        return 9223372036854775808;
-    }
-    if hi == 1048575 {
-        if lo < 9223372036854775808 {
-            return 9223372036854775808;
+    if w.hi < MIDDLE {
+        if w.hi == MIDDLE - 1 && LEAST <= w.lo {
+            w.lo
+        } else {
+            LEAST
         }
-        return lo;
+    } else if w.hi == MIDDLE && w.lo < LEAST {
+        w.lo
+    } else {
+        LEAST - 1
     }
-    if hi == 1048576 {
-        if lo < 9223372036854775808 {
-            return lo;
-        }
-    }
-    9223372036854775807
 }

@@ -1,2 +1,1 @@
 pub mod Upto
-pub mod Clears

@@ -10,9 +10,5 @@ pub fn clear(work: &mut [u64], n: usize)
     requires { n ≤ length work.old }
     ensures { work.new ≡ cleared n work.old }
 {
-    let mut i = 0;
-    while i < n {
-        work[i] = 0;
-        i += 1;
-    }
+    work[..n].fill(0);
 }

@@ -3,7 +3,6 @@
 #![tactic(auto)]
 
 mod case;
-mod print;
 mod replay;
 mod turns;
 
@@ -11,14 +10,12 @@ use std::io;
 
 fn main(rt: HostRuntime) -> io::Result<()> {
     let mut list = [0u8; 8192];
-    match intake::load(&rt, "equalities.bin", &mut list)? {
-        None => Ok(()),
-        Some(n) => {
-            case::replay_case(&rt, &list[..n])?;
-            turns::windows(&rt)?;
-            turns::units(&rt)?;
-            turns::sums(&rt)?;
-            turns::orders(&rt)
-        }
-    }
+    let Some(n) = intake::load(&rt, "equalities.bin", &mut list)? else {
+        return Ok(());
+    };
+    case::replay_case(&rt, &list[..n])?;
+    turns::windows(&rt)?;
+    turns::units(&rt)?;
+    turns::sums(&rt)?;
+    turns::orders(&rt)
 }

@@ -16,14 +16,14 @@ decreases-object_at l = 4 * l.levels + 2
 abbrev pub decreases-value_at : goal.decreases-value_at
 decreases-value_at l = 4 * l.levels
 
-abbrev pub invariant-array_at-loop-w : goal.invariant-array_at-loop-w
-invariant-array_at-loop-w l = Listing (λ t. value l.levels t) l.line l.initial.names l.names l.used l.at l.i
+abbrev pub invariant-array_at-loop-after : goal.invariant-array_at-loop-after
+invariant-array_at-loop-after l = Listing (λ t. value l.levels t) l.line l.initial.names l.names l.used l.at l.i
 
-abbrev pub decreases-array_at-loop-w : goal.decreases-array_at-loop-w
-decreases-array_at-loop-w l = length l.line - l.i
+abbrev pub decreases-array_at-loop-after : goal.decreases-array_at-loop-after
+decreases-array_at-loop-after l = length l.line - l.i
 
-abbrev pub invariant-object_at-loop-w : goal.invariant-object_at-loop-w
-invariant-object_at-loop-w l = Gathering l.levels l.line l.initial.names l.names l.used l.at l.end l.i
+abbrev pub invariant-object_at-loop-after : goal.invariant-object_at-loop-after
+invariant-object_at-loop-after l = Gathering l.levels l.line l.initial.names l.names l.used l.at l.end l.i
 
-abbrev pub decreases-object_at-loop-w : goal.decreases-object_at-loop-w
-decreases-object_at-loop-w l = length l.line - l.i
+abbrev pub decreases-object_at-loop-after : goal.decreases-object_at-loop-after
+decreases-object_at-loop-after l = length l.line - l.i

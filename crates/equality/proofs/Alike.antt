@@ -27,9 +27,6 @@ use Rattle.equality.specs.Joined.{Holders, Headed, Paired, Glanced, Looked}
 use Rattle.equality.specs.Places.{open_place, shut-place}
 use Rattle.laws.specs.Text.{list_same}
 
-true-false : true ≡ false → ⊥
-true-false e = let z : ◌≡◌ {A = ℕ} 0 1 = cc in omega arith
-
 pub value_none : {s : List ℕ} → Checked s → (v j : ℕ) → values s ≤ v → value_word s v j ≡ 0
 unfolding value_word pick
 value_none {s} c v j l = body-beyond s (checked-bodies c) 1 (4 * v + j) (lit< tt) (omega (arith, wholes s (checked-bodies c) 1 (lit< tt)))

@@ -141,9 +141,6 @@ module _ {s t : List ℕ} {v k d : ℕ} (l : Leading s t v k d) where
 
 -- ---- two values, and those that they lead to
 
-pub both_end : {s t u : List ℕ} {a b v w : ℕ} → Leads s u b w → Leads s t a v → Ended s u a b (record { v = v; w = w })
-both_end r l = record { joined = r.joined; low = l.low; same = l.same; low-other = r.low; same-other = r.same }
-
 module _ {s t u : List ℕ} {a b : ℕ} {e : Ends} (o : Inside s u a b) (d : Ended s t a b e) where
   c : Checked s
   c = o.checked

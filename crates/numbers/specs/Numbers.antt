@@ -1,5 +1,5 @@
 -- The order that an op asks of two Ints, and signed numbers by sign and magnitude
-use Rattle.std.specs.Prelude.{Bool, true, false, not, ℕ, suc, eqb, ℤ, pos, negsuc, neg_ℤ}
+use Rattle.std.specs.Prelude.{Bool, true, false, not, ℕ, eqb, ℤ, pos, neg_ℤ}
 use Rattle.std.specs.Int.Signed.{lt_z, le_z}
 use Rattle.std.proofs.Common.{of_z}
 use Rattle.std.specs.Int.{w64}
@@ -13,14 +13,6 @@ orders Ge a b = le_z b a
 orders Gt a b = lt_z b a
 orders Eq a b = eqb (of_z w64 a) (of_z w64 b)
 orders NotEq a b = not (eqb (of_z w64 a) (of_z w64 b))
-
-unfoldable pub is_negative : ℤ → Bool
-is_negative (pos n) = false
-is_negative (negsuc n) = true
-
-unfoldable pub magnitude_of : ℤ → ℕ
-magnitude_of (pos n) = n
-magnitude_of (negsuc n) = suc n
 
 unfoldable pub signed_by : Bool → ℕ → ℤ
 signed_by true n = neg_ℤ (pos n)

@@ -1,4 +1,5 @@
 -- A member of an event: what the definition reads by its name
+use Rattle.std.specs.Prelude.{Result, Ok, Err, Result, Ok, Err}
 use mathlib.Core.Path.{◌≡◌, refl, sym, ap, subst, ◌∙◌}
 use mathlib.Core.Bool.{Bool, true, false}
 use mathlib.Core.List.{List}
@@ -11,9 +12,8 @@ use Rattle.meaning.specs.Tests.{◌or◌, choose}
 use Rattle.meaning.specs.Equal.{same_list}
 use Rattle.jsontext.specs.declared.Fault.{Fault}
 use Rattle.jsontext.specs.declared.Fault.TheVariants.{BadField}
-use Rattle.jsontext.specs.declared.Step.{Step}
-use Rattle.jsontext.specs.declared.Step.TheVariants.{At, Bad}
-use Rattle.jsontext.specs.Reading.{got, no, mapped}
+use Rattle.jsontext.specs.declared.Bad.{Bad}
+use Rattle.jsontext.specs.Reading.{got, no, mapped, wrong}
 use Rattle.jsontext.specs.Numbers.{number}
 use Rattle.jsontext.specs.Strings.{string}
 use Rattle.jsontext.specs.Values.{numeral, due, text, array, value, fields}
@@ -23,8 +23,6 @@ use Rattle.jsonread.proofs.Spelling.{came}
 use Rattle.jsonkeys.specs.Keys.{Room, Passed, KnownTold, KeyTold, MemberWrong}
 use Rattle.jsonkeys.proofs.Keys.{key-within, key-room}
 use Rattle.jsonkeys.proofs.Gathered.{key_bad, value_bad, value_read}
-use Rattle.jsonlines.specs.declared.events.Entry.{Entry}
-use Rattle.jsonlines.specs.declared.events.Entry.TheVariants.{Wrong, Read as Reads}
 use Rattle.jsonlines.specs.Entities.{entity_of}
 use Rattle.jsonlines.specs.Fields.{«time», «namespace», «action», «kind», «logged», «context», «principal», «resource», «entities», field_of, FieldTold, reader_at}
 use Rattle.jsonlines.specs.Events.{number_of, NameIs, NameTold, EntryIs, EntryTold}
@@ -80,64 +78,56 @@ number_is (suc (suc (suc (suc (suc (suc (suc (suc (suc k))))))))) s l e = absurd
 
 -- ---- a name
 
-module _ {line names next : List ℕ} {end at field : ℕ} {x : Step} (f : FieldTold line at field) (k : KeyTold line names next 0 end at (ltb field 9) x) where
+module _ {line names next : List ℕ} {end at field : ℕ} {x : Result ℕ Bad} (f : FieldTold line at field) (k : KeyTold line names next 0 end at (ltb field 9) x) where
   known : KnownTold line at (is_field field_readers) (ltb field 9)
   known n rest q = ap (λ (j : ℕ). ltb j 9) (f n rest q) ∙ sym (is_field_lem n)
 
-  pub name_bad : {w : Fault} {p q : ℕ} → x ≡ Bad w p q → NameTold line names next end at (Wrong w p q)
-  name_bad {w} {p} {q} e =
+  pub name_bad : {b : Bad} → x ≡ Err b → NameTold line names next end at (Err b)
+  name_bad {b} e =
       record {
         read = λ k v z. absurd (let z : ◌≡◌ {A = ℕ} 0 1 = cc in omega arith);
-        wrong =
-            λ v i j z.
-            let a : w ≡ v = cc in
-            let b : p ≡ i = cc in
-            let d : q ≡ j = cc in
-            rw d at (rw b at (rw a at (key_bad (is_field field_readers) (field_by field_readers) known k e)));
+        wrong = λ v z. let a : b ≡ v = cc in subst (λ (v : Bad). MemberWrong (is_field field_readers) (field_by field_readers) line names next 0 end at v) a (key_bad (is_field field_readers) (field_by field_readers) known k e);
       }
 
-  pub name-read : {v : ℕ} → x ≡ At v → NameTold line names next end at (Reads field v)
+  pub name-read : {v : ℕ} → x ≡ Ok v → NameTold line names next end at (Ok (field, v))
   name-read {v} q =
       record {
         read =
             λ j i z.
-            let a : field ≡ j = cc in
-            let b : v ≡ i = cc in
+            let p : ◌≡◌ {A = ℕ × ℕ} (field, v) (j, i) = cc in
+            let a : field ≡ j = ap (λ (p : ℕ × ℕ). p.0) p in
+            let b : v ≡ i = ap (λ (p : ℕ × ℕ). p.1) p in
             subst (λ (j : ℕ). NameIs line names next end at j i) a (subst (λ (i : ℕ). NameIs line names next end at field i) b (record { field = f; key = rw q at k }));
-        wrong = λ w p q z. absurd (let z : ◌≡◌ {A = ℕ} 0 1 = cc in omega arith);
+        wrong = λ b z. absurd (let z : ◌≡◌ {A = ℕ} 0 1 = cc in omega arith);
       }
 
 -- ---- a value after its name
 
 module _ {line names last : List ℕ} {end at : ℕ} where
-  told-wrong : {w : Fault} {p q : ℕ} → MemberWrong (is_field field_readers) (field_by field_readers) line names last 0 end at w p q → EntryTold line names last end at (Wrong w p q)
-  told-wrong {w} {p} {q} m =
+  told-wrong : {b : Bad} → MemberWrong (is_field field_readers) (field_by field_readers) line names last 0 end at b → EntryTold line names last end at (Err b)
+  told-wrong {b} m =
       record {
         read = λ k e z. absurd (let z : ◌≡◌ {A = ℕ} 0 1 = cc in omega arith);
-        wrong =
-            λ v i j k.
-            let a : w ≡ v = cc in
-            let d : p ≡ i = cc in
-            let f : q ≡ j = cc in
-            rw f at (rw d at (rw a at m));
+        wrong = λ v k. let a : b ≡ v = cc in subst (λ (v : Bad). MemberWrong (is_field field_readers) (field_by field_readers) line names last 0 end at v) a m;
       }
 
-  told-read : {k e : ℕ} → EntryIs line names last end at k e → EntryTold line names last end at (Reads k e)
+  told-read : {k e : ℕ} → EntryIs line names last end at k e → EntryTold line names last end at (Ok (k, e))
   told-read {k} {e} m =
       record {
         read =
             λ j i z.
-            let a : k ≡ j = cc in
-            let b : e ≡ i = cc in
+            let p : ◌≡◌ {A = ℕ × ℕ} (k, e) (j, i) = cc in
+            let a : k ≡ j = ap (λ (p : ℕ × ℕ). p.0) p in
+            let b : e ≡ i = ap (λ (p : ℕ × ℕ). p.1) p in
             subst (λ (j : ℕ). EntryIs line names last end at j i) a (subst (λ (i : ℕ). EntryIs line names last end at k i) b m);
-        wrong = λ w p q z. absurd (let z : ◌≡◌ {A = ℕ} 0 1 = cc in omega arith);
+        wrong = λ b z. absurd (let z : ◌≡◌ {A = ℕ} 0 1 = cc in omega arith);
       }
 
-module _ {line names next : List ℕ} {end at : ℕ} {x : Entry} (t : NameTold line names next end at x) where
-  pub entry-name : {w : Fault} {p q : ℕ} → x ≡ Wrong w p q → EntryTold line names next end at (Wrong w p q)
-  entry-name e = told-wrong (t.wrong _ _ _ e)
+module _ {line names next : List ℕ} {end at : ℕ} {x : Result (ℕ × ℕ) Bad} (t : NameTold line names next end at x) where
+  pub entry-name : {b : Bad} → x ≡ Err b → EntryTold line names next end at (Err b)
+  entry-name e = told-wrong (t.wrong _ e)
 
-  module _ {field v : ℕ} (q : x ≡ Reads field v) where
+  module _ {field v : ℕ} (q : x ≡ Ok (field, v)) where
     abbrev its : NameIs line names next end at field v
     its = t.read field v q
 
@@ -154,14 +144,14 @@ module _ {line names next : List ℕ} {end at : ℕ} {x : Entry} (t : NameTold l
     by_name : {n rest : List ℕ} (s : List ℕ) → string (drop at line) ≡ got n rest → field_by field_readers n s ≡ reader_at field s
     by_name {n} {rest} s e = field-by n s (rw (its.field n rest e) at small) ∙ ap (λ (j : ℕ). reader_at j s) (sym (its.field n rest e))
 
-    module _ {y : Step} {last : List ℕ} (u : Passed line next last (end + 1) v y (reader_at field (drop v line))) where
+    module _ {y : Result ℕ Bad} {last : List ℕ} (u : Passed line next last (end + 1) v y (reader_at field (drop v line))) where
       valued : Passed line next last (end + 1) v y (field_by field_readers (its.key.read v refl).name (drop v line))
       valued = record { told = told_of (omega arith) (by_name (drop v line) (its.key.read v refl).spells) u.told; below = u.below }
 
-      pub entry_bad : {w : Fault} {i j : ℕ} → y ≡ Bad w i j → EntryTold line names last end at (Wrong w i j)
+      pub entry_bad : {b : Bad} → y ≡ Err b → EntryTold line names last end at (Err b)
       entry_bad e = told-wrong (value_bad (is_field field_readers) (field_by field_readers) (known its.field its.key) its.key refl (omega arith) valued e)
 
-      pub entry_read : {e : ℕ} → y ≡ At e → EntryTold line names last end at (Reads field e)
+      pub entry_read : {e : ℕ} → y ≡ Ok e → EntryTold line names last end at (Ok (field, e))
       entry_read r =
           let m = value_read (is_field field_readers) (field_by field_readers) (known its.field its.key) its.key refl (omega arith) valued r in
           told-read (record { member = m; below = small; number = number_is field (drop m.value line) small (sym (by_name (drop m.value line) m.spells) ∙ m.reads) })

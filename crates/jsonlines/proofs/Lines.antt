@@ -1,5 +1,6 @@
 -- A line, where it ends, and the lines of a text
-use mathlib.Core.Path.{◌≡◌, refl, sym, ap, ◌∙◌}
+use Rattle.std.specs.Prelude.{Result, Ok, Err, Result, Ok, Err}
+use mathlib.Core.Path.{◌≡◌, refl, sym, ap, subst, ◌∙◌}
 use mathlib.Core.Bool.{Bool, true, false}
 use mathlib.Core.List.{List, [], ◌∷◌}
 use Prim.Native.Nat.{ℕ, suc, ◌+◌, ◌*◌, ◌-◌, ◌<◌, ◌≤◌}
@@ -12,9 +13,8 @@ use Rattle.meaning.specs.Tests.{choose}
 use Rattle.laws.specs.Tests.{yes, no as otherwise}
 use Rattle.jsontext.specs.declared.Fault.{Fault}
 use Rattle.jsontext.specs.declared.Fault.TheVariants.{NotJson, BadField}
-use Rattle.jsontext.specs.declared.Step.{Step}
-use Rattle.jsontext.specs.declared.Step.TheVariants.{At, Bad}
-use Rattle.jsontext.specs.Reading.{Read, got, fault, then, blanks, want}
+use Rattle.jsontext.specs.declared.Bad.{Bad}
+use Rattle.jsontext.specs.Reading.{Read, got, fault, then, blanks, want, wrong, wrong}
 use Rattle.jsontext.specs.Values.{begins, due}
 use Rattle.jsontext.specs.Events.{Event, event, ended, line as line_of, onto, cut, Log, events, refused, with_event, lines, log}
 use Rattle.jsonread.specs.Told.{Blanks}
@@ -32,14 +32,14 @@ unfolding event event_of want then
 brace-is line at h e = rw (byte_at line at h) (ap (λ (m : Read ℕ). then m (λ brace rest. event_of rest)) (yes _ (eq-eqb _ _ e)))
 
 module _ (line names : List ℕ) (at : ℕ) where
-  pub brace-end : at ≤ length line → length line ≤ at → Passed line names names 0 at (Bad NotJson at at) (due BadField (λ c. eqb c 123) event (drop at line))
+  pub brace-end : at ≤ length line → length line ≤ at → Passed line names names 0 at (Err (wrong NotJson at)) (due BadField (λ c. eqb c 123) event (drop at line))
   brace-end h l = record { told = due-end BadField (λ c. eqb c 123) event line at h l; below = below_self }
 
   module _ (h : at < length line) where
-    pub brace-not : {f : Fault} → (get_or line at 0 ≡ 123 → ⊥) → f ≡ choose (begins (get_or line at 0)) BadField NotJson → Passed line names names 0 at (Bad f at at) (due BadField (λ c. eqb c 123) event (drop at line))
+    pub brace-not : {f : Fault} → (get_or line at 0 ≡ 123 → ⊥) → f ≡ choose (begins (get_or line at 0)) BadField NotJson → Passed line names names 0 at (Err (wrong f at)) (due BadField (λ c. eqb c 123) event (drop at line))
     brace-not n q = record { told = due-not BadField 123 event line at h n q; below = below_self }
 
-    pub brace-there : {r : Step} {last : List ℕ} → get_or line at 0 ≡ 123 → Passed line names last 0 (at + 1) r (event_of (drop (at + 1) line)) → Passed line names last 0 at r (due BadField (λ c. eqb c 123) event (drop at line))
+    pub brace-there : {r : Result ℕ Bad} {last : List ℕ} → get_or line at 0 ≡ 123 → Passed line names last 0 (at + 1) r (event_of (drop (at + 1) line)) → Passed line names last 0 at r (due BadField (λ c. eqb c 123) event (drop at line))
     brace-there e p = record { told = due-there BadField 123 event line at h e (told_of {i = at + 1} (omega arith) (brace-is line at h e) p.told); below = p.below }
 
 -- ---- a line
@@ -51,25 +51,25 @@ line-is : (s : List ℕ) → line_of s ≡ then (braced (blanks s)) (λ e rest. 
 unfolding line_of
 line-is s = refl
 
-module _ {line names last : List ℕ} {at : ℕ} {x : Step} (b : Blanks line 0 at) (p : Passed line names last 0 at x (due BadField (λ c. eqb c 123) event (drop at line))) where
+module _ {line names last : List ℕ} {at : ℕ} {x : Result ℕ Bad} (b : Blanks line 0 at) (p : Passed line names last 0 at x (due BadField (λ c. eqb c 123) event (drop at line))) where
   begun : line_of line ≡ then (braced (drop at line)) (λ e rest. ended e (blanks rest))
   begun = line-is line ∙ ap (λ (s : List ℕ). then (braced s) (λ e rest. ended e (blanks rest))) (sym b.is)
 
-  pub line_bad : {w : Fault} {i j : ℕ} → x ≡ Bad w i j → Passed line names last 0 0 (Bad w i j) (line_of line)
+  pub line_bad : {b : Bad} → x ≡ Err b → Passed line names last 0 0 (Err b) (line_of line)
   line_bad e = record { told = told_of b.from begun (then_bad (λ e rest. ended e (blanks rest)) p.told e); below = p.below }
 
-  module _ {e i : ℕ} (q : x ≡ At e) (d : Blanks line e i) where
+  module _ {e i : ℕ} (q : x ≡ Ok e) (d : Blanks line e i) where
     abbrev what : Event
     what = (p.told.stands e q).what
 
     read : line_of line ≡ ended what (drop i line)
     read = begun ∙ then_is (λ e rest. ended e (blanks rest)) (p.told.stands e q).is ∙ ap (ended what) (sym d.is)
 
-    pub line-more : i < length line → Passed line names last 0 0 (Bad NotJson i i) (line_of line)
+    pub line-more : i < length line → Passed line names last 0 0 (Err (wrong NotJson i)) (line_of line)
     unfolding ended
     line-more h = record { told = wrong-here d.within (read ∙ rw (byte_at line i h)); below = p.below }
 
-    pub line-ended : length line ≤ i → Passed line names last 0 0 (At i) (line_of line)
+    pub line-ended : length line ≤ i → Passed line names last 0 0 (Ok i) (line_of line)
     unfolding ended
     line-ended h = record { told = told_at (record { what = what; from = omega arith; within = d.within; is = read ∙ rw (drop_of_length-le line h) }); below = p.below }
 
@@ -92,8 +92,8 @@ unfolding line_length
 length_none text i h = rw (drop_of_length-le text h)
 
 module _ {text : List ℕ} {at i : ℕ} (g : Ending text at i) where
-  pub end_none : length text ≤ i → i ≡ at + line_length (drop at text)
-  end_none h = omega (arith, g.goes, length_none text i h)
+  pub end_none : length text ≤ i → length text ≡ at + line_length (drop at text)
+  end_none h = omega (arith, g.goes, g.within, length_none text i h)
 
   module _ (h : i < length text) where
     pub end-stop : get_or text i 0 ≡ 10 → i ≡ at + line_length (drop at text)
@@ -161,19 +161,14 @@ pub record Logging (text cells names : List ℕ) (at : ℕ) : Type 0 where
   pub good : (es : List Event) → lines at (cut (drop at text)) ≡ events es → LogIs text
   pub wrong : (w : Fault) (p q : ℕ) → lines at (cut (drop at text)) ≡ refused w p q → log text ≡ refused w p q
 
-log-good : {text names after : List ℕ} {e : ℕ} → LogIs text → length after ≡ length names → LogTold text names after (At e)
-log-good g l = record { good = λ k q. g; wrong = λ w p q k. absurd (let z : ◌≡◌ {A = ℕ} 0 1 = cc in omega arith); long = l }
+log-good : {text names after : List ℕ} {e : ℕ} → LogIs text → length after ≡ length names → LogTold text names after (Ok e)
+log-good g l = record { good = λ k q. g; wrong = λ b k. absurd (let z : ◌≡◌ {A = ℕ} 0 1 = cc in omega arith); long = l }
 
-log-wrong : {text names after : List ℕ} {w : Fault} {p q : ℕ} → log text ≡ refused w p q → length after ≡ length names → LogTold text names after (Bad w p q)
-log-wrong {w = w} {p = p} {q = q} g l =
+log-wrong : {text names after : List ℕ} {b : Bad} → log text ≡ refused b.fault b.at b.first → length after ≡ length names → LogTold text names after (Err b)
+log-wrong {text = text} {b = b} g l =
     record {
       good = λ k q. absurd (let z : ◌≡◌ {A = ℕ} 0 1 = cc in omega arith);
-      wrong =
-          λ v i j k.
-          let a : w ≡ v = cc in
-          let b : p ≡ i = cc in
-          let d : q ≡ j = cc in
-          rw d at (rw b at (rw a at g));
+      wrong = λ v k. let z : b ≡ v = cc in subst (λ (v : Bad). log text ≡ refused v.fault v.at v.first) z g;
       long = l;
     }
 
@@ -201,45 +196,45 @@ unfolding with_event
 with-wrong e l w p q k = rw k
 
 module _ {text cells names : List ℕ} {at : ℕ} (g : Logging text cells names at) where
-  pub log-done : length text ≤ at → LogTold text cells names (At at)
+  pub log-done : length text ≤ at → LogTold text cells names (Ok at)
   log-done h = log-good (g.good [] (no_lines at (drop at text) (drop_of_length-le text h))) g.long
 
   module _ {end : ℕ} (h : at < length text) (e : end ≡ at + line_length (drop at text)) where
     pub line-room : Room (line_from text at end) names 0 0 0
     line-room = omega (arith, g.room, line-long text at end h e, end-within text at end h e)
 
-    module _ {last : List ℕ} {x : Step} (p : Passed (line_from text at end) names last 0 0 x (line_of (line_from text at end))) where
+    module _ {last : List ℕ} {x : Result ℕ Bad} (p : Passed (line_from text at end) names last 0 0 x (line_of (line_from text at end))) where
       by-line : lines at (cut (drop at text)) ≡ line_by at (line_from text at end) (cut (drop (end + 1) text)) (line_of (line_from text at end))
       by-line = ap (lines at) (cut_line text at end h e) ∙ lines-is at (line_from text at end) (cut (drop (end + 1) text))
 
       pub log-long : length last ≡ length cells
       log-long = p.below.long ∙ g.long
 
-      module _ {w : Fault} {i j : ℕ} (q : x ≡ Bad w i j) where
-        pub place-within : at + i ≤ length text
-        place-within = omega (arith, (p.told.faulty w i j q).place, line-long text at end h e, end-within text at end h e)
+      module _ {b : Bad} (q : x ≡ Err b) where
+        pub place-within : at + b.at ≤ length text
+        place-within = omega (arith, (p.told.faulty b q).place, line-long text at end h e, end-within text at end h e)
 
-        pub first-within : at + j ≤ length text
-        first-within = omega (arith, (p.told.faulty w i j q).first, line-long text at end h e, end-within text at end h e)
+        pub first-within : at + b.first ≤ length text
+        first-within = omega (arith, (p.told.faulty b q).first, line-long text at end h e, end-within text at end h e)
 
-        bad_line : LogTold text cells last (Bad w (at + i) (at + j))
+        bad_line : LogTold text cells last (Err (record { fault = b.fault; at = at + b.at; first = at + b.first }))
         bad_line =
-            let f = p.told.faulty w i j q in
-            let a : at + length (line_from text at end) - (length (line_from text at end) - i) ≡ at + i = omega (arith, f.place) in
-            let b : at + length (line_from text at end) - (length (line_from text at end) - j) ≡ at + j = omega (arith, f.first) in
-            log-wrong (g.wrong w (at + i) (at + j) (by-line ∙ ap (line_by at (line_from text at end) (cut (drop (end + 1) text))) f.is ∙ rw (a, b))) log-long
+            let f = p.told.faulty b q in
+            let a : at + length (line_from text at end) - (length (line_from text at end) - b.at) ≡ at + b.at = omega (arith, f.place) in
+            let d : at + length (line_from text at end) - (length (line_from text at end) - b.first) ≡ at + b.first = omega (arith, f.first) in
+            log-wrong (g.wrong b.fault (at + b.at) (at + b.first) (by-line ∙ ap (line_by at (line_from text at end) (cut (drop (end + 1) text))) f.is ∙ rw (a, d))) log-long
 
-        pub log_bad : {r : Step} → r ≡ Bad w (at + i) (at + j) → LogTold text cells last r
+        pub log_bad : {r : Bad} → r ≡ record { fault = b.fault; at = at + b.at; first = at + b.first } → LogTold text cells last (Err r)
         log_bad n = rw n bad_line
 
-      module _ {k : ℕ} (q : x ≡ At k) where
+      module _ {k : ℕ} (q : x ≡ Ok k) where
         next-line : lines at (cut (drop at text)) ≡ with_event (p.told.stands k q).what (lines (end + 1) (cut (drop (end + 1) text)))
         next-line =
             let z : at + length (line_from text at end) + 1 ≡ end + 1 = omega (arith, line-long text at end h e) in
             by-line ∙ ap (line_by at (line_from text at end) (cut (drop (end + 1) text))) (p.told.stands k q).is
             ∙ ap (λ (n : ℕ). with_event (p.told.stands k q).what (lines n (cut (drop (end + 1) text)))) z
 
-        pub log-last : length text ≤ end → LogTold text cells last (At end)
+        pub log-last : length text ≤ end → LogTold text cells last (Ok end)
         log-last n =
             let l : length text ≤ end + 1 = omega arith in
             log-good

@@ -1,4 +1,5 @@
 -- Which field a name is, and its value
+use Rattle.std.specs.Prelude.{Option, Some, None, Result, Result}
 use mathlib.Core.Path.{◌≡◌, refl, sym, ap, ◌∙◌}
 use mathlib.Core.Bool.{Bool, true, false}
 use mathlib.Core.List.{List, [], ◌∷◌}
@@ -11,14 +12,12 @@ use Rattle.meaning.specs.Tests.{◌and◌, choose}
 use Rattle.laws.specs.Tests.{yes, no as otherwise}
 use Rattle.meaning.specs.Equal.{same_list}
 use Rattle.jsontext.specs.declared.Fault.TheVariants.{BadField}
-use Rattle.jsontext.specs.declared.Step.{Step}
+use Rattle.jsontext.specs.declared.Bad.{Bad}
 use Rattle.jsontext.specs.Reading.{Read, mapped}
 use Rattle.jsontext.specs.Numbers.{number}
 use Rattle.jsontext.specs.Values.{numeral, due, text, array, value, fields}
 use Rattle.jsontext.specs.Events.{Field, Time, Namespace, Action, Kind, Logged, Context, Principal, Resource, Entities, listed}
 use Rattle.jsonread.specs.declared.names.Cursor.{Cursor}
-use Rattle.jsonread.specs.declared.names.Out.{Out}
-use Rattle.jsonread.specs.declared.names.Out.TheVariants.{Byte, Ended}
 use Rattle.jsonread.specs.Told.{Told}
 use Rattle.jsonread.specs.Spelling.{NextTold, WordTold}
 use Rattle.jsonread.proofs.Places.{told_of}
@@ -68,12 +67,15 @@ only_none : (b : ℕ) (others : List ℕ) → (b ≡ 116 → ⊥) → (b ≡ 110
 unfolding field_of same_list ◌and◌ choose
 only_none b others n0 n1 n2 n3 n4 n5 n6 n7 n8 = rw (ne_eqb 116 b (λ e. n0 (sym e)), ne_eqb 110 b (λ e. n1 (sym e)), ne_eqb 97 b (λ e. n2 (sym e)), ne_eqb 107 b (λ e. n3 (sym e)), ne_eqb 108 b (λ e. n4 (sym e)), ne_eqb 99 b (λ e. n5 (sym e)), ne_eqb 112 b (λ e. n6 (sym e)), ne_eqb 114 b (λ e. n7 (sym e)), ne_eqb 101 b (λ e. n8 (sym e))) refl
 
-module _ (line : List ℕ) (at : ℕ) {x : Out} (t : NextTold line (begun at) x) where
-  pub field-empty : x ≡ Ended → FieldTold line at 9
+module _ (line : List ℕ) (at : ℕ) {x : Option (ℕ × Cursor)} {k : Cursor} (s : k ≡ begun at) (v : NextTold line k x) where
+  t : NextTold line (begun at) x
+  t = rw s at v
+
+  pub field-empty : x ≡ None → FieldTold line at 9
   unfolding field_of same_list choose
   field-empty e n rest q = sym (ap field_of (t.ended e n (spelt-string line at q)))
 
-  module _ {b : ℕ} {c : Cursor} (e : x ≡ Byte b c) where
+  module _ {b : ℕ} {c : Cursor} (e : x ≡ Some (b, c)) where
     by_first : {r : ℕ} (word : List ℕ) (k d : ℕ) → b ≡ d → Only d word k → IfTold line at word k r → FieldTold line at r
     by_first word k d f o u n rest q =
         let y = t.yields b c e n (spelt-string line at q) in
@@ -124,10 +126,10 @@ module _ (line : List ℕ) (at : ℕ) {x : Out} (t : NextTold line (begun at) x)
 -- ---- a field's value
 
 -- by its place, told with the cells as they are left
-placed : {A : Type 0} {line names last : List ℕ} {used at field k : ℕ} {r : Step} {m : Read A} (f : A → Field) → field ≡ k → reader_at k (drop at line) ≡ mapped f m → Passed line names last used at r m → Passed line names last used at r (reader_at field (drop at line))
+placed : {A : Type 0} {line names last : List ℕ} {used at field k : ℕ} {r : Result ℕ Bad} {m : Read A} (f : A → Field) → field ≡ k → reader_at k (drop at line) ≡ mapped f m → Passed line names last used at r m → Passed line names last used at r (reader_at field (drop at line))
 placed {line = line} {at = at} f e q p = record { told = told_of (omega arith) (ap (λ (k : ℕ). reader_at k (drop at line)) e ∙ q) (told_more f p.told); below = p.below }
 
-plainly : {A : Type 0} {line names : List ℕ} {used at : ℕ} {r : Step} {m : Read A} → Told line at r m → Passed line names names used at r m
+plainly : {A : Type 0} {line names : List ℕ} {used at : ℕ} {r : Result ℕ Bad} {m : Read A} → Told line at r m → Passed line names names used at r m
 plainly t = record { told = t; below = below_self }
 
 pub others-are : (k : ℕ) (s : List ℕ) → (k ≡ 0 → ⊥) → (k ≡ 1 → ⊥) → (k ≡ 2 → ⊥) → (k ≡ 3 → ⊥) → (k ≡ 4 → ⊥) → (k ≡ 5 → ⊥) → (k ≡ 6 → ⊥) → (k ≡ 7 → ⊥) → reader_at k s ≡ mapped Entities (listed (array entity_of) s)
@@ -142,7 +144,7 @@ others-are (suc (suc (suc (suc (suc (suc zero)))))) s n0 n1 n2 n3 n4 n5 n6 n7 = 
 others-are (suc (suc (suc (suc (suc (suc (suc zero))))))) s n0 n1 n2 n3 n4 n5 n6 n7 = absurd (n7 refl)
 others-are (suc (suc (suc (suc (suc (suc (suc (suc k)))))))) s n0 n1 n2 n3 n4 n5 n6 n7 = refl
 
-module _ (line names : List ℕ) (used at field : ℕ) {r : Step} where
+module _ (line names : List ℕ) (used at field : ℕ) {r : Result ℕ Bad} where
   pub at-time : field ≡ 0 → Told line at r (due BadField numeral number (drop at line)) → Passed line names names used at r (reader_at field (drop at line))
   unfolding reader_at
   at-time e t = placed Time e refl (plainly t)

@@ -1,4 +1,5 @@
 -- An event's members, one after another, and which fields are there
+use Rattle.std.specs.Prelude.{Result, Ok, Err, Result, Ok, Err}
 use mathlib.Core.Path.{◌≡◌, refl, sym, ap, ◌∙◌}
 use mathlib.Core.Bool.{Bool, true, false, not}
 use mathlib.Core.List.{List, [], ◌∷◌, ◌++◌}
@@ -12,20 +13,17 @@ use Rattle.meaning.specs.Tests.{◌and◌, choose}
 use Rattle.laws.specs.Tests.{yes, no as otherwise}
 use Rattle.jsontext.specs.declared.Fault.{Fault}
 use Rattle.jsontext.specs.declared.Fault.TheVariants.{NotJson, BadField}
-use Rattle.jsontext.specs.declared.Step.{Step}
-use Rattle.jsontext.specs.declared.Step.TheVariants.{At, Bad}
-use Rattle.jsontext.specs.Reading.{Read, then, blanks}
+use Rattle.jsontext.specs.declared.Bad.{Bad}
+use Rattle.jsontext.specs.Reading.{Read, then, blanks, wrong, wrong}
 use Rattle.jsontext.specs.Values.{J, Parts, object}
 use Rattle.jsontext.specs.Events.{Item, Event, Field, Time, Namespace, Action, Kind, Logged, Context, Principal, Resource, Entities, field_readers, is_field, field_by, Found, with, found, have, whole, complete}
 use Rattle.jsonread.specs.Told.{Told}
 use Rattle.jsonread.proofs.Places.{told_at, told_bad}
 use Rattle.jsonkeys.specs.declared.Turn.{Turn}
-use Rattle.jsonkeys.specs.declared.Turn.TheVariants.{On, Over, Wrong}
+use Rattle.jsonkeys.specs.declared.Turn.TheVariants.{On, Over}
 use Rattle.jsonkeys.specs.Keys.{opened, after, TurnTold, Room, Passed}
-use Rattle.jsonkeys.proofs.Cells.{below_self}
+use Rattle.jsonkeys.proofs.Cells.{below_self, turn-is}
 use Rattle.jsonkeys.proofs.Gathered.{Gathering, gather_cut, gather_empty, gather_start, gather_bad, gather_wrong, gather_over, gather_less, gather_on}
-use Rattle.jsonlines.specs.declared.events.Entry.{Entry}
-use Rattle.jsonlines.specs.declared.events.Entry.TheVariants.{Wrong as Fails, Read as Reads}
 use Rattle.jsonlines.specs.Events.{number_of, EntryIs, EntryTold, is_there, bits, whole_bits, closed_by, event_of}
 
 -- ---- which fields are there
@@ -74,58 +72,18 @@ there-whole f =
     go (some a) (some b) (some c) (some d) (some e) (some f) g h none = refl
     go (some a) (some b) (some c) (some d) (some e) (some f) g h (some i) = refl
 
--- ---- the test
-
-module _ (l : List Bool) where
-  abbrev there : ℕ → Bool
-  there k = get_or l k false
-
-  pub lacks_0 : not (there 0) ≡ true → false ≡ whole_bits l
-  unfolding whole_bits ◌and◌
-  lacks_0 e = rw (not-true (there 0) e)
-
-  module _ (a : not (there 0) ≡ false) where
-    pub lacks_1 : not (there 1) ≡ true → false ≡ whole_bits l
-    unfolding whole_bits ◌and◌
-    lacks_1 e = rw (not-false (there 0) a, not-true (there 1) e)
-
-    module _ (b : not (there 1) ≡ false) where
-      pub lacks_2 : not (there 2) ≡ true → false ≡ whole_bits l
-      unfolding whole_bits ◌and◌
-      lacks_2 e = rw (not-false (there 0) a, not-false (there 1) b, not-true (there 2) e)
-
-      module _ (c : not (there 2) ≡ false) where
-        pub lacks_3 : not (there 3) ≡ true → false ≡ whole_bits l
-        unfolding whole_bits ◌and◌
-        lacks_3 e = rw (not-false (there 0) a, not-false (there 1) b, not-false (there 2) c, not-true (there 3) e)
-
-        module _ (d : not (there 3) ≡ false) where
-          pub lacks_4 : not (there 4) ≡ true → false ≡ whole_bits l
-          unfolding whole_bits ◌and◌
-          lacks_4 e = rw (not-false (there 0) a, not-false (there 1) b, not-false (there 2) c, not-false (there 3) d, not-true (there 4) e)
-
-          module _ (f : not (there 4) ≡ false) where
-            pub lacks_5 : not (there 5) ≡ true → false ≡ whole_bits l
-            unfolding whole_bits ◌and◌
-            lacks_5 e = rw (not-false (there 0) a, not-false (there 1) b, not-false (there 2) c, not-false (there 3) d, not-false (there 4) f, not-true (there 5) e)
-
-            module _ (g : not (there 5) ≡ false) where
-              pub all_but_8 : there 8 ≡ whole_bits l
-              unfolding whole_bits ◌and◌
-              all_but_8 = rw (not-false (there 0) a, not-false (there 1) b, not-false (there 2) c, not-false (there 3) d, not-false (there 4) f, not-false (there 5) g)
-
 -- ---- after the closing brace
 
-pub closed-whole : (at : ℕ) (l : List Bool) {x : Bool} → x ≡ whole_bits l → x ≡ true → At at ≡ closed_by at l
+pub closed-whole : (at : ℕ) (l : List Bool) {x : Bool} → x ≡ whole_bits l → x ≡ true → Ok at ≡ closed_by at l
 unfolding closed_by
 closed-whole at l q e = sym (yes _ (sym q ∙ e))
 
-pub closed-not : (at : ℕ) (l : List Bool) {x : Bool} → x ≡ whole_bits l → x ≡ false → Bad BadField (at - 1) (at - 1) ≡ closed_by at l
+pub closed-not : (at : ℕ) (l : List Bool) {x : Bool} → x ≡ whole_bits l → x ≡ false → Err (wrong BadField (at - 1)) ≡ closed_by at l
 unfolding closed_by
 closed-not at l q e = sym (otherwise _ (sym q ∙ e) refl)
 
 module _ {line : List ℕ} {at : ℕ} (z : 0 < at) (h : at ≤ length line) where
-  missing : Told line at (Bad BadField (at - 1) (at - 1)) (complete none (drop at line))
+  missing : Told line at (Err (wrong BadField (at - 1))) (complete none (drop at line))
   unfolding complete
   missing = told_bad (record { place = omega arith; first = omega arith; is = rw (let e : suc (length (drop at line)) ≡ length line - (at - 1) = omega (arith, length-drop at line) in e) })
 
@@ -136,7 +94,7 @@ module _ {line : List ℕ} {at : ℕ} (z : 0 < at) (h : at ≤ length line) wher
 
 -- ---- a member that was read
 
-module _ {line names last : List ℕ} {end at f e : ℕ} {x : Entry} (q : x ≡ Reads f e) (k : EntryTold line names last end at x) where
+module _ {line names last : List ℕ} {end at f e : ℕ} {x : Result (ℕ × ℕ) Bad} (q : x ≡ Ok (f, e)) (k : EntryTold line names last end at x) where
   pub field_below : f < 9
   field_below = (k.read f e q).below
 
@@ -159,37 +117,37 @@ pub record Reading (line cells names : List ℕ) (at end i : ℕ) (seen : List B
   pub members : Gathering known item all line cells names 0 at end i done
   pub there : seen ≡ bits (found done)
 
-of_event : {line : List ℕ} {at : ℕ} {r : Step} → Told line at r (then (object known item (drop at line)) all) → Told line at r (event_of (drop at line))
+of_event : {line : List ℕ} {at : ℕ} {r : Result ℕ Bad} → Told line at r (then (object known item (drop at line)) all) → Told line at r (event_of (drop at line))
 unfolding event_of
 of_event t = t
 
-passed-event : {line names last : List ℕ} {at : ℕ} {r : Step} → Passed line names last 0 at r (then (object known item (drop at line)) all) → Passed line names last 0 at r (event_of (drop at line))
+passed-event : {line names last : List ℕ} {at : ℕ} {r : Result ℕ Bad} → Passed line names last 0 at r (then (object known item (drop at line)) all) → Passed line names last 0 at r (event_of (drop at line))
 passed-event p = record { told = of_event p.told; below = p.below }
 
-module _ {line : List ℕ} {at : ℕ} {x : Turn} (names : List ℕ) (t : TurnTold line at (opened 125 (blanks (drop at line))) x) where
-  pub event-cut : {p : ℕ} → x ≡ Wrong p → Passed line names names 0 at (Bad NotJson p p) (event_of (drop at line))
+module _ {line : List ℕ} {at : ℕ} {x : Result Turn Bad} (names : List ℕ) (t : TurnTold line at (opened 125 (blanks (drop at line))) x) where
+  pub event-cut : {b : Bad} → x ≡ Err b → Passed line names names 0 at (Err b) (event_of (drop at line))
   event-cut e = record { told = of_event (gather_cut known item all t e); below = below_self }
 
-  pub over-above : {e : ℕ} → 0 < at → x ≡ Over e → 0 < e
-  over-above {e} z q = omega (arith, z, (t.over e q).from)
+  pub over-above : {s : Turn} {e : ℕ} → 0 < at → x ≡ Ok s → s ≡ Over e → 0 < e
+  over-above {e = e} z p q = omega (arith, z, (t.over e (turn-is p q)).from)
 
-  pub event-empty : {e : ℕ} → 0 < at → x ≡ Over e → Passed line names names 0 at (Bad BadField (e - 1) (e - 1)) (event_of (drop at line))
+  pub event-empty : {s : Turn} {e : ℕ} → 0 < at → x ≡ Ok s → s ≡ Over e → Passed line names names 0 at (Err (wrong BadField (e - 1))) (event_of (drop at line))
   unfolding found whole have
-  event-empty {e} z q = record { told = of_event (gather_empty known item all t q (missing (over-above z q) (t.over e q).within)); below = below_self }
+  event-empty {e = e} z p q = record { told = of_event (gather_empty known item all t p q (missing (over-above z p q) (t.over e (turn-is p q)).within)); below = below_self }
 
-  pub event-start : {i : ℕ} → Room line names 0 at 0 → x ≡ On i → Reading line names names at 0 i (false ∷ false ∷ false ∷ false ∷ false ∷ false ∷ false ∷ false ∷ false ∷ [])
+  pub event-start : {s : Turn} {i : ℕ} → Room line names 0 at 0 → x ≡ Ok s → s ≡ On i → Reading line names names at 0 i (false ∷ false ∷ false ∷ false ∷ false ∷ false ∷ false ∷ false ∷ false ∷ [])
   unfolding bits found is_there
-  event-start h q = record { done = []; members = gather_start known item all t h q; there = refl }
+  event-start h p q = record { done = []; members = gather_start known item all t h p q; there = refl }
 
 module _ {line cells names : List ℕ} {at end i : ℕ} {seen : List Bool} (g : Reading line cells names at end i seen) where
-  module _ {last : List ℕ} {x : Entry} (k : EntryTold line names last end i x) where
-    pub event_bad : {w : Fault} {p q : ℕ} → x ≡ Fails w p q → Passed line cells last 0 at (Bad w p q) (event_of (drop at line))
-    event_bad e = passed-event (gather_bad known item all g.members (k.wrong _ _ _ e))
+  module _ {last : List ℕ} {x : Result (ℕ × ℕ) Bad} (k : EntryTold line names last end i x) where
+    pub event_bad : {b : Bad} → x ≡ Err b → Passed line cells last 0 at (Err b) (event_of (drop at line))
+    event_bad e = passed-event (gather_bad known item all g.members (k.wrong _ e))
 
-    pub bad_long : {w : Fault} {p q : ℕ} → x ≡ Fails w p q → length last ≡ length cells
-    bad_long e = (k.wrong _ _ _ e).below.long ∙ g.members.below.long
+    pub bad_long : {b : Bad} → x ≡ Err b → length last ≡ length cells
+    bad_long e = (k.wrong _ e).below.long ∙ g.members.below.long
 
-    module _ {f e : ℕ} (q : x ≡ Reads f e) where
+    module _ {f e : ℕ} (q : x ≡ Ok (f, e)) where
       abbrev its : EntryIs line names last end i f e
       its = k.read f e q
 
@@ -202,21 +160,21 @@ module _ {line cells names : List ℕ} {at end i : ℕ} {seen : List Bool} (g : 
       seen_more : set seen f true ≡ bits (found (g.done ++ ((its.member.name, its.member.what) ∷ [])))
       seen_more = ap (λ (l : List Bool). set l f true) g.there ∙ ap (λ (n : ℕ). set (bits (found g.done)) n true) (sym its.number) ∙ sym (bits-more g.done (its.member.name, its.member.what))
 
-      module _ {z : Turn} (t : TurnTold line (e + 1) (after 125 (blanks (drop e line))) z) where
-        pub event-wrong : {p : ℕ} → z ≡ Wrong p → Passed line cells last 0 at (Bad NotJson p p) (event_of (drop at line))
+      module _ {z : Result Turn Bad} (t : TurnTold line (e + 1) (after 125 (blanks (drop e line))) z) where
+        pub event-wrong : {b : Bad} → z ≡ Err b → Passed line cells last 0 at (Err b) (event_of (drop at line))
         event-wrong d = passed-event (gather_wrong known item all g.members its.member t d)
 
-        pub close-above : {o : ℕ} → z ≡ Over o → 0 < o
-        close-above {o} d = omega (arith, (t.over o d).from)
+        pub close-above : {s : Turn} {o : ℕ} → z ≡ Ok s → s ≡ Over o → 0 < o
+        close-above {o = o} p d = omega (arith, (t.over o (turn-is p d)).from)
 
-        pub event-over : {o : ℕ} {r : Step} → z ≡ Over o → r ≡ closed_by o (set seen f true) → Passed line cells last 0 at r (event_of (drop at line))
-        event-over {o} d c =
+        pub event-over : {s : Turn} {o : ℕ} {r : Result ℕ Bad} → z ≡ Ok s → s ≡ Over o → r ≡ closed_by o (set seen f true) → Passed line cells last 0 at r (event_of (drop at line))
+        event-over {o = o} p d c =
             passed-event
-            (gather_over known item all g.members its.member t d
-            (rw c (rw seen_more (completed (close-above d) (t.over o d).within (whole (found (g.done ++ ((its.member.name, its.member.what) ∷ [])))) (bits (found (g.done ++ ((its.member.name, its.member.what) ∷ [])))) (there-whole (found (g.done ++ ((its.member.name, its.member.what) ∷ []))))))))
+            (gather_over known item all g.members its.member t p d
+            (rw c (rw seen_more (completed (close-above p d) (t.over o (turn-is p d)).within (whole (found (g.done ++ ((its.member.name, its.member.what) ∷ [])))) (bits (found (g.done ++ ((its.member.name, its.member.what) ∷ [])))) (there-whole (found (g.done ++ ((its.member.name, its.member.what) ∷ []))))))))
 
-        pub event-less : {j : ℕ} → z ≡ On j → length line - j < length line - i
-        event-less d = gather_less known item all g.members its.member t d
+        pub event-less : {s : Turn} {j : ℕ} → z ≡ Ok s → s ≡ On j → length line - j < length line - i
+        event-less p d = gather_less known item all g.members its.member t p d
 
-        pub event-on : {j : ℕ} → z ≡ On j → Reading line cells last at (end + 1) j (set seen f true)
-        event-on d = record { done = g.done ++ ((its.member.name, its.member.what) ∷ []); members = gather_on known item all g.members its.member t d; there = seen_more }
+        pub event-on : {s : Turn} {j : ℕ} → z ≡ Ok s → s ≡ On j → Reading line cells last at (end + 1) j (set seen f true)
+        event-on p d = record { done = g.done ++ ((its.member.name, its.member.what) ∷ []); members = gather_on known item all g.members its.member t p d; there = seen_more }

@@ -1,18 +1,14 @@
 -- What is told of an event's members, of a line and of a text
-use Rattle.std.specs.Prelude.{◌≡◌, Bool, true, false, List, [], ◌∷◌, ℕ, suc, ◌-◌, ◌<◌, eqb, ltb, length, get_or}
+use Rattle.std.specs.Prelude.{◌≡◌, Bool, true, false, List, [], ◌∷◌, ℕ, suc, ◌-◌, ◌<◌, eqb, ltb, length, get_or, Result, Ok, Err}
 use Rattle.std.proofs.Math.Option.{Option, none, some}
 use Rattle.meaning.specs.Tests.{◌and◌, choose}
-use Rattle.jsontext.specs.declared.Fault.{Fault}
 use Rattle.jsontext.specs.declared.Fault.TheVariants.{BadField}
-use Rattle.jsontext.specs.declared.Step.{Step}
-use Rattle.jsontext.specs.declared.Step.TheVariants.{At, Bad}
-use Rattle.jsontext.specs.Reading.{Read, then}
+use Rattle.jsontext.specs.declared.Bad.{Bad}
+use Rattle.jsontext.specs.Reading.{Read, then, wrong}
 use Rattle.jsontext.specs.Values.{object}
 use Rattle.jsontext.specs.Events.{Event, Field, Time, Namespace, Action, Kind, Logged, Context, Principal, Resource, Entities, field_readers, is_field, field_by, Found, found, whole, complete, events, refused, log}
 use Rattle.jsonkeys.specs.Keys.{KeyTold, MemberIs, MemberWrong}
 use Rattle.jsonlines.specs.Fields.{FieldTold}
-use Rattle.jsonlines.specs.declared.events.Entry.{Entry}
-use Rattle.jsonlines.specs.declared.events.Entry.TheVariants.{Wrong, Read as Reads}
 
 -- ---- a member
 
@@ -30,11 +26,11 @@ number_of (Entities es) = 8
 -- its name, and where its value begins
 pub record NameIs (line names next : List ℕ) (end at k v : ℕ) : Type 0 where
   pub field : FieldTold line at k
-  pub key : KeyTold line names next 0 end at (ltb k 9) (At v)
+  pub key : KeyTold line names next 0 end at (ltb k 9) (Ok v)
 
-pub record NameTold (line names next : List ℕ) (end at : ℕ) (r : Entry) : Type 0 where
-  pub read : (k v : ℕ) → r ≡ Reads k v → NameIs line names next end at k v
-  pub wrong : (w : Fault) (p q : ℕ) → r ≡ Wrong w p q → MemberWrong (is_field field_readers) (field_by field_readers) line names next 0 end at w p q
+pub record NameTold (line names next : List ℕ) (end at : ℕ) (r : Result (ℕ × ℕ) Bad) : Type 0 where
+  pub read : (k v : ℕ) → r ≡ Ok (k, v) → NameIs line names next end at k v
+  pub wrong : (b : Bad) → r ≡ Err b → MemberWrong (is_field field_readers) (field_by field_readers) line names next 0 end at b
 
 -- its value read
 pub record EntryIs (line names last : List ℕ) (end at k e : ℕ) : Type 0 where
@@ -42,9 +38,9 @@ pub record EntryIs (line names last : List ℕ) (end at k e : ℕ) : Type 0 wher
   pub below : k < 9
   pub number : number_of member.what ≡ k
 
-pub record EntryTold (line names last : List ℕ) (end at : ℕ) (r : Entry) : Type 0 where
-  pub read : (k e : ℕ) → r ≡ Reads k e → EntryIs line names last end at k e
-  pub wrong : (w : Fault) (p q : ℕ) → r ≡ Wrong w p q → MemberWrong (is_field field_readers) (field_by field_readers) line names last 0 end at w p q
+pub record EntryTold (line names last : List ℕ) (end at : ℕ) (r : Result (ℕ × ℕ) Bad) : Type 0 where
+  pub read : (k e : ℕ) → r ≡ Ok (k, e) → EntryIs line names last end at k e
+  pub wrong : (b : Bad) → r ≡ Err b → MemberWrong (is_field field_readers) (field_by field_readers) line names last 0 end at b
 
 -- ---- which fields are there
 
@@ -63,8 +59,8 @@ bits f =
 unfoldable pub whole_bits : List Bool → Bool
 whole_bits l = get_or l 0 false and (get_or l 1 false and (get_or l 2 false and (get_or l 3 false and (get_or l 4 false and (get_or l 5 false and get_or l 8 false)))))
 
-unfoldable pub closed_by : ℕ → List Bool → Step
-closed_by at l = choose (whole_bits l) (At at) (Bad BadField (at - 1) (at - 1))
+unfoldable pub closed_by : ℕ → List Bool → Result ℕ Bad
+closed_by at l = choose (whole_bits l) (Ok at) (Err (wrong BadField (at - 1)))
 
 -- an event, after its brace
 unfoldable pub event_of : List ℕ → Read Event
@@ -81,7 +77,7 @@ pub record LogIs (text : List ℕ) : Type 0 where
   pub what : List Event
   pub is : log text ≡ events what
 
-pub record LogTold (text names after : List ℕ) (r : Step) : Type 0 where
-  pub good : (e : ℕ) → r ≡ At e → LogIs text
-  pub wrong : (w : Fault) (p q : ℕ) → r ≡ Bad w p q → log text ≡ refused w p q
+pub record LogTold (text names after : List ℕ) (r : Result ℕ Bad) : Type 0 where
+  pub good : (e : ℕ) → r ≡ Ok e → LogIs text
+  pub wrong : (b : Bad) → r ≡ Err b → log text ≡ refused b.fault b.at b.first
   pub long : length after ≡ length names

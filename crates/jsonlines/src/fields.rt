@@ -6,8 +6,8 @@ ghost use Rattle.jsonlines.specs.Fields.{IfTold, FieldTold, reader_at};
 use super::entities::list_at;
 use jsonparts::texts::namespace_at;
 use jsonread::begins::{text_at, time_at};
-use jsonread::names::{Cursor, Out, is_word, next_byte};
-use jsontext::Step;
+use jsonread::names::{Cursor, is_word, next_byte};
+use jsontext::Bad;
 use jsonvalues::{fields_at, value_at};
 
 // field k, if the name is this word; else 9
@@ -15,41 +15,39 @@ fn if_word(line: &[u8], at: usize, word: &[u8], k: usize) -> usize
     requires { at ≤ length line.now }
     ensures { IfTold line.now at word.now k result }
 {
-    if is_word(line, at, word) {
-        return k;
-    }
-    9
+    if is_word(line, at, word) { k } else { 9 }
 }
 
-// which field a name is, by its place in a point's record; 9 for none. Their first bytes differ
+// which field a name is, by its place in a point's record; 9 for none (a number, as the definition's readers and the bits of an event go by it). Their first bytes differ
 pub fn field_of(line: &[u8], at: usize) -> usize
     requires { at ≤ length line.now }
     ensures { FieldTold line.now at result }
 {
-    let begin = Cursor {
-        at: at + 1,
-        character: 0,
-        left: 0,
+    let Some((b, _)) = next_byte(line, Cursor::at(at + 1)) else {
+        return 9;
     };
-    match next_byte(line, begin) {
-        Out::Ended => 9,
-        Out::Byte(b, _) => match b {
-            116 => if_word(line, at, b"time", 0),
-            110 => if_word(line, at, b"namespace", 1),
-            97 => if_word(line, at, b"action", 2),
-            107 => if_word(line, at, b"kind", 3),
-            108 => if_word(line, at, b"logged", 4),
-            99 => if_word(line, at, b"context", 5),
-            112 => if_word(line, at, b"principal", 6),
-            114 => if_word(line, at, b"resource", 7),
-            101 => if_word(line, at, b"entities", 8),
-            _ => 9,
-        },
+    match b {
+        b't' => if_word(line, at, b"time", 0),
+        b'n' => if_word(line, at, b"namespace", 1),
+        b'a' => if_word(line, at, b"action", 2),
+        b'k' => if_word(line, at, b"kind", 3),
+        b'l' => if_word(line, at, b"logged", 4),
+        b'c' => if_word(line, at, b"context", 5),
+        b'p' => if_word(line, at, b"principal", 6),
+        b'r' => if_word(line, at, b"resource", 7),
+        b'e' => if_word(line, at, b"entities", 8),
+        _ => 9,
     }
 }
 
 // a field's value
-pub fn field_at(line: &[u8], at: usize, field: usize, names: &mut [u64], used: usize) -> Step
+pub fn field_at(
+    line: &[u8],
+    at: usize,
+    field: usize,
+    names: &mut [u64],
+    used: usize,
+) -> Result<usize, Bad>
     requires at_in_bounds { at ≤ length line.now }
     requires room { Room line.now names.old used at 1 }
     ensures { Passed line.now names.old names.new used at result (reader_at field (drop at line.now)) }

@@ -6,4 +6,4 @@ pub returns-then-is_whole : goal.returns-then-is_whole
 returns-then-is_whole c = search (closed-whole, rules)
 
 pub returns : goal.returns
-returns c = search (closed-not, rules)
+returns c = rw c.new.ensures (search (closed-not, rules))

@@ -3,8 +3,8 @@ use lib.ListN.{length}
 use Rattle.jsonlines.proofs.Whole.{Reading}
 use Rattle.jsonlines.proofs.events.event_at.Given as goal
 
-abbrev pub invariant-loop-w : goal.invariant-loop-w
-invariant-loop-w l = Reading l.line l.initial.names l.names l.at l.end l.i l.seen
+abbrev pub invariant-loop-field : goal.invariant-loop-field
+invariant-loop-field l = Reading l.line l.initial.names l.names l.at l.end l.i l.seen
 
-abbrev pub decreases-loop-w : goal.decreases-loop-w
-decreases-loop-w l = length l.line - l.i
+abbrev pub decreases-loop-field : goal.decreases-loop-field
+decreases-loop-field l = length l.line - l.i

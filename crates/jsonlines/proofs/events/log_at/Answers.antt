@@ -17,11 +17,11 @@ line_at-requires c = search (line-room, rules)
 pub placed-requires : goal.placed-requires
 placed-requires c = record { p_in_bounds = search (place-within, rules); q_in_bounds = search (first-within, rules) }
 
-pub shape_of-names-in-Bad : goal.shape_of-names-in-Bad
-shape_of-names-in-Bad c = search (log-long, rules)
+pub shape_of-names-in-Err : goal.shape_of-names-in-Err
+shape_of-names-in-Err c = search (log-long, rules)
 
-pub returns-in-Bad : goal.returns-in-Bad
-returns-in-Bad c = search (log_bad, rules)
+pub returns-in-Err : goal.returns-in-Err
+returns-in-Err c = search (log_bad, rules)
 
 pub shape_of-names-then-text-end : goal.shape_of-names-then-text-end
 shape_of-names-then-text-end c = search (log-long, rules)

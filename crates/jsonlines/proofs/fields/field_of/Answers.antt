@@ -2,8 +2,8 @@ use Rattle.std.proofs.Common.{rules}
 use Rattle.jsonlines.proofs.Naming.{field-empty, field-time, field-namespace, field-action, field-kind, field-logged, field-context, field-principal, field-resource, field-entities, field-none}
 use Rattle.jsonlines.proofs.fields.field_of.Goals as goal
 
-pub returns-in-Ended : goal.returns-in-Ended
-returns-in-Ended c = search (field-empty, rules)
+pub returns-in_default : goal.returns-in_default
+returns-in_default c = search (field-empty, rules)
 
 pub returns-in-116 : goal.returns-in-116
 returns-in-116 c = search (field-time, rules)
@@ -32,5 +32,5 @@ returns-in-114 c = search (field-resource, rules)
 pub returns-in-101 : goal.returns-in-101
 returns-in-101 c = search (field-entities, rules)
 
-pub returns-in_default : goal.returns-in_default
-returns-in_default c = search (field-none, rules)
+pub returns-in_default-b : goal.returns-in_default-b
+returns-in_default-b c = search (field-none, rules)

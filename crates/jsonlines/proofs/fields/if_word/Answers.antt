@@ -5,5 +5,5 @@ use Rattle.jsonlines.proofs.fields.if_word.Goals as goal
 pub returns-then-is_word : goal.returns-then-is_word
 returns-then-is_word c = search (if_this, rules)
 
-pub returns : goal.returns
-returns c = search (if_other, rules)
+pub returns-else-is_word : goal.returns-else-is_word
+returns-else-is_word c = search (if_other, rules)

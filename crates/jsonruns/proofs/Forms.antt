@@ -13,10 +13,9 @@ use Rattle.jsontext.specs.Values.{J, due, only, entity, extension}
 use Rattle.jsonread.specs.Told.{Blanks}
 use Rattle.jsonread.proofs.Places.{byte_at}
 use Rattle.jsonruns.specs.declared.Two.{Two}
-use Rattle.jsonruns.specs.Good.{Good, Ends, Signed, Past}
+use Rattle.jsonruns.specs.Good.{Good, Ends, Signed, Past, Behind}
 use Rattle.jsonruns.specs.Forms.{form_read, first_name, second_name, one_of, under, form_of, pair_read, TwoTold}
 use Rattle.jsonruns.proofs.Runs.{then_of, due_of, wanted}
-use Rattle.jsonruns.proofs.Signs.{sign_below, sign-left}
 
 -- its name, its colon, the inner brace, the two members, the outer brace
 record Formed (x : Bool) (s : List ℕ) (j : J) (rest : List ℕ) : Type 0 where
@@ -87,21 +86,21 @@ module _ (x : Bool) {line : List ℕ} {at i : ℕ} (g : Good line at (form_read 
       pub form-pair : Good line (w + 1) (pair_read x (drop (w + 1) line))
       form-pair = record { what = g.what; rest = it.left; within = form-brace; is = ap (pair_read x) (at_pair it) ∙ it.two }
 
-      module _ {t : Two} {k : ℕ} (o : TwoTold line (w + 1) x t (pair_read x (drop (w + 1) line))) (d : Blanks line t.end k) where
+      module _ {t : Two} (o : TwoTold line (w + 1) x t (pair_read x (drop (w + 1) line))) where
         pairs : {j : J} {rest : List ℕ} (f : Formed x (drop at line) j rest) → pair_read x (drop (w + 1) line) ≡ got j f.left
         pairs f = ap (pair_read x) (at_pair f) ∙ f.two
 
         close-here : {j : J} {rest : List ℕ} (f : Formed x (drop at line) j rest) → blanks (drop t.end line) ≡ 125 ∷ rest
         close-here {j} f = ap blanks (sym (o.is j f.left (pairs f))) ∙ f.close
 
-        pub form-past : k + 1 ≤ length line
-        form-past = omega (arith, sign_below d (close-here it))
+        pub form-past : Signed line t.end
+        form-past = record { within = o.within; sign = 125; rest = g.rest; is = close-here it }
 
-        pub form-told : TwoTold line at x (record { first = t.first; second = t.second; end = k + 1 }) (form_read x (drop at line))
-        form-told = record {
+        pub form-told : {k : ℕ} → Behind line t.end k → TwoTold line at x (record { first = t.first; second = t.second; end = k }) (form_read x (drop at line))
+        form-told {k} d = record {
           from = omega (arith, b.from, p.from, v.from, o.from, d.from);
-          within = form-past;
-          is = λ j rest e. sign-left d (close-here (formed x (drop at line) e));
+          within = d.within;
+          is = λ j rest e. d.is 125 rest (close-here (formed x (drop at line) e));
           two =
               λ j rest e.
               let y = o.two j _ (pairs (formed x (drop at line) e)) in

@@ -8,6 +8,7 @@ use native.Mathlib.Omega.{arith}
 use lib.Dec.{eqb}
 use lib.ListN.{length, drop, get_or}
 use borrow.Author.Tests.{eqb-true, eqb-false, eq-eqb, ne_eqb}
+use Rattle.std.proofs.Common.{IsSome, Option as Place, Some, None, unwrap_or}
 use Rattle.meaning.specs.Tests.{◌and◌, ◌or◌, choose}
 use Rattle.laws.specs.Tests.{yes, no as otherwise}
 use Rattle.meaning.specs.Equal.{same_list}
@@ -21,7 +22,7 @@ use Rattle.jsonspelt.specs.Spelt.{SpeltTold}
 use Rattle.jsonread.specs.Told.{Blanks}
 use Rattle.jsonread.specs.Spelling.{WordTold}
 use Rattle.jsonread.proofs.Spelling.{never}
-use Rattle.jsonruns.specs.Good.{Good, Ends, Signed, Past}
+use Rattle.jsonruns.specs.Good.{Good, Ends, Signed, Past, Behind, PartTold}
 use Rattle.jsonruns.specs.Run.{Run, Member}
 use Rattle.jsonruns.specs.Forms.{first_name, second_name, one_of, under, form_of, pair_read, Says, TwoTold, FirstTold, kept_place, Kept}
 use Rattle.jsonruns.proofs.Runs.{same-got, same_rest, then_of, text-string, object-listed, Turn, turn}
@@ -40,18 +41,21 @@ pub first-type : (line : List ℕ) (at : ℕ) {x r : Bool} → x ≡ false → W
 unfolding first_name
 first-type line at e t = record { is = λ n rest q. t n rest q ∙ rw e }
 
-module _ (old new : ℕ) {b : Bool} where
-  pub kept_new : b ≡ true → old ≡ 0 → new ≡ kept_place old new b
-  unfolding kept_place ◌and◌
-  kept_new e z = rw e (sym (yes _ (eq-eqb old 0 z)))
-
-  pub kept-old : b ≡ true → (old ≡ 0 → ⊥) → old ≡ kept_place old new b
-  unfolding kept_place ◌and◌
-  kept-old e z = rw e (sym (otherwise _ (ne_eqb old 0 z) refl))
+module _ (old : Place ℕ) (new : ℕ) {b : Bool} where
+  pub kept_new : {o : ℕ} → b ≡ true → o ≡ unwrap_or old new → Some o ≡ kept_place old new b
+  unfolding kept_place choose
+  kept_new {o} e q = elim old as (λ (x : Place ℕ). o ≡ unwrap_or x new → Some o ≡ kept_place x new b) [ None ↦ (λ f. rw e (ap Some f)) | Some p ↦ (λ f. ap Some f) ] q
 
   pub kept-other : b ≡ false → old ≡ kept_place old new b
-  unfolding kept_place ◌and◌ choose
-  kept-other e = rw e
+  unfolding kept_place choose
+  kept-other e = elim old as (λ (x : Place ℕ). x ≡ kept_place x new b) [ None ↦ (rw e refl) | Some p ↦ refl ]
+
+never_none : {A : Type 0} {a : A} → Some a ≡ None → ⊥
+never_none e = let x : ◌≡◌ {A = ℕ} 0 1 = cc in omega arith
+
+is_there : (o : Place ℕ) → (o ≡ None → ⊥) → IsSome o
+is_there None n = absurd (n refl)
+is_there (Some a) n = refl
 
 -- what stands under a name is a string
 under-string : (x : Bool) (n s : List ℕ) {t rest : List ℕ} → under x n s ≡ got t rest → string s ≡ got t rest
@@ -67,26 +71,15 @@ under-string true n s {t} {rest} e =
 
 -- ---- a name's place
 
-module _ {line : List ℕ} {n : List ℕ} {all others : List (List ℕ × List ℕ)} {m : List ℕ × List ℕ} {w : ℕ} (says : Says line w m.1) (far : 0 < w) where
-  keep : (p : ℕ) (b : Bool) → b ≡ same_list m.0 n → Kept line p n all (m ∷ others) → Kept line (kept_place p w b) n all others
-  unfolding member_of choose
-  keep p true e k =
-      go (eqb p 0) refl
-    where
-      go : (z : Bool) → eqb p 0 ≡ z → Kept line (kept_place p w true) n all others
-      go true z =
-          let q : kept_place p w true ≡ w = unfold kept_place ◌and◌ in rw z in
-          rw q (record {
-            missing = λ h. absurd (omega arith);
-            found = λ h t f. let g : some m.1 ≡ some t = sym (yes _ (sym e)) ∙ sym (k.missing (eqb-true p 0 z)) ∙ f in let y : m.1 ≡ t = cc in subst (λ (u : List ℕ). Says line w u) y says;
-          })
-      go false z =
-          let q : kept_place p w true ≡ p = unfold kept_place ◌and◌ in rw z in
-          let far-off : p ≡ 0 → ⊥ = λ h. absurd (let y : ◌≡◌ {A = Bool} true false = sym (eq-eqb p 0 h) ∙ z in let x : ◌≡◌ {A = ℕ} 0 1 = cc in omega arith) in
-          rw q (record { missing = λ h. absurd (far-off h); found = λ h t f. k.found h t f })
-  keep p false e k =
-      let q : kept_place p w false ≡ p = unfold kept_place ◌and◌ in refl in
-      rw q (record { missing = λ h. k.missing h ∙ otherwise _ (sym e) refl; found = λ h t f. k.found h t f })
+module _ {line : List ℕ} {n : List ℕ} {all others : List (List ℕ × List ℕ)} {m : List ℕ × List ℕ} {w : ℕ} (says : Says line w m.1) where
+  keep : (p : Place ℕ) (b : Bool) → b ≡ same_list m.0 n → Kept line p n all (m ∷ others) → Kept line (kept_place p w b) n all others
+  unfolding member_of choose kept_place
+  keep (Some p) b e k = record { missing = λ h. absurd (never_none h); found = k.found }
+  keep None true e k = record {
+    missing = λ h. absurd (never_none h);
+    found = λ q h t f. let g : some m.1 ≡ some t = sym (yes _ (sym e)) ∙ sym (k.missing refl) ∙ f in let y : m.1 ≡ t = cc in let z : w ≡ q = cc in rw z at (subst (λ (u : List ℕ). Says line w u) y says);
+  }
+  keep None false e k = record { missing = λ h. k.missing refl ∙ otherwise _ (sym e) refl; found = λ q h t f. absurd (never_none (sym h)) }
 
 -- a name is one of the two and not the other
 others-name : (x : Bool) (n : List ℕ) → one_of x n ≡ true → not (same_list n (first_name x)) ≡ same_list n (second_name x)
@@ -104,7 +97,7 @@ others-name x n e =
 
 -- ---- the members
 
-pub record Pairing (line : List ℕ) (at : ℕ) (x : Bool) (first second i : ℕ) : Type 0 where
+pub record Pairing (line : List ℕ) (at : ℕ) (x : Bool) (first second : Place ℕ) (i : ℕ) : Type 0 where
   pub all : List (List ℕ × List ℕ)
   pub rest : List ℕ
   pub is : object (one_of x) (under x) (drop at line) ≡ got all rest
@@ -124,6 +117,15 @@ record Both (x : Bool) (a b : Option (List ℕ)) (left : List ℕ) (j : J) (rest
   made : j ≡ form_of x one other
   end : rest ≡ left
 
+-- the members of an object that are both there
+record Paired (x : Bool) (all : List (List ℕ × List ℕ)) (left : List ℕ) (j : J) (rest : List ℕ) : Type 0 where
+  one : List ℕ
+  other : List ℕ
+  first : member_of (first_name x) all ≡ some one
+  second : member_of (second_name x) all ≡ some other
+  made : j ≡ form_of x one other
+  end : rest ≡ left
+
 both_of : (x : Bool) (a b : Option (List ℕ)) (left : List ℕ) {j : J} {rest : List ℕ} → both (form_of x) a b left ≡ got j rest → Both x a b left j rest
 unfolding both
 both_of x none b left e = absurd (never e)
@@ -135,10 +137,10 @@ no_member : (n : List ℕ) {a : List ℕ} → member_of n [] ≡ some a → ⊥
 unfolding member_of
 no_member n e = let x : ◌≡◌ {A = ℕ} 0 1 = cc in omega arith
 
-kept-none : {line n : List ℕ} {all : List (List ℕ × List ℕ)} → Kept line 0 n all all
-kept-none = record { missing = λ z. refl; found = λ h. absurd (omega arith) }
+kept-none : {line n : List ℕ} {all : List (List ℕ × List ℕ)} → Kept line None n all all
+kept-none = record { missing = λ z. refl; found = λ q h. absurd (never_none (sym h)) }
 
-pub pair-start : {line : List ℕ} {at i : ℕ} {x : Bool} → Good line at (pair_read x (drop at line)) → Blanks line at i → Pairing line at x 0 0 i
+pub pair-start : {line : List ℕ} {at i : ℕ} {x : Bool} → Good line at (pair_read x (drop at line)) → Blanks line at i → Pairing line at x None None i
 unfolding pair_read
 pair-start {line} {at} {i} {x} g b =
     let o = then_of (object (one_of x) (under x) (drop at line)) g.is in
@@ -160,7 +162,7 @@ pair-start {line} {at} {i} {x} g b =
     go all true q n f = absurd (no_member (first_name x) (sym (ap (member_of (first_name x)) (n q)) ∙ f))
     go all false q n f = q
 
-module _ {line : List ℕ} {at first second i : ℕ} {x : Bool} (g : Pairing line at x first second i) where
+module _ {line : List ℕ} {at i : ℕ} {first second : Place ℕ} {x : Bool} (g : Pairing line at x first second i) where
   now : Turn 125 (Member (one_of x) (under x)) (drop i line) g.left g.rest
   now = turn 125 (Member (one_of x) (under x)) g.run
 
@@ -187,63 +189,72 @@ module _ {line : List ℕ} {at first second i : ℕ} {x : Bool} (g : Pairing lin
       says : Says line w now.what.1
       says = record { rest = now.after; within = v.within; is = value }
 
-      module _ {f k : ℕ} (o : Ends line w f (string (drop w line))) (b : Blanks line f k) where
+      module _ {f : ℕ} (o : Ends line w f (string (drop w line))) where
         sign-here : blanks (drop f line) ≡ now.sign ∷ now.others
         sign-here = ap blanks (sym (o.is now.what.1 now.after value)) ∙ now.byte
 
-        pub pair-next : k < length line
-        pair-next = sign_below b sign-here
+        pub pair-past : Signed line f
+        pair-past = record { within = o.within; sign = now.sign; rest = now.others; is = sign-here }
 
-        pub pair-past : k + 1 ≤ length line
-        pair-past = omega (arith, pair-next)
+        module _ {r : Place ℕ} (d : PartTold line f 125 r) where
+          pub pair-less : {j : ℕ} → r ≡ Some j → length line - j < length line - i
+          pair-less {j} z = let c = d.next j z in omega (arith, p.from, v.from, o.from, c.from, c.within)
 
-        pub pair-less : {j : ℕ} → Blanks line (k + 1) j → length line - j < length line - i
-        pair-less d = omega (arith, p.from, v.from, o.from, b.from, d.from, pair-next)
+          module _ {b₁ b₂ : Bool} {first' second' : Place ℕ} (t : FirstTold line i x b₁) (n : b₂ ≡ not b₁) (q : first' ≡ kept_place first w b₁) (q' : second' ≡ kept_place second w b₂) where
+            kept-first : {others : List (List ℕ × List ℕ)} → g.left ≡ now.what ∷ others → Kept line first' (first_name x) g.all others
+            kept-first e' = rw q (keep says first b₁ (t.is now.what.0 now.part.after now.part.name) (rw e' at g.one))
 
-        module _ {b₁ b₂ : Bool} {first' second' : ℕ} (t : FirstTold line i x b₁) (n : b₂ ≡ not b₁) (q : first' ≡ kept_place first w b₁) (r : second' ≡ kept_place second w b₂) where
-          kept-first : {others : List (List ℕ × List ℕ)} → g.left ≡ now.what ∷ others → Kept line first' (first_name x) g.all others
-          kept-first e' = rw q (keep says (omega (arith, v.from)) first b₁ (t.is now.what.0 now.part.after now.part.name) (rw e' at g.one))
+            kept_second : {others : List (List ℕ × List ℕ)} → g.left ≡ now.what ∷ others → Kept line second' (second_name x) g.all others
+            kept_second e' = rw q' (keep says second b₂ (n ∙ ap not (t.is now.what.0 now.part.after now.part.name) ∙ others-name x now.what.0 now.part.knows) (rw e' at g.two))
 
-          kept_second : {others : List (List ℕ × List ℕ)} → g.left ≡ now.what ∷ others → Kept line second' (second_name x) g.all others
-          kept_second e' = rw r (keep says (omega (arith, v.from)) second b₂ (n ∙ ap not (t.is now.what.0 now.part.after now.part.name) ∙ others-name x now.what.0 now.part.knows) (rw e' at g.two))
+            pub pair-again : {j : ℕ} → r ≡ Some j → Pairing line at x first' second' j
+            pair-again {j} z =
+                let c = d.next j z in
+                let y = now.next (c.other now.sign now.others sign-here) in
+                record {
+                  all = g.all;
+                  rest = g.rest;
+                  is = g.is;
+                  from = omega (arith, g.from, p.from, v.from, o.from, c.from);
+                  within = c.within;
+                  left = y.parts;
+                  run = subst (λ (s : List ℕ). Run 125 (Member (one_of x) (under x)) s y.parts g.rest) (sym (c.is now.sign now.others sign-here)) y.run;
+                  one = kept-first y.all-is;
+                  two = kept_second y.all-is;
+                }
 
-          pub pair-again : {j : ℕ} → (get_or line k 0 ≡ 125 → ⊥) → Blanks line (k + 1) j → Pairing line at x first' second' j
-          pair-again {j} z d =
-              let y = now.next (λ u. z (sign-is b sign-here ∙ u)) in
-              record {
-                all = g.all;
-                rest = g.rest;
-                is = g.is;
-                from = omega (arith, g.from, p.from, v.from, o.from, b.from, d.from);
-                within = d.within;
-                left = y.parts;
-                run = subst (λ (s : List ℕ). Run 125 (Member (one_of x) (under x)) s y.parts g.rest) (ap blanks (sign-left b sign-here) ∙ sym d.is) y.run;
-                one = kept-first y.all-is;
-                two = kept_second y.all-is;
-              }
-
-          pub pair-closed : get_or line k 0 ≡ 125 → TwoTold line at x (record { first = first'; second = second'; end = k + 1 }) (pair_read x (drop at line))
-          unfolding pair_read
-          pair-closed z =
-              record {
-                from = omega (arith, g.from, p.from, v.from, o.from, b.from);
-                within = pair-past;
-                is = λ j rest h. let m = then_of (object (one_of x) (under x) (drop at line)) h in (both_of x (member_of (first_name x) m.what) (member_of (second_name x) m.what) m.left m.next).end ∙ same_rest m.is g.is ∙ now.left last ∙ sign-left b sign-here;
-                two =
-                    λ j rest h.
-                    let m = then_of (object (one_of x) (under x) (drop at line)) h in
-                    let y = both_of x (member_of (first_name x) m.what) (member_of (second_name x) m.what) m.left m.next in
-                    let a : member_of (first_name x) g.all ≡ some y.one = ap (member_of (first_name x)) (same-got g.is m.is) ∙ y.first in
-                    let d : member_of (second_name x) g.all ≡ some y.other = ap (member_of (second_name x)) (same-got g.is m.is) ∙ y.second in
-                    record { one = y.one; other = y.other; is = y.made; first = found (kept-first (now.alone last)) a; second = found (kept_second (now.alone last)) d };
-              }
-            where
+            -- the bracket closes: both places are known
+            module _ (good : Good line at (pair_read x (drop at line))) (z : r ≡ None) where
               last : now.sign ≡ 125
-              last = sym (sign-is b sign-here) ∙ z
+              last = let c = d.closed z in let s = sym sign-here ∙ c.is in cc
 
-              found : {p' : ℕ} {name t' : List ℕ} → Kept line p' name g.all [] → member_of name g.all ≡ some t' → Says line p' t'
-              found {p'} {name} {t'} c u = at_place (eqb p' 0) refl
-                where
-                  at_place : (s : Bool) → eqb p' 0 ≡ s → Says line p' t'
-                  at_place true s = absurd (no_member name (sym (c.missing (eqb-true p' 0 s)) ∙ u))
-                  at_place false s = c.found (omega (arith, eqb-false p' 0 s)) t' u
+              pair-both : {j : J} {rest : List ℕ} → pair_read x (drop at line) ≡ got j rest → Paired x g.all g.rest j rest
+              unfolding pair_read
+              pair-both h =
+                  let m = then_of (object (one_of x) (under x) (drop at line)) h in
+                  let y = both_of x (member_of (first_name x) m.what) (member_of (second_name x) m.what) m.left m.next in
+                  record {
+                    one = y.one;
+                    other = y.other;
+                    first = ap (member_of (first_name x)) (same-got g.is m.is) ∙ y.first;
+                    second = ap (member_of (second_name x)) (same-got g.is m.is) ∙ y.second;
+                    made = y.made;
+                    end = y.end ∙ same_rest m.is g.is;
+                  }
+
+              pub pair-first : IsSome first'
+              pair-first = is_there first' λ h. let y = pair-both good.is in no_member (first_name x) (sym ((kept-first (now.alone last)).missing h) ∙ y.first)
+
+              pub pair-second : IsSome second'
+              pair-second = is_there second' λ h. let y = pair-both good.is in no_member (second_name x) (sym ((kept_second (now.alone last)).missing h) ∙ y.second)
+
+              pub pair-closed : {a b k : ℕ} → first' ≡ Some a → second' ≡ Some b → Behind line f k → TwoTold line at x (record { first = a; second = b; end = k }) (pair_read x (drop at line))
+              pair-closed {a} {b} {k} u u' h = record {
+                from = omega (arith, g.from, p.from, v.from, o.from, h.from);
+                within = h.within;
+                is = λ j rest e. (pair-both e).end ∙ now.left last ∙ h.is now.sign now.others sign-here;
+                two =
+                    λ j rest e.
+                    let y = pair-both e in
+                    record { one = y.one; other = y.other; is = y.made; first = (kept-first (now.alone last)).found a u y.one y.first; second = (kept_second (now.alone last)).found b u' y.other y.second };
+              }

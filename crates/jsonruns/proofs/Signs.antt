@@ -4,11 +4,11 @@ use mathlib.Core.List.{List, ◌∷◌}
 use Prim.Native.Nat.{ℕ, ◌+◌, ◌<◌, ◌≤◌}
 use native.Mathlib.Omega.{arith}
 use lib.ListN.{length, drop, get_or, length-drop}
+use Rattle.std.proofs.Common.{Some, None}
 use Rattle.jsontext.specs.Reading.{blanks}
 use Rattle.jsonread.specs.Told.{Blanks}
 use Rattle.jsonread.proofs.Places.{byte_at}
-use Rattle.jsonruns.specs.declared.Part.TheVariants.{Next, Closed}
-use Rattle.jsonruns.specs.Good.{Signed, Past, Behind, ClosedAt, BeginAt, NextAt, BeginTold, PartTold}
+use Rattle.jsonruns.specs.Good.{Signed, Past, Behind, Closes, BeginAt, NextAt, BeginTold, PartTold}
 
 -- the byte that stands after blanks, and what is left behind it
 pub sign_below : {line : List ℕ} {at i c : ℕ} {rest : List ℕ} → Blanks line at i → blanks (drop at line) ≡ c ∷ rest → i < length line
@@ -38,41 +38,40 @@ module _ {line : List ℕ} {at i : ℕ} (g : Signed line at) (b : Blanks line at
   sign_read = omega (arith, sign-there)
 
   module _ {close : ℕ} where
-    closing : get_or line i 0 ≡ close → ClosedAt line at close (i + 1)
-    closing q = record {
-      from = omega (arith, b.from);
-      within = sign-there;
-      is = sym b.is ∙ byte_at line i sign_read ∙ ap (λ (c : ℕ). c ∷ drop (i + 1) line) q;
-    }
+    closing : get_or line i 0 ≡ close → Closes line at close
+    closing q = record { rest = drop (i + 1) line; is = sym b.is ∙ byte_at line i sign_read ∙ ap (λ (c : ℕ). c ∷ drop (i + 1) line) q }
 
-    pub begin_closed : get_or line i 0 ≡ close → BeginTold line at close (Closed (i + 1))
-    begin_closed q = record {
-      closed = λ e z. let y : i + 1 ≡ e = cc in subst (λ (k : ℕ). ClosedAt line at close k) y (closing q);
-      next = λ k z. absurd (let y : ◌≡◌ {A = ℕ} 0 1 = cc in omega arith);
-    }
+    pub begin_closed : get_or line i 0 ≡ close → BeginTold line at close None
+    begin_closed q = record { closed = λ z. closing q; next = λ k z. absurd (let y : ◌≡◌ {A = ℕ} 0 1 = cc in omega arith) }
 
-    pub part-closed : get_or line i 0 ≡ close → PartTold line at close (Closed (i + 1))
-    part-closed q = record {
-      closed = λ e z. let y : i + 1 ≡ e = cc in subst (λ (k : ℕ). ClosedAt line at close k) y (closing q);
-      next = λ k z. absurd (let y : ◌≡◌ {A = ℕ} 0 1 = cc in omega arith);
-    }
+    pub part-closed : get_or line i 0 ≡ close → PartTold line at close None
+    part-closed q = record { closed = λ z. closing q; next = λ k z. absurd (let y : ◌≡◌ {A = ℕ} 0 1 = cc in omega arith) }
 
     module _ (n : get_or line i 0 ≡ close → ⊥) where
-      pub begin_next : BeginTold line at close (Next i)
+      pub begin_next : BeginTold line at close (Some i)
       begin_next = record {
-        closed = λ e z. absurd (let y : ◌≡◌ {A = ℕ} 0 1 = cc in omega arith);
+        closed = λ z. absurd (let y : ◌≡◌ {A = ℕ} 0 1 = cc in omega arith);
         next =
             λ k z.
             let y : i ≡ k = cc in
             subst (λ (k : ℕ). BeginAt line at close k) y (record { from = b.from; within = b.within; other = λ c rest e h. n (sign-is b e ∙ h); is = b.is });
       }
 
-      pub part-next : {j : ℕ} → Blanks line (i + 1) j → PartTold line at close (Next j)
+      pub part-next : {j : ℕ} → Blanks line (i + 1) j → PartTold line at close (Some j)
       part-next {j} d = record {
-        closed = λ e z. absurd (let y : ◌≡◌ {A = ℕ} 0 1 = cc in omega arith);
+        closed = λ z. absurd (let y : ◌≡◌ {A = ℕ} 0 1 = cc in omega arith);
         next =
             λ k z.
             let y : j ≡ k = cc in
             subst (λ (k : ℕ). NextAt line at close k) y
             (record { from = omega (arith, b.from, d.from); within = d.within; other = λ c rest e h. n (sign-is b e ∙ h); is = λ c rest e. d.is ∙ ap blanks (sym (sign-left b e)) });
       }
+
+-- ---- where the bracket closes
+
+-- past it, what is left stands
+pub closed-left : {line : List ℕ} {at close k : ℕ} → Closes line at close → Behind line at k → blanks (drop at line) ≡ close ∷ drop k line
+closed-left {line} {at} {close} {k} c h = c.is ∙ ap (λ (s : List ℕ). close ∷ s) (h.is close c.rest c.is)
+
+pub closed-signed : {line : List ℕ} {at close : ℕ} → at ≤ length line → Closes line at close → Signed line at
+closed-signed {close = close} h c = record { within = h; sign = close; rest = c.rest; is = c.is }

@@ -1,7 +1,7 @@
 -- Cedar's forms, an entity (false) or an extension (true): the two strings that a good one holds
-use Rattle.std.specs.Prelude.{◌≡◌, Bool, true, false, List, ℕ, ◌<◌, ◌≤◌, eqb, length, drop}
+use Rattle.std.specs.Prelude.{◌≡◌, Bool, true, false, List, ℕ, ◌≤◌, Option, Some, None, length, drop}
 use Rattle.std.proofs.Math.Option.{some}
-use Rattle.meaning.specs.Tests.{◌and◌, ◌or◌, choose}
+use Rattle.meaning.specs.Tests.{◌or◌, choose}
 use Rattle.meaning.specs.Equal.{same_list}
 use Rattle.jsontext.specs.Reading.{Read, got, then}
 use Rattle.jsontext.specs.Strings.{string}
@@ -62,10 +62,11 @@ pub record FirstTold (line : List ℕ) (at : ℕ) (x r : Bool) : Type 0 where
   pub is : (n rest : List ℕ) → string (drop at line) ≡ got n rest → r ≡ same_list n (first_name x)
 
 -- a place is kept, where there was none
-unfoldable pub kept_place : ℕ → ℕ → Bool → ℕ
-kept_place old new b = choose (b and eqb old 0) new old
+unfoldable pub kept_place : Option ℕ → ℕ → Bool → Option ℕ
+kept_place (Some old) new b = Some old
+kept_place None new b = choose b (Some new) None
 
 -- the place of a name's first value among all members, or none among those that are not left
-pub record Kept (line : List ℕ) (p : ℕ) (n : List ℕ) (all left : List (List ℕ × List ℕ)) : Type 0 where
-  pub missing : p ≡ 0 → member_of n all ≡ member_of n left
-  pub found : 0 < p → (t : List ℕ) → member_of n all ≡ some t → Says line p t
+pub record Kept (line : List ℕ) (p : Option ℕ) (n : List ℕ) (all left : List (List ℕ × List ℕ)) : Type 0 where
+  pub missing : p ≡ None → member_of n all ≡ member_of n left
+  pub found : (q : ℕ) → p ≡ Some q → (t : List ℕ) → member_of n all ≡ some t → Says line q t

@@ -1,8 +1,6 @@
 -- A part that reads well, from a place of the line on, and where it ends
-use Rattle.std.specs.Prelude.{◌≡◌, List, ◌∷◌, ℕ, ◌<◌, ◌≤◌, length, drop}
+use Rattle.std.specs.Prelude.{◌≡◌, List, ◌∷◌, ℕ, ◌<◌, ◌≤◌, Option, Some, None, length, drop}
 use Rattle.jsontext.specs.Reading.{Read, got, blanks}
-use Rattle.jsonruns.specs.declared.Part.{Part}
-use Rattle.jsonruns.specs.declared.Part.TheVariants.{Next, Closed}
 
 pub record Good {A : Type 0} (line : List ℕ) (at : ℕ) (m : Read A) : Type 0 where
   pub what : A
@@ -35,11 +33,10 @@ pub record Behind (line : List ℕ) (at r : ℕ) : Type 0 where
   pub within : r ≤ length line
   pub is : (c : ℕ) (rest : List ℕ) → blanks (drop at line) ≡ c ∷ rest → rest ≡ drop r line
 
--- the closing byte stands here, after blanks, and e is behind it
-pub record ClosedAt (line : List ℕ) (at close e : ℕ) : Type 0 where
-  pub from : at < e
-  pub within : e ≤ length line
-  pub is : blanks (drop at line) ≡ close ∷ drop e line
+-- the closing byte stands here, after blanks
+pub record Closes (line : List ℕ) (at close : ℕ) : Type 0 where
+  pub rest : List ℕ
+  pub is : blanks (drop at line) ≡ close ∷ rest
 
 -- a first part stands at i
 pub record BeginAt (line : List ℕ) (at close i : ℕ) : Type 0 where
@@ -55,10 +52,10 @@ pub record NextAt (line : List ℕ) (at close i : ℕ) : Type 0 where
   pub other : (c : ℕ) (rest : List ℕ) → blanks (drop at line) ≡ c ∷ rest → c ≡ close → ⊥
   pub is : (c : ℕ) (rest : List ℕ) → blanks (drop at line) ≡ c ∷ rest → drop i line ≡ blanks rest
 
-pub record BeginTold (line : List ℕ) (at close : ℕ) (r : Part) : Type 0 where
-  pub closed : (e : ℕ) → r ≡ Closed e → ClosedAt line at close e
-  pub next : (i : ℕ) → r ≡ Next i → BeginAt line at close i
+pub record BeginTold (line : List ℕ) (at close : ℕ) (r : Option ℕ) : Type 0 where
+  pub closed : r ≡ None → Closes line at close
+  pub next : (i : ℕ) → r ≡ Some i → BeginAt line at close i
 
-pub record PartTold (line : List ℕ) (at close : ℕ) (r : Part) : Type 0 where
-  pub closed : (e : ℕ) → r ≡ Closed e → ClosedAt line at close e
-  pub next : (i : ℕ) → r ≡ Next i → NextAt line at close i
+pub record PartTold (line : List ℕ) (at close : ℕ) (r : Option ℕ) : Type 0 where
+  pub closed : r ≡ None → Closes line at close
+  pub next : (i : ℕ) → r ≡ Some i → NextAt line at close i

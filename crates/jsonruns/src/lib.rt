@@ -16,8 +16,7 @@ pub fn string_end(line: &[u8], at: usize) -> usize
     requires { Good line.now at (string (drop at line.now)) }
     ensures { Ends line.now at result (string (drop at line.now)) }
 {
-    let s = spelt_at(line, at);
-    s.end
+    spelt_at(line, at).end
 }
 
 // where what follows a name or a string begins, past a colon or a comma
@@ -25,8 +24,7 @@ pub fn after_sign(line: &[u8], at: usize) -> usize
     requires { Signed line.now at }
     ensures { Past line.now at result }
 {
-    let sign = skip_blanks(line, at);
-    skip_blanks(line, sign + 1)
+    skip_blanks(line, skip_blanks(line, at) + 1)
 }
 
 // past a byte and the blanks before it
@@ -34,39 +32,29 @@ pub fn sign_end(line: &[u8], at: usize) -> usize
     requires { Signed line.now at }
     ensures { Behind line.now at result }
 {
-    let sign = skip_blanks(line, at);
-    sign + 1
+    skip_blanks(line, at) + 1
 }
 
-// where a part stands, or where the bracket that ends them was
-#[derive(Clone, Copy)]
-pub enum Part {
-    Next(usize),
-    Closed(usize),
-}
-
-// the first part after a bracket that opens
-pub fn first_part(line: &[u8], at: usize, close: u8) -> Part
+// where the first part after a bracket that opens stands; none where it closes
+pub fn first_part(line: &[u8], at: usize, close: u8) -> Option<usize>
     requires { Signed line.now at }
     ensures { BeginTold line.now at close result }
 {
     let i = skip_blanks(line, at);
-    if line[i] == close {
-        return Part::Closed(i + 1);
-    }
-    Part::Next(i)
+    if line[i] == close { None } else { Some(i) }
 }
 
-// the part after another that ended at `at`
-pub fn part_after(line: &[u8], at: usize, close: u8) -> Part
+// where the part after another that ended at `at` stands; none where the bracket closes
+pub fn part_after(line: &[u8], at: usize, close: u8) -> Option<usize>
     requires { Signed line.now at }
     ensures { PartTold line.now at close result }
 {
-    let i = skip_blanks(line, at);
-    if line[i] == close {
-        return Part::Closed(i + 1);
+    let sign = skip_blanks(line, at);
+    if line[sign] == close {
+        None
+    } else {
+        Some(skip_blanks(line, sign + 1))
     }
-    Part::Next(skip_blanks(line, i + 1))
 }
 
 // ---- Cedar's forms
@@ -85,21 +73,17 @@ fn is_first(line: &[u8], at: usize, extension: bool) -> bool
     ensures { FirstTold line.now at extension result }
 {
     if extension {
-        return is_word(line, at, b"fn");
+        is_word(line, at, b"fn")
+    } else {
+        is_word(line, at, b"type")
     }
-    is_word(line, at, b"type")
 }
 
 // a place is kept, where there was none
-fn kept(old: usize, new: usize, is: bool) -> usize
+fn kept(old: Option<usize>, new: usize, is: bool) -> Option<usize>
     ensures { result ≡ kept_place old new is }
 {
-    if is {
-        if old == 0 {
-            return new;
-        }
-    }
-    old
+    if is { Some(old.unwrap_or(new)) } else { old }
 }
 
 // the two members, after the inner brace
@@ -107,23 +91,25 @@ fn pair_of(line: &[u8], at: usize, extension: bool) -> Two
     requires { Good line.now at (pair_read extension (drop at line.now)) }
     ensures { TwoTold line.now at extension result (pair_read extension (drop at line.now)) }
 {
-    let mut first = 0;
-    let mut second = 0;
+    let mut first = None;
+    let mut second = None;
     let mut i = skip_blanks(line, at);
     loop {
         let one = is_first(line, i, extension);
         let value = after_sign(line, string_end(line, i));
         first = kept(first, value, one);
         second = kept(second, value, !one);
-        let k = skip_blanks(line, string_end(line, value));
-        if line[k] == 125 {
-            return Two {
-                first,
-                second,
-                end: k + 1,
-            };
+        let end = string_end(line, value);
+        match part_after(line, end, b'}') {
+            Some(next) => i = next,
+            None => {
+                return Two {
+                    first: first.unwrap(),
+                    second: second.unwrap(),
+                    end: sign_end(line, end),
+                };
+            }
         }
-        i = skip_blanks(line, k + 1);
     }
 }
 
@@ -134,11 +120,7 @@ pub fn two_of(line: &[u8], at: usize, extension: bool) -> Two
 {
     let name = skip_blanks(line, at);
     let brace = after_sign(line, string_end(line, name));
-    let two = pair_of(line, brace + 1, extension);
-    let outer = skip_blanks(line, two.end);
-    Two {
-        first: two.first,
-        second: two.second,
-        end: outer + 1,
-    }
+    let mut two = pair_of(line, brace + 1, extension);
+    two.end = sign_end(line, two.end);
+    two
 }

@@ -8,5 +8,5 @@ bounds-line-i c = search (sign_read, rules)
 pub returns-then-line-i : goal.returns-then-line-i
 returns-then-line-i c = search (begin_closed, rules)
 
-pub returns : goal.returns
-returns c = search (begin_next, rules)
+pub returns-else-line-i : goal.returns-else-line-i
+returns-else-line-i c = search (begin_next, rules)

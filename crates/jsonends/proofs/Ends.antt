@@ -7,6 +7,7 @@ use native.Mathlib.Omega.{arith}
 use native.Mathlib.Numerals.{add-one}
 use lib.ListN.{length, drop, get_or, length-drop}
 use borrow.Author.Tests.{ne_eqb}
+use Rattle.std.proofs.Common.{◌⊎◌, inl, inr}
 use Rattle.meaning.specs.Tests.{◌or◌, choose}
 use Rattle.laws.specs.Tests.{yes, no as otherwise}
 use Rattle.jsontext.specs.declared.Fault.{Fault}
@@ -28,12 +29,14 @@ use Rattle.jsonends.proofs.Nests.{Said, value_there, value-text, value-closes, v
 -- ---- a byte outside strings
 
 module _ (c depth : ℕ) where
-  pub step-none : (c ≡ 91 → ⊥) → (c ≡ 93 → ⊥) → (c ≡ 123 → ⊥) → (c ≡ 125 → ⊥) → depth ≡ stepped c depth
+  pub step-none : ((c ≡ 91) ⊎ (c ≡ 123) → ⊥) → ((c ≡ 93) ⊎ (c ≡ 125) → ⊥) → depth ≡ stepped c depth
   unfolding stepped opens closes ◌or◌
-  step-none p q r s = sym (otherwise _ (rw (ne_eqb c 91 p, ne_eqb c 123 r) refl) (otherwise _ (rw (ne_eqb c 93 q, ne_eqb c 125 s) refl) refl))
-
-  pub step-low : c < 91 → depth ≡ stepped c depth
-  step-low h = step-none (λ e. omega (arith, h, e)) (λ e. omega (arith, h, e)) (λ e. omega (arith, h, e)) (λ e. omega (arith, h, e))
+  step-none h k =
+      let p : c ≡ 91 → ⊥ = λ e. h (inl e) in
+      let r : c ≡ 123 → ⊥ = λ e. h (inr e) in
+      let q : c ≡ 93 → ⊥ = λ e. k (inl e) in
+      let s : c ≡ 125 → ⊥ = λ e. k (inr e) in
+      sym (otherwise _ (rw (ne_eqb c 91 p, ne_eqb c 123 r) refl) (otherwise _ (rw (ne_eqb c 93 q, ne_eqb c 125 s) refl) refl))
 
   more : opens c ≡ true → depth + 1 ≡ stepped c depth
   more o = let y : stepped c depth ≡ suc depth = unfold stepped in yes _ o in add-one depth ∙ sym y
@@ -41,17 +44,13 @@ module _ (c depth : ℕ) where
   less : opens c ≡ false → closes c ≡ true → depth - 1 ≡ stepped c depth
   less o k = unfold stepped in sym (otherwise _ o (yes _ k))
 
-  pub step-array : c ≡ 91 → depth + 1 ≡ stepped c depth
-  step-array e = more (unfold opens ◌or◌ in rw e refl)
+  pub step-opens : (c ≡ 91) ⊎ (c ≡ 123) → depth + 1 ≡ stepped c depth
+  step-opens (inl e) = more (unfold opens ◌or◌ in rw e refl)
+  step-opens (inr e) = more (unfold opens ◌or◌ in rw e refl)
 
-  pub step-object : c ≡ 123 → depth + 1 ≡ stepped c depth
-  step-object e = more (unfold opens ◌or◌ in rw e refl)
-
-  pub step-array-end : c ≡ 93 → depth - 1 ≡ stepped c depth
-  step-array-end e = less (unfold opens ◌or◌ in rw e refl) (unfold closes ◌or◌ in rw e refl)
-
-  pub step-object-end : c ≡ 125 → depth - 1 ≡ stepped c depth
-  step-object-end e = less (unfold opens ◌or◌ in rw e refl) (unfold closes ◌or◌ in rw e refl)
+  pub step-closes : (c ≡ 93) ⊎ (c ≡ 125) → depth - 1 ≡ stepped c depth
+  step-closes (inl e) = less (unfold opens ◌or◌ in rw e refl) (unfold closes ◌or◌ in rw e refl)
+  step-closes (inr e) = less (unfold opens ◌or◌ in rw e refl) (unfold closes ◌or◌ in rw e refl)
 
 step-most : (c depth : ℕ) → stepped c depth ≤ depth + 1
 unfolding stepped choose
@@ -92,7 +91,7 @@ module _ {line : List ℕ} {at depth i : ℕ} (g : Nesting line at depth i) wher
     pub nest_closer : length line - (i + 1) < length line - i
     nest_closer = omega (arith, nest-below)
 
-    pub nest-room : length line < 2 ^ 63 → depth ≤ 9223372036854775808
+    pub nest-room : length line < 2 ^ 63 → depth ≤ 2 ^ 63
     nest-room b = omega (arith, g.few, nest-below, b)
 
     module _ (m : get_or line i 0 ≡ 34 → ⊥) where
@@ -167,29 +166,23 @@ module _ (levels : ℕ) {line : List ℕ} {at : ℕ} (g : Good line at (value le
     pub text-ends : {e : ℕ} → Ends line at e (string (drop at line)) → Ends line at e (value levels (drop at line))
     text-ends p = record { from = p.from; within = p.within; is = λ what rest f. let k = said f in p.is k.text rest k.is }
 
-  module _ (q : get_or line at 0 ≡ 91) where
-    is-array : opens (get_or line at 0) ≡ true
-    is-array = unfold opens ◌or◌ in rw q refl
+  module _ (q : (get_or line at 0 ≡ 91) ⊎ (get_or line at 0 ≡ 123)) where
+    is-open : opens (get_or line at 0) ≡ true
+    is-open = go q
+      where
+        go : (get_or line at 0 ≡ 91) ⊎ (get_or line at 0 ≡ 123) → opens (get_or line at 0) ≡ true
+        go (inl e) = unfold opens ◌or◌ in rw e refl
+        go (inr e) = unfold opens ◌or◌ in rw e refl
 
-    pub array-opened : Opened line (at + 1)
-    array-opened = opened is-array
+    pub bracket-opened : Opened line (at + 1)
+    bracket-opened = opened is-open
 
-    pub array-shut : {e : ℕ} → Shut line (at + 1) e → Ends line at e (value levels (drop at line))
-    array-shut p = shut is-array p
+    pub bracket-shut : {e : ℕ} → Shut line (at + 1) e → Ends line at e (value levels (drop at line))
+    bracket-shut p = shut is-open p
 
-  module _ (q : get_or line at 0 ≡ 123) where
-    is-object : opens (get_or line at 0) ≡ true
-    is-object = unfold opens ◌or◌ in rw q refl
-
-    pub object-opened : Opened line (at + 1)
-    object-opened = opened is-object
-
-    pub object-shut : {e : ℕ} → Shut line (at + 1) e → Ends line at e (value levels (drop at line))
-    object-shut p = shut is-object p
-
-  module _ (m : get_or line at 0 ≡ 91 → ⊥) (n : get_or line at 0 ≡ 123 → ⊥) where
+  module _ (n : (get_or line at 0 ≡ 91) ⊎ (get_or line at 0 ≡ 123) → ⊥) where
     closed : opens (get_or line at 0) ≡ false
-    closed = unfold opens ◌or◌ in rw (ne_eqb _ 91 m, ne_eqb _ 123 n) refl
+    closed = unfold opens ◌or◌ in rw (ne_eqb _ 91 (λ e. n (inl e)), ne_eqb _ 123 (λ e. n (inr e))) refl
 
     flat : {j : J} {rest : List ℕ} → value levels (drop at line) ≡ got j rest → scalar (drop at line) ≡ got j rest
     flat e = ap scalar (byte_at line at value-below) ∙ value-scalar levels (get_or line at 0) (drop (at + 1) line) closed (read e)

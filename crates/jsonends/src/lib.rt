@@ -2,7 +2,7 @@
 
 #![tactic(auto)]
 
-ghost use Rattle.std.specs.Prelude.{◌≡◌, ◌≤◌, drop};
+ghost use Rattle.std.specs.Prelude.{◌≡◌, ◌≤◌, ◌^◌, drop};
 ghost use Rattle.jsontext.specs.Values.{value};
 ghost use Rattle.jsonparts.specs.Flat.{scalar};
 ghost use Rattle.jsonruns.specs.Good.{Good, Ends};
@@ -15,25 +15,14 @@ use jsontext::Step;
 // how many brackets are open after a byte outside strings
 fn depth_after(c: u8, depth: usize) -> usize
     requires le_depth { 1 ≤ depth }
-    requires depth_bound { depth ≤ 9223372036854775808 }
+    requires depth_bound { depth ≤ 2 ^ 63 }
     ensures { result ≡ stepped c depth }
 {
-    if c < 91 {
-        return depth;
+    match c {
+        b'[' | b'{' => depth + 1,
+        b']' | b'}' => depth - 1,
+        _ => depth,
     }
-    if c == 91 {
-        return depth + 1;
-    }
-    if c == 93 {
-        return depth - 1;
-    }
-    if c == 123 {
-        return depth + 1;
-    }
-    if c == 125 {
-        return depth - 1;
-    }
-    depth
 }
 
 // after the bracket that closes the one before `at`
@@ -43,9 +32,10 @@ fn bracket_end(line: &[u8], at: usize) -> usize
 {
     let mut depth: usize = 1;
     let mut i = at;
+    // a while: a string is passed over whole, so the place does not move by one
     while 0 < depth {
         let c = line[i];
-        if c == 34 {
+        if c == b'"' {
             i = string_end(line, i);
         } else {
             depth = depth_after(c, depth);
@@ -71,15 +61,9 @@ pub fn value_end(line: &[u8], at: usize, levels: u32) -> usize
     requires { Good line.now at (value levels (drop at line.now)) }
     ensures { Ends line.now at result (value levels (drop at line.now)) }
 {
-    let c = line[at];
-    if c == 34 {
-        return string_end(line, at);
+    match line[at] {
+        b'"' => string_end(line, at),
+        b'[' | b'{' => bracket_end(line, at + 1),
+        _ => scalar_end(line, at),
     }
-    if c == 91 {
-        return bracket_end(line, at + 1);
-    }
-    if c == 123 {
-        return bracket_end(line, at + 1);
-    }
-    scalar_end(line, at)
 }

@@ -14,7 +14,6 @@ use Rattle.jsontext.specs.Values.{array, form, value}
 use Rattle.jsonparts.specs.Flat.{scalar}
 use Rattle.jsonroom.specs.declared.Bodies.{Bodies}
 use Rattle.jsonroom.specs.declared.Next.{Next}
-use Rattle.jsonroom.specs.declared.Written.{Written}
 use Rattle.jsonroom.specs.Put.{ValuePut}
 use Rattle.jsonruns.specs.declared.Part.{Part as Position}
 use Rattle.jsonruns.specs.declared.Part.TheVariants.{Next as Goes, Closed}
@@ -52,22 +51,22 @@ module _ (levels : ℕ) {line : List ℕ} {at : ℕ} {names₀ names : List ℕ}
   pub item-due : PlaceDue line i (value levels (drop i line)) file b next value_tables names used named
   item-due = record { due = Items.item-due levels g; spare = Items.item-spare levels g }
 
-  module _ {names' after : List ℕ} {w : Written} (p : Placed line i (value levels (drop i line)) file after b next value_tables w used names names') where
+  module _ {names' after : List ℕ} {w-next : Next} {w-end : ℕ} (p : Placed line i (value levels (drop i line)) file after b next value_tables w-next w-end used names names') where
     pub names-after : length names' ≡ length names₀
     names-after = Items.names-after levels g p.stays
 
-    pub item-signed : length after ≡ length file → Signed line w.end
+    pub item-signed : length after ≡ length file → Signed line w-end
     item-signed l = Items.item-signed levels g p.told p.stays l
 
     module _ (l : length after ≡ length file) where
-      pub item_room : MemberRoom after b (n.member + k) 4294967295 w.next
+      pub item_room : MemberRoom after b (n.member + k) 4294967295 w-next
       item_room = record { fits = Items.item_room levels g p.told p.stays l; name-word = omega arith; some = Items.item-some levels g p.told p.stays l; value-word = Items.item-word levels g p.told p.stays l }
 
-      module _ {last : List ℕ} (m : Writing after last (b.members + 8 * (n.member + k)) (packed (4294967295 ∷ (w.next.value - 1) ∷ []))) (h : length last ≡ length after) {x : Position} (t : PartTold line w.end 93 x) where
-        pub items-closed : {e : ℕ} → x ≡ Closed e → RunPlaced (array (value levels) (drop at line)) before last b n array_tables w.next used names₀ names'
+      module _ {last : List ℕ} (m : Writing after last (b.members + 8 * (n.member + k)) (packed (4294967295 ∷ (w-next.value - 1) ∷ []))) (h : length last ≡ length after) {x : Position} (t : PartTold line w-end 93 x) where
+        pub items-closed : {e : ℕ} → x ≡ Closed e → RunPlaced (array (value levels) (drop at line)) before last b n array_tables w-next used names₀ names'
         items-closed y = record { told = Items.items-closed levels g p.told p.stays l m h t y; stays = Items.stays_after levels g p.stays }
 
-        pub items-again : {j : ℕ} → x ≡ Goes j → Filling levels line at names₀ names' used before last b n count w.next (k + 1) j
+        pub items-again : {j : ℕ} → x ≡ Goes j → Filling levels line at names₀ names' used before last b n count w-next (k + 1) j
         items-again y = Items.items-again levels g p.told p.stays l m h t y
 
         pub items-less : {j : ℕ} → x ≡ Goes j → length line - j < length line - i
@@ -79,15 +78,15 @@ module _ {levels : ℕ} {line names₀ names : List ℕ} {used stop : ℕ} {befo
   pub part-more : Fits w64 stop → Fits w64 (i + 1)
   part-more f = record { fits = omega (arith, c, f.fits) }
 
-  module _ {mid : List ℕ} {s : Written} (p : NameWritten line (get_or names i 0) file mid b next s) where
-    pub part-due : length mid ≡ length file → PlaceDue line s.end (value levels (drop s.end line)) mid b s.next value_tables names stop named
+  module _ {mid : List ℕ} {s-next : Next} {s-end : ℕ} (p : NameWritten line (get_or names i 0) file mid b next s-next s-end) where
+    pub part-due : length mid ≡ length file → PlaceDue line s-end (value levels (drop s-end line)) mid b s-next value_tables names stop named
     part-due l = record { due = Members.part-due g c p l; spare = Members.part-spare g c p l }
 
-    module _ {names' after : List ℕ} {w : Written} (v : Placed line s.end (value levels (drop s.end line)) mid after b s.next value_tables w stop names names') (l : length mid ≡ length file) (m : length after ≡ length mid) where
-      pub part_room : MemberRoom after b (n.member + (i - used)) next.string w.next
+    module _ {names' after : List ℕ} {w-next : Next} {w-end : ℕ} (v : Placed line s-end (value levels (drop s-end line)) mid after b s-next value_tables w-next w-end stop names names') (l : length mid ≡ length file) (m : length after ≡ length mid) where
+      pub part_room : MemberRoom after b (n.member + (i - used)) next.string w-next
       part_room = record { fits = Members.part_room g c p l v.told v.stays m; name-word = Members.part-string g c p l v.told v.stays m; some = Members.part-some g c p l v.told v.stays m; value-word = Members.part-word g c p l v.told v.stays m }
 
-      pub part-again : {last : List ℕ} → Writing after last (b.members + 8 * (n.member + (i - used))) (packed (next.string ∷ (w.next.value - 1) ∷ [])) → length last ≡ length after → Gathering levels line names₀ names' used stop before last b n w.next (i + 1)
+      pub part-again : {last : List ℕ} → Writing after last (b.members + 8 * (n.member + (i - used))) (packed (next.string ∷ (w-next.value - 1) ∷ [])) → length last ≡ length after → Gathering levels line names₀ names' used stop before last b n w-next (i + 1)
       part-again u o = Members.part-again g c p l v.told v.stays m u o
 
 -- ---- arrays and objects
@@ -103,7 +102,7 @@ module _ (levels : ℕ) {line : List ℕ} {at : ℕ} {file : List ℕ} {b : Bodi
     pub array-room : length after ≡ length file → HeldRoom after b next n c.count
     array-room l = record { fits = Values.array-room levels d.due t p.told l; first = Values.array-member levels d.due; many = Values.array_count levels d.due t }
 
-    pub array_placed : {last : List ℕ} {k : Next} → ValuePut after last b next 6 n.member c.count k → Placed line at (array (value levels) (drop at line)) file last b n array_value (record { next = k; end = c.end }) used names names'
+    pub array_placed : {last : List ℕ} {k : Next} → ValuePut after last b next 6 n.member c.count k → Placed line at (array (value levels) (drop at line)) file last b n array_value k c.end used names names'
     array_placed v = record { told = Values.array-wrote levels d.due t p.told v refl refl; stays = p.stays }
 
 module _ (levels : ℕ) {line : List ℕ} {at : ℕ} {file : List ℕ} {b : Bodies} {n : Next} {names : List ℕ} {used : ℕ} (d : PlaceDue line at (object_read levels (drop at line)) file b n object_value names used named_members) where
@@ -121,7 +120,7 @@ module _ (levels : ℕ) {line : List ℕ} {at : ℕ} {file : List ℕ} {b : Bodi
       pub object-room : length after ≡ length file → HeldRoom after b next n c.count
       object-room l = record { fits = Values.object-room levels d.due t p l; first = Values.object-member levels d.due; many = Values.object-count levels d.due t }
 
-      pub object-placed : {last : List ℕ} {k : Next} → ValuePut after last b next 7 n.member c.count k → Placed line at (object_read levels (drop at line)) file last b n object_value (record { next = k; end = c.end }) used names last-names
+      pub object-placed : {last : List ℕ} {k : Next} → ValuePut after last b next 7 n.member c.count k → Placed line at (object_read levels (drop at line)) file last b n object_value k c.end used names last-names
       object-placed v = record { told = Values.object-wrote levels d.due t p v refl refl; stays = Values.object-stays levels d.due t p }
 
 -- ---- an object or a form
@@ -135,21 +134,21 @@ module _ (levels : ℕ) {line : List ℕ} {at : ℕ} {file : List ℕ} {b : Bodi
       pub plain-due : PlaceDue line at (object_read levels (drop at line)) file b n object_value names used named_members
       plain-due = record { due = Values.plain-due levels d.due k z; spare = Values.plain-spare levels d.due k z d.spare }
 
-      pub plain-placed : {after names' : List ℕ} {w : Written} → Placed line at (object_read levels (drop at line)) file after b n object_value w used names names' → Placed line at (braced_read levels (drop at line)) file after b n value_tables w used names names'
+      pub plain-placed : {after names' : List ℕ} {w-next : Next} {w-end : ℕ} → Placed line at (object_read levels (drop at line)) file after b n object_value w-next w-end used names names' → Placed line at (braced_read levels (drop at line)) file after b n value_tables w-next w-end used names names'
       plain-placed p = record { told = Values.plain-wrote levels d.due k z p.told; stays = p.stays }
 
     module _ (z : x ≡ Entity) where
       pub entity-due : Due line at (form_read false (drop at line)) file b n value_tables
       entity-due = Values.entity-due levels d.due k z
 
-      pub entity-placed : {after : List ℕ} {w : Written} → WroteTo line at (form_read false (drop at line)) file after b n value_tables w → Placed line at (braced_read levels (drop at line)) file after b n value_tables w used names names
+      pub entity-placed : {after : List ℕ} {w-next : Next} {w-end : ℕ} → WroteTo line at (form_read false (drop at line)) file after b n value_tables w-next w-end → Placed line at (braced_read levels (drop at line)) file after b n value_tables w-next w-end used names names
       entity-placed p = record { told = Values.entity-wrote levels d.due k z p; stays = Values.stays_self used names }
 
     module _ (z : x ≡ Extension) where
       pub extension-due : Due line at (form_read true (drop at line)) file b n value_tables
       extension-due = Values.extension-due levels d.due k z
 
-      pub extension-placed : {after : List ℕ} {w : Written} → WroteTo line at (form_read true (drop at line)) file after b n value_tables w → Placed line at (braced_read levels (drop at line)) file after b n value_tables w used names names
+      pub extension-placed : {after : List ℕ} {w-next : Next} {w-end : ℕ} → WroteTo line at (form_read true (drop at line)) file after b n value_tables w-next w-end → Placed line at (braced_read levels (drop at line)) file after b n value_tables w-next w-end used names names
       extension-placed p = record { told = Values.extension-wrote levels d.due k z p; stays = Values.stays_self used names }
 
 -- ---- a value
@@ -171,21 +170,21 @@ module _ (levels : ℕ) {line : List ℕ} {at : ℕ} {file : List ℕ} {b : Bodi
     pub array-due : PlaceDue line (at + 1) (array (value (levels - 1)) (drop (at + 1) line)) file b n array_value names used named_items
     array-due = record { due = Values.value-array-due levels d.due q; spare = Values.value-array-spare levels d.due q d.spare }
 
-    pub value-array : {after names' : List ℕ} {w : Written} → Placed line (at + 1) (array (value (levels - 1)) (drop (at + 1) line)) file after b n array_value w used names names' → Placed line at (value levels (drop at line)) file after b n value_tables w used names names'
+    pub value-array : {after names' : List ℕ} {w-next : Next} {w-end : ℕ} → Placed line (at + 1) (array (value (levels - 1)) (drop (at + 1) line)) file after b n array_value w-next w-end used names names' → Placed line at (value levels (drop at line)) file after b n value_tables w-next w-end used names names'
     value-array p = record { told = Values.value-array levels d.due q p.told; stays = p.stays }
 
   module _ (q : get_or line at 0 ≡ 123) where
     pub braced-due : PlaceDue line (at + 1) (braced_read (levels - 1) (drop (at + 1) line)) file b n value_tables names used named
     braced-due = record { due = Values.value-braced-due levels d.due q; spare = Values.value-braced-spare levels d.due q d.spare }
 
-    pub value-braced : {after names' : List ℕ} {w : Written} → Placed line (at + 1) (braced_read (levels - 1) (drop (at + 1) line)) file after b n value_tables w used names names' → Placed line at (value levels (drop at line)) file after b n value_tables w used names names'
+    pub value-braced : {after names' : List ℕ} {w-next : Next} {w-end : ℕ} → Placed line (at + 1) (braced_read (levels - 1) (drop (at + 1) line)) file after b n value_tables w-next w-end used names names' → Placed line at (value levels (drop at line)) file after b n value_tables w-next w-end used names names'
     value-braced p = record { told = Values.value-braced levels d.due q p.told; stays = p.stays }
 
   module _ (a : get_or line at 0 ≡ 91 → ⊥) (q : get_or line at 0 ≡ 123 → ⊥) where
     pub flat-due : Due line at (scalar (drop at line)) file b n value_tables
     flat-due = Values.value-flat-due levels d.due a q
 
-    pub value-flat : {after : List ℕ} {w : Written} → WroteTo line at (scalar (drop at line)) file after b n value_tables w → Placed line at (value levels (drop at line)) file after b n value_tables w used names names
+    pub value-flat : {after : List ℕ} {w-next : Next} {w-end : ℕ} → WroteTo line at (scalar (drop at line)) file after b n value_tables w-next w-end → Placed line at (value levels (drop at line)) file after b n value_tables w-next w-end used names names
     value-flat p = record { told = Values.value-flat levels d.due a q p; stays = Values.stays_self used names }
 
 -- ---- a record's words

@@ -19,7 +19,6 @@ use Rattle.jsonread.specs.Told.{Told}
 use Rattle.jsonread.proofs.Spelling.{never}
 use Rattle.jsonroom.specs.declared.Bodies.{Bodies}
 use Rattle.jsonroom.specs.declared.Next.{Next}
-use Rattle.jsonroom.specs.declared.Written.{Written}
 use Rattle.jsonroom.specs.Put.{ValuePut, StringRoom, StringPut}
 use Rattle.jsonparts.specs.Flat.{scalar}
 use Rattle.jsonruns.specs.declared.Two.{Two}
@@ -45,7 +44,7 @@ module _ {line : List ℕ} {at : ℕ} {file : List ℕ} {b : Bodies} {n : Next} 
     words = d.ready.words;
   }
 
-  pub text-wrote : {after : List ℕ} {r : Written} → StringPut line at file after b n r → WroteTo line at (string (drop at line)) file after b n name_tables r
+  pub text-wrote : {after : List ℕ} {r-next : Next} {r-end : ℕ} → StringPut line at file after b n r-next r-end → WroteTo line at (string (drop at line)) file after b n name_tables r-next r-end
   text-wrote p =
       let s = p d.what d.rest d.is in
       record {
@@ -61,14 +60,14 @@ module _ {line : List ℕ} {at : ℕ} {file : List ℕ} {b : Bodies} {n : Next} 
   pub name-text : Due line at (string (drop at line)) file b n name_tables
   name-text = d.due
 
-  module _ {after : List ℕ} {s : Written} (p : WroteTo line at (string (drop at line)) file after b n name_tables s) where
-    sign_of : (what rest : List ℕ) (sign : ℕ) (others : List ℕ) → string (drop at line) ≡ got what rest → blanks rest ≡ sign ∷ others → blanks (drop s.end line) ≡ sign ∷ others
+  module _ {after : List ℕ} {s-next : Next} {s-end : ℕ} (p : WroteTo line at (string (drop at line)) file after b n name_tables s-next s-end) where
+    sign_of : (what rest : List ℕ) (sign : ℕ) (others : List ℕ) → string (drop at line) ≡ got what rest → blanks rest ≡ sign ∷ others → blanks (drop s-end line) ≡ sign ∷ others
     sign_of what rest sign others f e = ap blanks (sym (p.is what rest f)) ∙ e
 
-    pub name-signed : Signed line s.end
+    pub name-signed : Signed line s-end
     name-signed = record { within = p.within; sign = d.sign; rest = d.others; is = sign_of d.due.what d.due.rest d.sign d.others d.due.is d.colon }
 
-    pub name-wrote : {v : ℕ} → Past line s.end v → NameWritten line at file after b n (record { next = s.next; end = v })
+    pub name-wrote : {v : ℕ} → Past line s-end v → NameWritten line at file after b n s-next v
     name-wrote q = record {
       within = q.within;
       is = λ name rest sign others f e. q.is sign others (sign_of name rest sign others f e);
@@ -88,18 +87,18 @@ module _ {line : List ℕ} {one other : ℕ} {file : List ℕ} {b : Bodies} {n :
   pub first-due : Due line one (string (drop one line)) file b n name_tables
   first-due = record { what = d.first; rest = d.first-is.rest; within = d.first-is.within; is = d.first-is.is; ready = ready-first (texts (d.first ∷ [])) (texts (d.second ∷ [])) both-ready }
 
-  module _ {mid : List ℕ} {s : Written} (p : WroteTo line one (string (drop one line)) file mid b n name_tables s) where
-    first-added : Adds file mid b n (texts (d.first ∷ [])) s.next
+  module _ {mid : List ℕ} {s-next : Next} {s-end : ℕ} (p : WroteTo line one (string (drop one line)) file mid b n name_tables s-next s-end) where
+    first-added : Adds file mid b n (texts (d.first ∷ [])) s-next
     first-added = p.adds d.first d.first-is.rest d.first-is.is
 
-    pub second-due : length mid ≡ length file → Due line other (string (drop other line)) mid b s.next name_tables
+    pub second-due : length mid ≡ length file → Due line other (string (drop other line)) mid b s-next name_tables
     second-due l = record { what = d.second; rest = d.second_is.rest; within = d.second_is.within; is = d.second_is.is; ready = ready-second (texts (d.first ∷ [])) (texts (d.second ∷ [])) (shaped-texts (d.first ∷ [])) both-ready first-added l }
 
-    pub two-wrote : {after : List ℕ} {t : Written} → WroteTo line other (string (drop other line)) mid after b s.next name_tables t → TwoWritten line one other file after b n t.next
-    two-wrote {after} {t} q = record {
+    pub two-wrote : {after : List ℕ} {t-next : Next} {t-end : ℕ} → WroteTo line other (string (drop other line)) mid after b s-next name_tables t-next t-end → TwoWritten line one other file after b n t-next
+    two-wrote {after} {t-next} {t-end} q = record {
       adds =
           λ x y u v.
-          subst (λ (z : Tables). Adds file after b n z t.next) (sym (two-texts x y))
+          subst (λ (z : Tables). Adds file after b n z t-next) (sym (two-texts x y))
           (adds_then (texts (x ∷ [])) (texts (y ∷ [])) (shaped-texts (x ∷ [])) (shaped-texts (y ∷ [])) (p.adds x u.rest u.is) (q.adds y v.rest v.is));
     }
 
@@ -133,11 +132,11 @@ module _ {line : List ℕ} {at : ℕ} {file : List ℕ} {b : Bodies} {n : Next} 
   pub string-word : n.string ≤ 4294967295
   string-word = omega (arith, string-words d.ready)
 
-  module _ {after : List ℕ} {s : Written} (p : WroteTo line at (string (drop at line)) file after b n name_tables s) where
-    pub string-room : length after ≡ length file → b.values + 16 * s.next.value + 16 ≤ length after
+  module _ {after : List ℕ} {s-next : Next} {s-end : ℕ} (p : WroteTo line at (string (drop at line)) file after b n name_tables s-next s-end) where
+    pub string-room : length after ≡ length file → b.values + 16 * s-next.value + 16 ≤ length after
     string-room l = behind-room (plain-text.what ∷ []) 4 n.string 0 string-ready (p.adds plain-text.what plain-text.rest plain-text.is) l
 
-    pub string-wrote : {last : List ℕ} {x : ℕ} {k : Next} → ValuePut after last b s.next 4 x 0 k → x ≡ n.string → WroteTo line at (mapped Text (string (drop at line))) file last b n value_tables (record { next = k; end = s.end })
+    pub string-wrote : {last : List ℕ} {x : ℕ} {k : Next} → ValuePut after last b s-next 4 x 0 k → x ≡ n.string → WroteTo line at (mapped Text (string (drop at line))) file last b n value_tables k s-end
     unfolding numbers
     string-wrote {last} {x} {k} v e =
         wrote-from Text refl value_tables (omega arith) (record {
@@ -171,7 +170,7 @@ module _ (x : Bool) {line : List ℕ} {at : ℕ} {file : List ℕ} {b : Bodies} 
     two : TwoIs line x r d.what
     two = t.two d.what d.rest d.is
 
-    form-wrote : {last : List ℕ} {k : Next} → ((j : J) → TwoIs line x r j → Adds file last b n (value_tables j (numbers n)) k) → WroteTo line at (form_read x (drop at line)) file last b n value_tables (record { next = k; end = r.end })
+    form-wrote : {last : List ℕ} {k : Next} → ((j : J) → TwoIs line x r j → Adds file last b n (value_tables j (numbers n)) k) → WroteTo line at (form_read x (drop at line)) file last b n value_tables k r.end
     form-wrote f = record { from = t.from; within = t.within; is = t.is; adds = λ what rest e. f what (t.two what rest e) }
 
     module _ (e : x ≡ true) where
@@ -185,11 +184,11 @@ module _ (x : Bool) {line : List ℕ} {at : ℕ} {file : List ℕ} {b : Bodies} 
       pub decimal-due : Due line r.second (string (drop r.second line)) file b n name_tables
       decimal-due = record { what = two.other; rest = two.second.rest; within = two.second.within; is = two.second.is; ready = ready-first (texts (two.other ∷ [])) _ decimal-ready }
 
-      module _ {after : List ℕ} {s : Written} (p : WroteTo line r.second (string (drop r.second line)) file after b n name_tables s) where
-        pub decimal-room : length after ≡ length file → b.values + 16 * s.next.value + 16 ≤ length after
+      module _ {after : List ℕ} {s-next : Next} {s-end : ℕ} (p : WroteTo line r.second (string (drop r.second line)) file after b n name_tables s-next s-end) where
+        pub decimal-room : length after ≡ length file → b.values + 16 * s-next.value + 16 ≤ length after
         decimal-room l = behind-room (two.other ∷ []) 3 n.string 0 decimal-ready (p.adds two.other two.second.rest two.second.is) l
 
-        pub decimal-wrote : {last : List ℕ} {z : ℕ} {k : Next} → ValuePut after last b s.next 3 z 0 k → z ≡ n.string → WroteTo line at (form_read x (drop at line)) file last b n value_tables (record { next = k; end = r.end })
+        pub decimal-wrote : {last : List ℕ} {z : ℕ} {k : Next} → ValuePut after last b s-next 3 z 0 k → z ≡ n.string → WroteTo line at (form_read x (drop at line)) file last b n value_tables k r.end
         decimal-wrote {last} {z} {k} v q =
             form-wrote (λ j w.
             subst (λ (u : Tables). Adds file last b n u k) (sym (decimal_of_lem j w))
@@ -214,7 +213,7 @@ module _ (x : Bool) {line : List ℕ} {at : ℕ} {file : List ℕ} {b : Bodies} 
         pub entity-room : length after ≡ length file → b.values + 16 * next.value + 16 ≤ length after
         entity-room l = behind-room (two.one ∷ two.other ∷ []) 5 n.string (n.string + 1) entity-ready (p.adds two.one two.other two.first two.second) l
 
-        pub entity-wrote : {last : List ℕ} {z : ℕ} {k : Next} {y : ℕ} → ValuePut after last b next 5 z y k → z ≡ n.string → y ≡ n.string + 1 → WroteTo line at (form_read x (drop at line)) file last b n value_tables (record { next = k; end = r.end })
+        pub entity-wrote : {last : List ℕ} {z : ℕ} {k : Next} {y : ℕ} → ValuePut after last b next 5 z y k → z ≡ n.string → y ≡ n.string + 1 → WroteTo line at (form_read x (drop at line)) file last b n value_tables k r.end
         entity-wrote {last} {z} {k} {y} v q o =
             form-wrote (λ j w.
             subst (λ (u : Tables). Adds file last b n u k) (sym (entity_of_lem j w))
@@ -233,7 +232,7 @@ module _ {line : List ℕ} {at : ℕ} {file : List ℕ} {b : Bodies} {n : Next} 
     pub flat-text : Due line at (mapped Text (string (drop at line))) file b n value_tables
     flat-text = due-at (text-is flat_good q) value_tables d.within d
 
-    pub flat-text-wrote : {after : List ℕ} {w : Written} → WroteTo line at (mapped Text (string (drop at line))) file after b n value_tables w → WroteTo line at (scalar (drop at line)) file after b n value_tables w
+    pub flat-text-wrote : {after : List ℕ} {w-next : Next} {w-end : ℕ} → WroteTo line at (mapped Text (string (drop at line))) file after b n value_tables w-next w-end → WroteTo line at (scalar (drop at line)) file after b n value_tables w-next w-end
     flat-text-wrote p = wrote_at (text-is flat_good q) value_tables (omega arith) p
 
   pub flat-other : (get_or line at 0 ≡ 34 → ⊥) → FlatDue line at
@@ -245,7 +244,7 @@ module _ {line : List ℕ} {at : ℕ} {file : List ℕ} {b : Bodies} {n : Next} 
     flat-room = omega (arith, ready-values (subst (λ (u : Tables). Ready file b n u) (t.is d.what d.rest (numbers n) d.is) d.ready))
 
     module _ {x : Step} (p : Told line at x (scalar (drop at line))) where
-      pub flat-wrote : {e : ℕ} {last : List ℕ} {k : Next} → x ≡ At e → ValuePut file last b n f.kind f.x f.y k → WroteTo line at (scalar (drop at line)) file last b n value_tables (record { next = k; end = e })
+      pub flat-wrote : {e : ℕ} {last : List ℕ} {k : Next} → x ≡ At e → ValuePut file last b n f.kind f.x f.y k → WroteTo line at (scalar (drop at line)) file last b n value_tables k e
       flat-wrote {e} {last} {k} z v =
           let s = p.stands e z in
           record {
@@ -255,5 +254,5 @@ module _ {line : List ℕ} {at : ℕ} {file : List ℕ} {b : Bodies} {n : Next} 
             adds = λ what rest g. subst (λ (u : Tables). Adds file last b n u k) (sym (t.is what rest (numbers n) g)) (value-adds f.kind f.x f.y v);
           }
 
-  pub flat-never : {x : Step} {w : Fault} {p q e : ℕ} {last : List ℕ} {k : Next} → Told line at x (scalar (drop at line)) → x ≡ Bad w p q → WroteTo line at (scalar (drop at line)) file last b n value_tables (record { next = k; end = e })
+  pub flat-never : {x : Step} {w : Fault} {p q e : ℕ} {last : List ℕ} {k : Next} → Told line at x (scalar (drop at line)) → x ≡ Bad w p q → WroteTo line at (scalar (drop at line)) file last b n value_tables k e
   flat-never t z = absurd (never (sym (t.faulty _ _ _ z).is ∙ d.is))

@@ -19,7 +19,6 @@ use Rattle.jsontrace.specs.Trace.{Tables, ◌⊕◌, value as value·Trace, memb
 use Rattle.jsontrace.proofs.Laws.Trace.{shaped}
 use Rattle.jsonroom.specs.declared.Bodies.{Bodies}
 use Rattle.jsonroom.specs.declared.Next.{Next}
-use Rattle.jsonroom.specs.declared.Written.{Written}
 use Rattle.jsonruns.specs.declared.Part.{Part as Position}
 use Rattle.jsonruns.specs.declared.Part.TheVariants.{Next as Goes, Closed}
 use Rattle.jsonruns.specs.Good.{Signed, BeginTold, PartTold}
@@ -211,46 +210,46 @@ module _ (levels : ℕ) {line : List ℕ} {at : ℕ} {names₀ names : List ℕ}
   pub item_count : Fits w64 (k + 1)
   item_count = record { fits = omega (arith, member-room g.long, g.due.ready.words, g.long) }
 
-  module _ {names' after : List ℕ} {w : Written} (p : WroteTo line i (value levels (drop i line)) file after b next value_tables w) (q : Stays used names names') (l : length after ≡ length file) where
-    wrote : Adds file after b next child w.next
+  module _ {names' after : List ℕ} {w-next : Next} {w-end : ℕ} (p : WroteTo line i (value levels (drop i line)) file after b next value_tables w-next w-end) (q : Stays used names names') (l : length after ≡ length file) where
+    wrote : Adds file after b next child w-next
     wrote = p.adds fill-turn.what fill-turn.after fill-turn.part
 
-    next-is : w.next ≡ beyond next child
+    next-is : w-next ≡ beyond next child
     unfolding item-due fill-turn
     next-is = adds-next item-due.ready wrote
 
-    number_is : last_value (numbers next) child ≡ w.next.value - 1
+    number_is : last_value (numbers next) child ≡ w-next.value - 1
     unfolding last_value numbers beyond
     number_is = ap (λ (m : Next). m.value - 1) (sym next-is)
 
-    pub item-some : 1 ≤ w.next.value
+    pub item-some : 1 ≤ w-next.value
     unfolding beyond
     item-some = omega (arith, ap (λ (m : Next). m.value) next-is, value-one (ordered fill-turn.what) (numbers next))
 
-    pub item-word : w.next.value - 1 ≤ 4294967295
+    pub item-word : w-next.value - 1 ≤ 4294967295
     unfolding beyond
     item-word = omega (arith, ap (λ (m : Next). m.value) next-is, value-words (ready-first child later.1 (rows-ready g.roomy here-rows g.long)))
 
     pub item_room : b.members + 8 * (n.member + k) + 8 ≤ length after
     item_room = omega (arith, member-room g.long)
 
-    sign-here : blanks (drop w.end line) ≡ fill-turn.sign ∷ fill-turn.others
+    sign-here : blanks (drop w-end line) ≡ fill-turn.sign ∷ fill-turn.others
     sign-here = ap blanks (sym (p.is fill-turn.what fill-turn.after fill-turn.part)) ∙ fill-turn.byte
 
-    pub item-signed : Signed line w.end
+    pub item-signed : Signed line w-end
     item-signed = record { within = p.within; sign = fill-turn.sign; rest = fill-turn.others; is = sign-here }
 
-    module _ {last : List ℕ} (m : Writing after last (b.members + 8 * (n.member + k)) (packed (4294967295 ∷ (w.next.value - 1) ∷ []))) (h : length last ≡ length after) where
-      next-rows : Rows before last b n count (whole_of g.due.what n) (rest_of head_of.others (numbers w.next)) w.next (n.member + (k + 1))
+    module _ {last : List ℕ} (m : Writing after last (b.members + 8 * (n.member + k)) (packed (4294967295 ∷ (w-next.value - 1) ∷ []))) (h : length last ≡ length after) where
+      next-rows : Rows before last b n count (whole_of g.due.what n) (rest_of head_of.others (numbers w-next)) w-next (n.member + (k + 1))
       next-rows =
-          let e : numbers w.next ≡ past (numbers next) child = ap numbers next-is ∙ numbers-beyond next child in
+          let e : numbers w-next ≡ past (numbers next) child = ap numbers next-is ∙ numbers-beyond next child in
           let o : n.member + k + 1 ≡ n.member + (k + 1) = omega arith in
-          subst (λ (r : ℕ). Rows before last b n count (whole_of g.due.what n) (rest_of head_of.others (numbers w.next)) w.next r) o (subst (λ (q : Next-as_Trace). Rows before last b n count (whole_of g.due.what n) (rest_of head_of.others q) w.next (n.member + k + 1)) (sym e)
+          subst (λ (r : ℕ). Rows before last b n count (whole_of g.due.what n) (rest_of head_of.others (numbers w-next)) w-next r) o (subst (λ (q : Next-as_Trace). Rows before last b n count (whole_of g.due.what n) (rest_of head_of.others q) w-next (n.member + k + 1)) (sym e)
           (rows_step nothing (last_value (numbers next) child) later.0 child later.1 g.roomy (shaped (ordered fill-turn.what) (numbers next)) here-rows next-is wrote
           (subst (λ (v : ℕ). Writing after last (b.members + 8 * (n.member + k)) (packed (nothing ∷ v ∷ []))) (sym number_is) m)))
 
-      module _ {x : Position} (t : PartTold line w.end 93 x) where
-        pub items-closed : {e : ℕ} → x ≡ Closed e → AddsTo (array (value levels) (drop at line)) before last b n array_tables w.next
+      module _ {x : Position} (t : PartTold line w-end 93 x) where
+        pub items-closed : {e : ℕ} → x ≡ Closed e → AddsTo (array (value levels) (drop at line)) before last b n array_tables w-next
         unfolding items_tables items_add ordered_items item_parts
         items-closed {e} y = record {
           adds =
@@ -259,11 +258,11 @@ module _ (levels : ℕ) {line : List ℕ} {at : ℕ} {names₀ names : List ℕ}
               let same = sym sign-here ∙ c.is in
               let z : fill-turn.sign ≡ 93 = cc in
               let o : head_of.others ≡ [] = let a = sym head_of.is ∙ fill-turn.alone z in cc in
-              subst (λ (js : List J). Adds before last b n (array_tables js (numbers n)) w.next) (same-got g.due.is f)
+              subst (λ (js : List J). Adds before last b n (array_tables js (numbers n)) w-next) (same-got g.due.is f)
               (rows_end g.roomy next-rows (rw o) (rw o));
         }
 
-        pub items-again : {j : ℕ} → x ≡ Goes j → Filling levels line at names₀ names' used before last b n count w.next (k + 1) j
+        pub items-again : {j : ℕ} → x ≡ Goes j → Filling levels line at names₀ names' used before last b n count w-next (k + 1) j
         unfolding named item_parts
         items-again {j} y =
             let c = t.next j y in

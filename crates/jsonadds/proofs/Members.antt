@@ -17,7 +17,6 @@ use Rattle.jsontrace.specs.Trace.{Tables, ◌⊕◌, texts, Next as Next-as_Trac
 use Rattle.jsontrace.proofs.Laws.Trace.{shaped, shaped-texts, ◌then◌}
 use Rattle.jsonroom.specs.declared.Bodies.{Bodies}
 use Rattle.jsonroom.specs.declared.Next.{Next}
-use Rattle.jsonroom.specs.declared.Written.{Written}
 use Rattle.jsonruns.proofs.Runs.{same-got, same_rest}
 use Rattle.jsonview.specs.Room.{Ready, Adds, numbers, beyond, leaving}
 use Rattle.jsonview.specs.Filling.{numbers-beyond}
@@ -191,35 +190,35 @@ module _ {levels : ℕ} {line names₀ names : List ℕ} {used stop : ℕ} {befo
       colon = front.stands.colon;
     }
 
-    module _ {mid : List ℕ} {s : Written} (p : NameWritten line (get_or names i 0) file mid b next s) (l : length mid ≡ length file) where
-      name-added : Adds file mid b next name-tables s.next
+    module _ {mid : List ℕ} {s-next : Next} {s-end : ℕ} (p : NameWritten line (get_or names i 0) file mid b next s-next s-end) (l : length mid ≡ length file) where
+      name-added : Adds file mid b next name-tables s-next
       name-added = p.adds front.name front.stands.after name-reads
 
-      name-next : s.next ≡ beyond next name-tables
+      name-next : s-next ≡ beyond next name-tables
       name-next = adds-next (ready-first name-tables child both-ready) name-added
 
-      name-numbers : numbers s.next ≡ past (numbers next) name-tables
+      name-numbers : numbers s-next ≡ past (numbers next) name-tables
       name-numbers = ap numbers name-next ∙ numbers-beyond next name-tables
 
-      child-is : value_tables front.stands.value-is (numbers s.next) ≡ child
+      child-is : value_tables front.stands.value-is (numbers s-next) ≡ child
       child-is = ap (λ (k : Next-as_Trace). value_adds (ordered front.stands.value-is) k) name-numbers ∙ ap (λ (o : J). value_adds o (past (numbers next) name-tables)) (sym front.stands.is)
 
-      value-reads : value levels (drop s.end line) ≡ got front.stands.value-is front.stands.rest
+      value-reads : value levels (drop s-end line) ≡ got front.stands.value-is front.stands.rest
       value-reads = ap (value levels) (p.is front.name front.stands.after 58 front.stands.from name-reads front.stands.colon) ∙ front.stands.reads
 
-      child-ready : Ready mid b s.next child
+      child-ready : Ready mid b s-next child
       child-ready = ready-second name-tables child (shaped-texts (front.name ∷ [])) both-ready name-added l
 
-      pub part-due : Due line s.end (value levels (drop s.end line)) mid b s.next value_tables
+      pub part-due : Due line s-end (value levels (drop s-end line)) mid b s-next value_tables
       part-due = record {
         what = front.stands.value-is;
         rest = front.stands.rest;
         within = p.within;
         is = value-reads;
-        ready = subst (λ (t : Tables). Ready mid b s.next t) (sym child-is) child-ready;
+        ready = subst (λ (t : Tables). Ready mid b s-next t) (sym child-is) child-ready;
       }
 
-      pub part-spare : Spare (value levels (drop s.end line)) names stop named
+      pub part-spare : Spare (value levels (drop s-end line)) names stop named
       unfolding inside
       part-spare = record {
         is =
@@ -228,28 +227,28 @@ module _ {levels : ℕ} {line names₀ names : List ℕ} {used stop : ℕ} {befo
             omega (arith, z, g.spare, ap inside front.is, g.stays.long);
       }
 
-      module _ {names' after : List ℕ} {w : Written} (v : WroteTo line s.end (value levels (drop s.end line)) mid after b s.next value_tables w) (q : Stays stop names names') (m : length after ≡ length mid) where
-        child-added : Adds mid after b s.next child w.next
-        child-added = subst (λ (t : Tables). Adds mid after b s.next t w.next) child-is (v.adds front.stands.value-is front.stands.rest value-reads)
+      module _ {names' after : List ℕ} {w-next : Next} {w-end : ℕ} (v : WroteTo line s-end (value levels (drop s-end line)) mid after b s-next value_tables w-next w-end) (q : Stays stop names names') (m : length after ≡ length mid) where
+        child-added : Adds mid after b s-next child w-next
+        child-added = subst (λ (t : Tables). Adds mid after b s-next t w-next) child-is (v.adds front.stands.value-is front.stands.rest value-reads)
 
-        both-added : Adds file after b next (name-tables ⊕ child) w.next
+        both-added : Adds file after b next (name-tables ⊕ child) w-next
         both-added = adds_then name-tables child (shaped-texts (front.name ∷ [])) (shaped front.value_of (past (numbers next) name-tables)) name-added child-added
 
-        next-is : w.next ≡ beyond next (name-tables ⊕ child)
+        next-is : w-next ≡ beyond next (name-tables ⊕ child)
         next-is = adds-next both-ready both-added
 
-        number_is : last_value (numbers next) child ≡ w.next.value - 1
+        number_is : last_value (numbers next) child ≡ w-next.value - 1
         unfolding last_value numbers beyond ◌⊕◌ texts
         number_is = ap (λ (k : Next). k.value - 1) (sym next-is)
 
-        numbers-are : numbers w.next ≡ past (past (numbers next) name-tables) child
-        numbers-are = ap numbers (adds-next child-ready child-added) ∙ numbers-beyond s.next child ∙ ap (λ (k : Next-as_Trace). past k child) name-numbers
+        numbers-are : numbers w-next ≡ past (past (numbers next) name-tables) child
+        numbers-are = ap numbers (adds-next child-ready child-added) ∙ numbers-beyond s-next child ∙ ap (λ (k : Next-as_Trace). past k child) name-numbers
 
-        pub part-some : 1 ≤ w.next.value
+        pub part-some : 1 ≤ w-next.value
         unfolding beyond
         part-some = omega (arith, ap (λ (k : Next). k.value) (adds-next child-ready child-added), value-one front.value_of (past (numbers next) name-tables))
 
-        pub part-word : w.next.value - 1 ≤ 4294967295
+        pub part-word : w-next.value - 1 ≤ 4294967295
         unfolding beyond
         part-word = omega (arith, ap (λ (k : Next). k.value) (adds-next child-ready child-added), value-words child-ready)
 
@@ -264,7 +263,7 @@ module _ {levels : ℕ} {line names₀ names : List ℕ} {used stop : ℕ} {befo
             let short : suc (length here-rows.done) ≤ stop - used = omega (arith, g.roomy.all, ap length here-rows.rows, length-append here-rows.done (row ∷ later.0)) in
             omega (arith, roomy-member g.roomy, here-rows.place, g.long)
 
-        pub part-again : {last : List ℕ} → Writing after last (b.members + 8 * (n.member + (i - used))) (packed (next.string ∷ (w.next.value - 1) ∷ [])) → length last ≡ length after → Gathering levels line names₀ names' used stop before last b n w.next (i + 1)
+        pub part-again : {last : List ℕ} → Writing after last (b.members + 8 * (n.member + (i - used))) (packed (next.string ∷ (w-next.value - 1) ∷ [])) → length last ≡ length after → Gathering levels line names₀ names' used stop before last b n w-next (i + 1)
         unfolding inside many
         part-again {last} u o = record {
           due = g.due;
@@ -277,8 +276,8 @@ module _ {levels : ℕ} {line names₀ names : List ℕ} {used stop : ℕ} {befo
           from = omega (arith, g.from);
           rows =
               let z : n.member + (i - used) + 1 ≡ n.member + (i + 1 - used) = omega (arith, g.from) in
-              subst (λ (r : ℕ). Rows before last b n (stop - used) (whole_of g.due.parts n) (members_add front.others (numbers w.next)) w.next r) z
-              (subst (λ (k : Next-as_Trace). Rows before last b n (stop - used) (whole_of g.due.parts n) (members_add front.others k) w.next (n.member + (i - used) + 1)) (sym numbers-are)
+              subst (λ (r : ℕ). Rows before last b n (stop - used) (whole_of g.due.parts n) (members_add front.others (numbers w-next)) w-next r) z
+              (subst (λ (k : Next-as_Trace). Rows before last b n (stop - used) (whole_of g.due.parts n) (members_add front.others k) w-next (n.member + (i - used) + 1)) (sym numbers-are)
               (rows_step next.string (last_value (numbers next) child) later.0 (name-tables ⊕ child) later.1 g.roomy
               (shaped-texts (front.name ∷ []) then shaped front.value_of (past (numbers next) name-tables)) here-rows next-is both-added
               (subst (λ (x : ℕ). Writing after last (b.members + 8 * (n.member + (i - used))) (packed (next.string ∷ x ∷ []))) (sym number_is) u)));

@@ -15,7 +15,6 @@ use Rattle.jsontrace.proofs.Laws.Trace.{Shaped, shaped-items, shaped-parts, shap
 use Rattle.jsonread.proofs.Spelling.{came}
 use Rattle.jsonroom.specs.declared.Bodies.{Bodies}
 use Rattle.jsonroom.specs.declared.Next.{Next}
-use Rattle.jsonroom.specs.declared.Written.{Written}
 use Rattle.jsonroom.specs.Put.{ValuePut}
 use Rattle.jsonparts.specs.Flat.{scalar}
 use Rattle.jsonruns.specs.Good.{Good}
@@ -41,12 +40,12 @@ module _ {A B : Type 0} (f : A → B) {line : List ℕ} {at i : ℕ} {r : Read B
       let c = came f m (sym e ∙ d.is) in
       record { what = c.what; rest = d.rest; within = h; is = c.is; ready = subst (λ (x : B). Ready file b n (t x (numbers n))) c.makes d.ready }
 
-  pub wrote-from : {before after : List ℕ} {w : Written} → at ≤ i → WroteTo line i m before after b n (λ a k. t (f a) k) w → WroteTo line at r before after b n t w
-  wrote-from {before} {after} {w} h p = record {
+  pub wrote-from : {before after : List ℕ} {w-next : Next} {w-end : ℕ} → at ≤ i → WroteTo line i m before after b n (λ a k. t (f a) k) w-next w-end → WroteTo line at r before after b n t w-next w-end
+  wrote-from {before} {after} {w-next} {w-end} h p = record {
     from = omega (arith, p.from);
     within = p.within;
     is = λ what rest q. p.is _ rest (came f m (sym e ∙ q)).is;
-    adds = λ what rest q. let c = came f m (sym e ∙ q) in subst (λ (x : B). Adds before after b n (t x (numbers n)) w.next) (sym c.makes) (p.adds c.what rest c.is);
+    adds = λ what rest q. let c = came f m (sym e ∙ q) in subst (λ (x : B). Adds before after b n (t x (numbers n)) w-next) (sym c.makes) (p.adds c.what rest c.is);
   }
 
 pub spare-from : {A B : Type 0} (f : A → B) {r : Read B} {m : Read A} {names : List ℕ} {used : ℕ} (count : B → ℕ) → r ≡ mapped f m → Spare r names used count → Spare m names used (λ a. count (f a))
@@ -61,7 +60,7 @@ module _ {A : Type 0} {line : List ℕ} {at i : ℕ} {r m : Read A} (e : r ≡ m
   pub due-at : {file : List ℕ} → i ≤ length line → Due line at r file b n t → Due line i m file b n t
   due-at h d = record { what = d.what; rest = d.rest; within = h; is = sym e ∙ d.is; ready = d.ready }
 
-  pub wrote_at : {before after : List ℕ} {w : Written} → at ≤ i → WroteTo line i m before after b n t w → WroteTo line at r before after b n t w
+  pub wrote_at : {before after : List ℕ} {w-next : Next} {w-end : ℕ} → at ≤ i → WroteTo line i m before after b n t w-next w-end → WroteTo line at r before after b n t w-next w-end
   wrote_at h p = record { from = omega (arith, p.from); within = p.within; is = λ what rest q. p.is what rest (sym e ∙ q); adds = λ what rest q. p.adds what rest (sym e ∙ q) }
 
 pub spare-at : {A : Type 0} {r m : Read A} {names : List ℕ} {used : ℕ} {count : A → ℕ} → r ≡ m → Spare r names used count → Spare m names used count
@@ -166,7 +165,7 @@ module _ (levels : ℕ) {line : List ℕ} {at : ℕ} {file : List ℕ} {b : Bodi
       pub array-room : length after ≡ length file → b.values + 16 * next.value + 16 ≤ length after
       array-room l = record_room array_tables 6 length array-held d run-shaped added l
 
-      pub array-wrote : {last : List ℕ} {x y : ℕ} {k : Next} → ValuePut after last b next 6 x y k → x ≡ n.member → y ≡ c.count → WroteTo line at (array (value levels) (drop at line)) file last b n array_value (record { next = k; end = c.end })
+      pub array-wrote : {last : List ℕ} {x y : ℕ} {k : Next} → ValuePut after last b next 6 x y k → x ≡ n.member → y ≡ c.count → WroteTo line at (array (value levels) (drop at line)) file last b n array_value k c.end
       array-wrote {last} {k = k} v e f = record {
         from = t.from;
         within = t.within;
@@ -210,7 +209,7 @@ module _ (levels : ℕ) {line : List ℕ} {at : ℕ} {file : List ℕ} {b : Bodi
       pub object-stays : Stays used names last-names
       object-stays = record { long = omega (arith, p.stays.long, t.stays.long); same = λ k h. p.stays.same k (omega arith) ∙ t.stays.same k h }
 
-      pub object-wrote : {last : List ℕ} {x y : ℕ} {k : Next} → ValuePut after last b next 7 x y k → x ≡ n.member → y ≡ c.count → WroteTo line at (object_read levels (drop at line)) file last b n object_value (record { next = k; end = c.end })
+      pub object-wrote : {last : List ℕ} {x y : ℕ} {k : Next} → ValuePut after last b next 7 x y k → x ≡ n.member → y ≡ c.count → WroteTo line at (object_read levels (drop at line)) file last b n object_value k c.end
       object-wrote {last} {k = k} v e f = record {
         from = t.from;
         within = t.within;
@@ -235,21 +234,21 @@ module _ (levels : ℕ) {line : List ℕ} {at : ℕ} {file : List ℕ} {b : Bodi
       pub plain-spare : {names : List ℕ} {used : ℕ} → Spare (braced_read levels (drop at line)) names used named → Spare (object_read levels (drop at line)) names used named_members
       plain-spare s = spare-from (λ ms. Object (member_parts ms)) named (object-is levels braced-good k z) s
 
-      pub plain-wrote : {after : List ℕ} {w : Written} → WroteTo line at (object_read levels (drop at line)) file after b n object_value w → WroteTo line at (braced_read levels (drop at line)) file after b n value_tables w
+      pub plain-wrote : {after : List ℕ} {w-next : Next} {w-end : ℕ} → WroteTo line at (object_read levels (drop at line)) file after b n object_value w-next w-end → WroteTo line at (braced_read levels (drop at line)) file after b n value_tables w-next w-end
       plain-wrote p = wrote-from (λ ms. Object (member_parts ms)) (object-is levels braced-good k z) value_tables (omega arith) p
 
     module _ (z : x ≡ Entity) where
       pub entity-due : Due line at (form_read false (drop at line)) file b n value_tables
       entity-due = due-at (entity-is levels braced-good k z) value_tables d.within d
 
-      pub entity-wrote : {after : List ℕ} {w : Written} → WroteTo line at (form_read false (drop at line)) file after b n value_tables w → WroteTo line at (braced_read levels (drop at line)) file after b n value_tables w
+      pub entity-wrote : {after : List ℕ} {w-next : Next} {w-end : ℕ} → WroteTo line at (form_read false (drop at line)) file after b n value_tables w-next w-end → WroteTo line at (braced_read levels (drop at line)) file after b n value_tables w-next w-end
       entity-wrote p = wrote_at (entity-is levels braced-good k z) value_tables (omega arith) p
 
     module _ (z : x ≡ Extension) where
       pub extension-due : Due line at (form_read true (drop at line)) file b n value_tables
       extension-due = due-at (extension-is levels braced-good k z) value_tables d.within d
 
-      pub extension-wrote : {after : List ℕ} {w : Written} → WroteTo line at (form_read true (drop at line)) file after b n value_tables w → WroteTo line at (braced_read levels (drop at line)) file after b n value_tables w
+      pub extension-wrote : {after : List ℕ} {w-next : Next} {w-end : ℕ} → WroteTo line at (form_read true (drop at line)) file after b n value_tables w-next w-end → WroteTo line at (braced_read levels (drop at line)) file after b n value_tables w-next w-end
       extension-wrote p = wrote_at (extension-is levels braced-good k z) value_tables (omega arith) p
 
 -- ---- a value
@@ -277,7 +276,7 @@ module _ (levels : ℕ) {line : List ℕ} {at : ℕ} {file : List ℕ} {b : Bodi
     pub value-array-spare : {names : List ℕ} {used : ℕ} → Spare (value levels (drop at line)) names used named → Spare (array (value (levels - 1)) (drop (at + 1) line)) names used named_items
     value-array-spare s = spare-from (λ js. Array (item_parts js)) named (array-is levels value-good q) s
 
-    pub value-array : {after : List ℕ} {w : Written} → WroteTo line (at + 1) (array (value (levels - 1)) (drop (at + 1) line)) file after b n array_value w → WroteTo line at (value levels (drop at line)) file after b n value_tables w
+    pub value-array : {after : List ℕ} {w-next : Next} {w-end : ℕ} → WroteTo line (at + 1) (array (value (levels - 1)) (drop (at + 1) line)) file after b n array_value w-next w-end → WroteTo line at (value levels (drop at line)) file after b n value_tables w-next w-end
     value-array p = wrote-from (λ js. Array (item_parts js)) (array-is levels value-good q) value_tables (omega arith) p
 
   module _ (q : get_or line at 0 ≡ 123) where
@@ -287,14 +286,14 @@ module _ (levels : ℕ) {line : List ℕ} {at : ℕ} {file : List ℕ} {b : Bodi
     pub value-braced-spare : {names : List ℕ} {used : ℕ} → Spare (value levels (drop at line)) names used named → Spare (braced_read (levels - 1) (drop (at + 1) line)) names used named
     value-braced-spare s = spare-at (braced-is levels value-good q) s
 
-    pub value-braced : {after : List ℕ} {w : Written} → WroteTo line (at + 1) (braced_read (levels - 1) (drop (at + 1) line)) file after b n value_tables w → WroteTo line at (value levels (drop at line)) file after b n value_tables w
+    pub value-braced : {after : List ℕ} {w-next : Next} {w-end : ℕ} → WroteTo line (at + 1) (braced_read (levels - 1) (drop (at + 1) line)) file after b n value_tables w-next w-end → WroteTo line at (value levels (drop at line)) file after b n value_tables w-next w-end
     value-braced p = wrote_at (braced-is levels value-good q) value_tables (omega arith) p
 
   module _ (a : get_or line at 0 ≡ 91 → ⊥) (q : get_or line at 0 ≡ 123 → ⊥) where
     pub value-flat-due : Due line at (scalar (drop at line)) file b n value_tables
     value-flat-due = due-at (scalar_is levels value-good a q) value_tables d.within d
 
-    pub value-flat : {after : List ℕ} {w : Written} → WroteTo line at (scalar (drop at line)) file after b n value_tables w → WroteTo line at (value levels (drop at line)) file after b n value_tables w
+    pub value-flat : {after : List ℕ} {w-next : Next} {w-end : ℕ} → WroteTo line at (scalar (drop at line)) file after b n value_tables w-next w-end → WroteTo line at (value levels (drop at line)) file after b n value_tables w-next w-end
     value-flat p = wrote_at (scalar_is levels value-good a q) value_tables (omega arith) p
 
 pub stays_self : (used : ℕ) (names : List ℕ) → Stays used names names

@@ -15,7 +15,6 @@ use Rattle.jsonruns.specs.Forms.{Says}
 use Rattle.jsonruns.specs.Run.{Member}
 use Rattle.jsonroom.specs.declared.Bodies.{Bodies}
 use Rattle.jsonroom.specs.declared.Next.{Next}
-use Rattle.jsonroom.specs.declared.Written.{Written}
 use Rattle.jsonview.specs.Room.{Ready, Adds, numbers}
 use Rattle.jsonnames.specs.Sorted.{Sorted}
 use Rattle.jsonsort.specs.Sort.{Cells, Scattered, Ascends}
@@ -80,11 +79,11 @@ pub record Due {A : Type 0} (line : List ℕ) (at : ℕ) (m : Read A) (file : Li
   pub ready : Ready file b n (tables what (numbers n))
 
 -- what was read up to the end is written
-pub record WroteTo {A : Type 0} (line : List ℕ) (at : ℕ) (m : Read A) (before after : List ℕ) (b : Bodies) (n : Next) (tables : A → Next-as_Trace → Tables) (r : Written) : Type 0 where
-  pub from : at ≤ r.end
-  pub within : r.end ≤ length line
-  pub is : (what : A) (rest : List ℕ) → m ≡ got what rest → rest ≡ drop r.end line
-  pub adds : (what : A) (rest : List ℕ) → m ≡ got what rest → Adds before after b n (tables what (numbers n)) r.next
+pub record WroteTo {A : Type 0} (line : List ℕ) (at : ℕ) (m : Read A) (before after : List ℕ) (b : Bodies) (n : Next) (tables : A → Next-as_Trace → Tables) (next : Next) (e : ℕ) : Type 0 where
+  pub from : at ≤ e
+  pub within : e ≤ length line
+  pub is : (what : A) (rest : List ℕ) → m ≡ got what rest → rest ≡ drop e line
+  pub adds : (what : A) (rest : List ℕ) → m ≡ got what rest → Adds before after b n (tables what (numbers n)) next
 
 -- what was read is written, wherever it ends
 pub record AddsTo {A : Type 0} (m : Read A) (before after : List ℕ) (b : Bodies) (n : Next) (tables : A → Next-as_Trace → Tables) (r : Next) : Type 0 where
@@ -105,7 +104,7 @@ pub record PlaceDue {A : Type 0} (line : List ℕ) (at : ℕ) (m : Read A) (file
   pub spare : Spare m names used count
 
 -- what was written, the names of open objects being as they were
-pub record Placed {A : Type 0} (line : List ℕ) (at : ℕ) (m : Read A) (before after : List ℕ) (b : Bodies) (n : Next) (tables : A → Next-as_Trace → Tables) (r : Written) (used : ℕ) (names names' : List ℕ) : Type 0 where
+pub record Placed {A : Type 0} (line : List ℕ) (at : ℕ) (m : Read A) (before after : List ℕ) (b : Bodies) (n : Next) (tables : A → Next-as_Trace → Tables) (next : Next) (e : ℕ) (used : ℕ) (names names' : List ℕ) : Type 0 where
   pub told : WroteTo line at m before after b n tables r
   pub stays : Stays used names names'
 
@@ -136,10 +135,10 @@ pub record NameDue (line : List ℕ) (at : ℕ) (file : List ℕ) (b : Bodies) (
   pub colon : blanks due.rest ≡ sign ∷ others
 
 -- the name is written, and the value behind its colon begins at the end
-pub record NameWritten (line : List ℕ) (at : ℕ) (before after : List ℕ) (b : Bodies) (n : Next) (r : Written) : Type 0 where
-  pub within : r.end ≤ length line
-  pub is : (name rest : List ℕ) (sign : ℕ) (others : List ℕ) → string (drop at line) ≡ got name rest → blanks rest ≡ sign ∷ others → drop r.end line ≡ blanks others
-  pub adds : (name rest : List ℕ) → string (drop at line) ≡ got name rest → Adds before after b n (texts (name ∷ [])) r.next
+pub record NameWritten (line : List ℕ) (at : ℕ) (before after : List ℕ) (b : Bodies) (n next : Next) (e : ℕ) : Type 0 where
+  pub within : e ≤ length line
+  pub is : (name rest : List ℕ) (sign : ℕ) (others : List ℕ) → string (drop at line) ≡ got name rest → blanks rest ≡ sign ∷ others → drop e line ≡ blanks others
+  pub adds : (name rest : List ℕ) → string (drop at line) ≡ got name rest → Adds before after b n (texts (name ∷ [])) next
 
 -- two strings
 pub record TwoDue (line : List ℕ) (one other : ℕ) (file : List ℕ) (b : Bodies) (n : Next) : Type 0 where

@@ -25,7 +25,6 @@ use Rattle.jsontrace.specs.Count.{a_string, a_value, counted}
 use Rattle.jsonruns.specs.Good.{Good}
 use Rattle.jsonruns.proofs.Runs.{then_of}
 use Rattle.jsoncount.specs.declared.tallies.Tally.{Tally}
-use Rattle.jsoncount.specs.declared.tallies.Counted.{Counted}
 use Rattle.jsoncount.specs.Tally.{Adds, CountedTo}
 use Rattle.jsoncount.proofs.Sums.{adds-as}
 use Rattle.jsoncount.proofs.Looping.{good-from, counted-from, counted-more}
@@ -66,12 +65,12 @@ module _ {line : List ℕ} {at : ℕ} (g : Good line at (scalar (drop at line)))
     pub text-good : Good line at (string (drop at line))
     text-good = good-from Text text-is g.within g
 
-    pub text-counted : {t v : Tally} {r : Counted} → CountedTo line at t r (string (drop at line)) a_string → Adds r.tally a_value v → CountedTo line at t (record { tally = v; end = r.end }) (scalar (drop at line)) counted
+    pub text-counted : {t u v : Tally} {k : ℕ} → CountedTo line at t u k (string (drop at line)) a_string → Adds u a_value v → CountedTo line at t v k (scalar (drop at line)) counted
     unfolding counted
-    text-counted {r = r} p l = counted-from Text text-is (omega arith) (λ a. refl) (counted-more p l)
+    text-counted p l = counted-from Text text-is (omega arith) (λ a. refl) (counted-more p l)
 
   module _ (n : get_or line at 0 ≡ 34 → ⊥) {x : Step} (p : Told line at x (scalar (drop at line))) where
-    pub flat-counted : {e : ℕ} {t v : Tally} → x ≡ At e → Adds t a_value v → CountedTo line at t (record { tally = v; end = e }) (scalar (drop at line)) counted
+    pub flat-counted : {e : ℕ} {t v : Tally} → x ≡ At e → Adds t a_value v → CountedTo line at t v e (scalar (drop at line)) counted
     flat-counted {e} q l =
         let k = p.stands e q in
         record {
@@ -81,5 +80,5 @@ module _ {line : List ℕ} {at : ℕ} (g : Good line at (scalar (drop at line)))
           adds = λ what rest f. adds-as (flat-counts (drop (at + 1) line) (get_or line at 0) n (sym (ap scalar (byte_at line at flat-below)) ∙ f)) l;
         }
 
-    pub flat_good : {w : Fault} {a b e : ℕ} {t v : Tally} → x ≡ Bad w a b → CountedTo line at t (record { tally = v; end = e }) (scalar (drop at line)) counted
+    pub flat_good : {w : Fault} {a b e : ℕ} {t v : Tally} → x ≡ Bad w a b → CountedTo line at t v e (scalar (drop at line)) counted
     flat_good q = absurd (never (sym (p.faulty _ _ _ q).is ∙ g.is))

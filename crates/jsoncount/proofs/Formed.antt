@@ -10,7 +10,6 @@ use Rattle.jsonruns.specs.declared.Two.{Two}
 use Rattle.jsonruns.specs.Good.{Good}
 use Rattle.jsonruns.specs.Forms.{form_read, form_of, TwoTold}
 use Rattle.jsoncount.specs.declared.tallies.Tally.{Tally}
-use Rattle.jsoncount.specs.declared.tallies.Counted.{Counted}
 use Rattle.jsoncount.specs.Tally.{Adds, CountedTo}
 use Rattle.jsoncount.proofs.Sums.{adds_then, adds-as}
 
@@ -29,24 +28,24 @@ module _ (x : Bool) {line : List ℕ} {at : ℕ} (g : Good line at (form_read x 
   pub second-good : Good line two.second (string (drop two.second line))
   second-good = let y = (o.two g.what g.rest g.is).second in record { what = _; rest = y.rest; within = y.within; is = y.is }
 
-  pub decimal-told : {t v : Tally} {r : Counted} → x ≡ true → CountedTo line two.second t r (string (drop two.second line)) a_string → Adds r.tally a_value v → CountedTo line at t (record { tally = v; end = two.end }) (form_read x (drop at line)) counted
-  decimal-told h p l = record {
+  pub decimal-told : {t q u v : Tally} {k : ℕ} → x ≡ true → q ≡ t → CountedTo line two.second q u k (string (drop two.second line)) a_string → Adds u a_value v → CountedTo line at t v two.end (form_read x (drop at line)) counted
+  decimal-told {t} h z p l = record {
     from = o.from;
     within = o.within;
     is = o.is;
     adds =
         λ j rest e.
         let y = o.two j rest e in
-        adds-as (decimal-counts y.one y.other h ∙ ap counted (sym y.is)) (adds_then (p.adds y.other y.second.rest y.second.is) l);
+        adds-as (decimal-counts y.one y.other h ∙ ap counted (sym y.is)) (adds_then (rw z at (p.adds y.other y.second.rest y.second.is)) l);
   }
 
-  pub entity-told : {t v : Tally} {q r : Counted} → x ≡ false → CountedTo line two.first t q (string (drop two.first line)) a_string → CountedTo line two.second q.tally r (string (drop two.second line)) a_string → Adds r.tally a_value v → CountedTo line at t (record { tally = v; end = two.end }) (form_read x (drop at line)) counted
-  entity-told h s p l = record {
+  pub entity-told : {t q q' u v : Tally} {j k : ℕ} → x ≡ false → CountedTo line two.first t q j (string (drop two.first line)) a_string → q' ≡ q → CountedTo line two.second q' u k (string (drop two.second line)) a_string → Adds u a_value v → CountedTo line at t v two.end (form_read x (drop at line)) counted
+  entity-told h s z p l = record {
     from = o.from;
     within = o.within;
     is = o.is;
     adds =
         λ j rest e.
         let y = o.two j rest e in
-        adds-as (entity-counts y.one y.other h ∙ ap counted (sym y.is)) (adds_then (s.adds y.one y.first.rest y.first.is) (adds_then (p.adds y.other y.second.rest y.second.is) l));
+        adds-as (entity-counts y.one y.other h ∙ ap counted (sym y.is)) (adds_then (s.adds y.one y.first.rest y.first.is) (adds_then (rw z at (p.adds y.other y.second.rest y.second.is)) l));
   }

@@ -1,20 +1,19 @@
 -- Parts counted one after another: what is left to count, and where
 use mathlib.Core.Path.{◌≡◌, sym, ap, subst, ◌∙◌}
 use mathlib.Core.List.{List, ◌∷◌}
-use Prim.Native.Nat.{ℕ, ◌-◌, ◌<◌, ◌≤◌}
+use Prim.Native.Nat.{ℕ, ◌<◌, ◌≤◌}
 use native.Mathlib.Omega.{arith}
 use lib.ListN.{length, drop}
 use borrow.Author.Tests.{eq-eqb, ne_eqb}
+use Rattle.std.proofs.Common.{Option, Some, None}
 use Rattle.jsontext.specs.Reading.{Read, got, mapped, blanks}
 use Rattle.jsonread.proofs.Spelling.{came}
 use Rattle.jsontrace.specs.Count.{Count, ◌⊞◌}
-use Rattle.jsonruns.specs.declared.Part.{Part as Position}
-use Rattle.jsonruns.specs.declared.Part.TheVariants.{Next, Closed}
-use Rattle.jsonruns.specs.Good.{Good, Signed, BeginTold, PartTold}
+use Rattle.jsonruns.specs.Good.{Good, Signed, Behind, Closes, BeginTold, PartTold}
 use Rattle.jsonruns.specs.Run.{Run, Listed}
 use Rattle.jsonruns.proofs.Runs.{same-got, same_rest, Turn, turn}
+use Rattle.jsonruns.proofs.Signs.{closed-left, closed-signed, ahead, ahead-less}
 use Rattle.jsoncount.specs.declared.tallies.Tally.{Tally}
-use Rattle.jsoncount.specs.declared.tallies.Counted.{Counted}
 use Rattle.jsoncount.specs.Tally.{Adds, sizes, CountedTo}
 use Rattle.jsoncount.proofs.Sums.{adds_then, adds_none, adds-as, sum-none}
 
@@ -39,6 +38,17 @@ module _ {A : Type 0} (close : ℕ) (Part : List ℕ → A → List ℕ → Type
     pub is : (a : A) (t : List ℕ) → Part (drop i line) a t → t ≡ drop e line
     pub adds : (a : A) (t : List ℕ) → Part (drop i line) a t → Adds tally (size a) after
 
+  -- all is counted, and the bracket closes past e
+  pub record Done (line : List ℕ) (at : ℕ) (t : Tally) (m : Read (List A)) (tally : Tally) (e : ℕ) : Type 0 where
+    pub within : e ≤ length line
+    pub closes : Closes line e close
+    pub told : (k : ℕ) → Behind line e k → CountedTo line at t tally k m (sizes size)
+
+  -- a part stands behind e, or the bracket closes there
+  pub record Turning (line : List ℕ) (at : ℕ) (t : Tally) (m : Read (List A)) (tally : Tally) (e : ℕ) (part : Option ℕ) : Type 0 where
+    pub next : (i : ℕ) → part ≡ Some i → Looping line at t m tally i
+    pub closed : part ≡ None → Done line at t m tally e
+
   module _ {line : List ℕ} {at : ℕ} {m : Read (List A)} (law : (what : List A) (rest : List ℕ) → m ≡ got what rest → Listed close Part (drop at line) what rest) (g : Good line at m) where
     listed : Listed close Part (drop at line) g.what g.rest
     listed = law g.what g.rest g.is
@@ -46,27 +56,27 @@ module _ {A : Type 0} (close : ℕ) (Part : List ℕ → A → List ℕ → Type
     pub loop_signed : Signed line at
     loop_signed = record { within = g.within; sign = listed.first; rest = listed.others; is = listed.byte }
 
-    module _ {x : Position} (b : BeginTold line at close x) where
-      pub loop_empty : {t : Tally} {e : ℕ} → x ≡ Closed e → CountedTo line at t (record { tally = t; end = e }) m (sizes size)
+    module _ {x : Option ℕ} (b : BeginTold line at close x) where
+      loop_empty : {t : Tally} {k : ℕ} → x ≡ None → Behind line at k → CountedTo line at t t k m (sizes size)
       unfolding sizes
-      loop_empty {t} {e} z =
-          let k = b.closed e z in
+      loop_empty {t} {k} z h =
+          let c = closed-left (b.closed z) h in
           record {
-            from = omega (arith, k.from);
-            within = k.within;
+            from = omega (arith, h.from);
+            within = h.within;
             is =
                 λ what rest f.
                 let l = law what rest f in
-                let y = sym l.byte ∙ k.is in
+                let y = sym l.byte ∙ c in
                 l.left (eq-eqb l.first close cc) ∙ cc;
             adds =
                 λ what rest f.
                 let l = law what rest f in
-                let y = sym l.byte ∙ k.is in
+                let y = sym l.byte ∙ c in
                 rw (l.none (eq-eqb l.first close cc)) (adds_none t);
           }
 
-      pub loop_start : {t : Tally} {i : ℕ} → x ≡ Next i → Looping line at t m t i
+      loop_start : {t : Tally} {i : ℕ} → x ≡ Some i → Looping line at t m t i
       loop_start {t} {i} z =
           let k = b.next i z in
           record {
@@ -80,6 +90,9 @@ module _ {A : Type 0} (close : ℕ) (Part : List ℕ → A → List ℕ → Type
             adds = λ f h. h;
           }
 
+      pub loop_begun : {t : Tally} → Turning line at t m t at x
+      loop_begun = record { next = λ i z. loop_start z; closed = λ z. record { within = g.within; closes = b.closed z; told = λ k h. loop_empty z h } }
+
   module _ {line : List ℕ} {at i e : ℕ} {t tally after : Tally} {m : Read (List A)} (g : Looping line at t m tally i) (p : PartTo line i tally e after) where
     now : Turn close Part (drop i line) g.left g.rest
     now = turn close Part g.run
@@ -90,24 +103,23 @@ module _ {A : Type 0} (close : ℕ) (Part : List ℕ → A → List ℕ → Type
     pub part-signed : Signed line e
     part-signed = record { within = p.within; sign = now.sign; rest = now.others; is = sign-here }
 
-    module _ {x : Position} (b : PartTold line e close x) where
-      pub loop_closed : {k : ℕ} → x ≡ Closed k → CountedTo line at t (record { tally = after; end = k }) m (sizes size)
+    module _ {x : Option ℕ} (b : PartTold line e close x) where
+      loop_closed : {k : ℕ} → x ≡ None → Behind line e k → CountedTo line at t after k m (sizes size)
       unfolding sizes
-      loop_closed {k} y =
-          let c = b.closed k y in
-          let same = sym sign-here ∙ c.is in
+      loop_closed {k} y h =
+          let same = sym sign-here ∙ closed-left (b.closed y) h in
           let z : now.sign ≡ close = cc in
           let added : Adds tally (sizes size g.left) after = rw (now.alone z) (rw (sum-none (size now.what)) (p.adds now.what now.after now.part)) in
           record {
-            from = omega (arith, g.from, p.from, c.from);
-            within = c.within;
+            from = omega (arith, g.from, p.from, h.from);
+            within = h.within;
             is = λ what rest f. same_rest f g.is ∙ now.left z ∙ cc (same);
             adds = λ what rest f. subst (λ (w : List A). Adds t (sizes size w) after) (same-got g.is f) (g.adds after added);
           }
 
-      pub loop_again : {j : ℕ} → x ≡ Next j → Looping line at t m after j
+      loop_next : {j : ℕ} → x ≡ Some j → Looping line at t m after j
       unfolding sizes
-      loop_again {j} y =
+      loop_next {j} y =
           let c = b.next j y in
           let o = now.next (c.other now.sign now.others sign-here) in
           record {
@@ -121,15 +133,26 @@ module _ {A : Type 0} (close : ℕ) (Part : List ℕ → A → List ℕ → Type
             adds = λ f h. g.adds f (rw o.all-is (adds_then (p.adds now.what now.after now.part) h));
           }
 
-      pub loop_less : {j : ℕ} → x ≡ Next j → length line - j < length line - i
-      loop_less {j} y = let c = b.next j y in omega (arith, p.from, c.from, c.within)
+      pub loop_again : Turning line at t m after e x
+      loop_again = record { next = λ j y. loop_next y; closed = λ y. record { within = p.within; closes = b.closed y; told = λ k h. loop_closed y h } }
+
+      pub loop_less : {y : Option ℕ} → y ≡ Some i → ahead line x < ahead line y
+      loop_less z = ahead-less line z b p.from
+
+  -- the bracket closes
+  module _ {line : List ℕ} {at e : ℕ} {t tally : Tally} {m : Read (List A)} {x : Option ℕ} (g : Turning line at t m tally e x) (z : x ≡ None) where
+    pub loop_shut : Signed line e
+    loop_shut = closed-signed (g.closed z).within (g.closed z).closes
+
+    pub loop_told : {k : ℕ} → Behind line e k → CountedTo line at t tally k m (sizes size)
+    loop_told {k} h = (g.closed z).told k h
 
 -- the same counts, said otherwise
-pub counted-as : {A : Type 0} {line : List ℕ} {at : ℕ} {t : Tally} {r : Counted} {m : Read A} {f h : A → Count} → ((a : A) → f a ≡ h a) → CountedTo line at t r m f → CountedTo line at t r m h
+pub counted-as : {A : Type 0} {line : List ℕ} {at e : ℕ} {t u : Tally} {m : Read A} {f h : A → Count} → ((a : A) → f a ≡ h a) → CountedTo line at t u e m f → CountedTo line at t u e m h
 counted-as e p = record { from = p.from; within = p.within; is = p.is; adds = λ what rest q. adds-as (e what) (p.adds what rest q) }
 
 -- more is counted at the end
-pub counted-more : {A : Type 0} {line : List ℕ} {at e : ℕ} {t u v : Tally} {m : Read A} {f : A → Count} {d : Count} → CountedTo line at t (record { tally = u; end = e }) m f → Adds u d v → CountedTo line at t (record { tally = v; end = e }) m (λ a. f a ⊞ d)
+pub counted-more : {A : Type 0} {line : List ℕ} {at e : ℕ} {t u v : Tally} {m : Read A} {f : A → Count} {d : Count} → CountedTo line at t u e m f → Adds u d v → CountedTo line at t v e m (λ a. f a ⊞ d)
 counted-more p q = record { from = p.from; within = p.within; is = p.is; adds = λ what rest h. adds_then (p.adds what rest h) q }
 
 -- ---- what was read is made into something else
@@ -138,8 +161,8 @@ module _ {A B : Type 0} (f : A → B) {line : List ℕ} {at i : ℕ} {n : Read B
   pub good-from : i ≤ length line → Good line at n → Good line i m
   good-from h g = let c = came f m (sym e ∙ g.is) in record { what = c.what; rest = g.rest; within = h; is = c.is }
 
-  pub counted-from : {t : Tally} {r : Counted} {size : A → Count} {as-made : B → Count} → at ≤ i → ((a : A) → size a ≡ as-made (f a)) → CountedTo line i t r m size → CountedTo line at t r n as-made
-  counted-from {t} {r} {size} {as-made} h z p = record {
+  pub counted-from : {t u : Tally} {k : ℕ} {size : A → Count} {as-made : B → Count} → at ≤ i → ((a : A) → size a ≡ as-made (f a)) → CountedTo line i t u k m size → CountedTo line at t u k n as-made
+  counted-from {t} {u} {k} {size} {as-made} h z p = record {
     from = omega (arith, p.from);
     within = p.within;
     is = λ what rest q. p.is _ rest (came f m (sym e ∙ q)).is;

@@ -19,7 +19,6 @@ use Rattle.jsontrace.specs.Count.{counted}
 use Rattle.jsonruns.specs.Good.{Good}
 use Rattle.jsonruns.specs.Forms.{form_read}
 use Rattle.jsoncount.specs.declared.tallies.Tally.{Tally}
-use Rattle.jsoncount.specs.declared.tallies.Counted.{Counted}
 use Rattle.jsoncount.specs.Tally.{CountedTo}
 use Rattle.jsoncount.specs.Sizes.{array_size, object_size, object_read, braced_read}
 use Rattle.jsonruns.proofs.Runs.{due_of}
@@ -73,7 +72,7 @@ module _ (levels : ℕ) {line : List ℕ} {at : ℕ} (g : Good line at (value le
     pub array-good : Good line (at + 1) (array (value (levels - 1)) (drop (at + 1) line))
     array-good = good-from (λ js. Array (item_parts js)) array-is (omega (arith, value-below)) g
 
-    pub array-counted : {t : Tally} {r : Counted} → CountedTo line (at + 1) t r (array (value (levels - 1)) (drop (at + 1) line)) array_size → CountedTo line at t r (value levels (drop at line)) counted
+    pub array-counted : {t u : Tally} {e : ℕ} → CountedTo line (at + 1) t u e (array (value (levels - 1)) (drop (at + 1) line)) array_size → CountedTo line at t u e (value levels (drop at line)) counted
     unfolding counted
     array-counted p = counted-from (λ js. Array (item_parts js)) array-is (omega arith) (λ a. refl) p
 
@@ -87,7 +86,7 @@ module _ (levels : ℕ) {line : List ℕ} {at : ℕ} (g : Good line at (value le
     pub scalar-good : Good line at (scalar (drop at line))
     scalar-good = record { what = g.what; rest = g.rest; within = g.within; is = sym scalar_is ∙ g.is }
 
-    pub scalar-counted : {t : Tally} {r : Counted} → CountedTo line at t r (scalar (drop at line)) counted → CountedTo line at t r (value levels (drop at line)) counted
+    pub scalar-counted : {t u : Tally} {e : ℕ} → CountedTo line at t u e (scalar (drop at line)) counted → CountedTo line at t u e (value levels (drop at line)) counted
     scalar-counted p = record { from = p.from; within = p.within; is = λ what rest f. p.is what rest (sym scalar_is ∙ f); adds = λ what rest f. p.adds what rest (sym scalar_is ∙ f) }
 
   -- ---- an object or a form
@@ -100,7 +99,7 @@ module _ (levels : ℕ) {line : List ℕ} {at : ℕ} (g : Good line at (value le
     pub braced-good : Good line (at + 1) (braced_read (levels - 1) (drop (at + 1) line))
     braced-good = record { what = g.what; rest = g.rest; within = omega (arith, value-below); is = sym braced-is ∙ g.is }
 
-    pub braced-counted : {t : Tally} {r : Counted} → CountedTo line (at + 1) t r (braced_read (levels - 1) (drop (at + 1) line)) counted → CountedTo line at t r (value levels (drop at line)) counted
+    pub braced-counted : {t u : Tally} {e : ℕ} → CountedTo line (at + 1) t u e (braced_read (levels - 1) (drop (at + 1) line)) counted → CountedTo line at t u e (value levels (drop at line)) counted
     braced-counted p = record { from = omega (arith, p.from); within = p.within; is = λ what rest f. p.is what rest (sym braced-is ∙ f); adds = λ what rest f. p.adds what rest (sym braced-is ∙ f) }
 
 module _ (levels : ℕ) {line : List ℕ} {at : ℕ} {x : Form} (g : Good line at (braced_read levels (drop at line))) (k : x ≡ form (drop at line)) where
@@ -112,12 +111,12 @@ module _ (levels : ℕ) {line : List ℕ} {at : ℕ} {x : Form} (g : Good line a
     pub object-good : Good line at (object_read levels (drop at line))
     object-good = good-from (λ ms. Object (member_parts ms)) object-is g.within g
 
-    pub object-counted : {t : Tally} {r : Counted} → CountedTo line at t r (object_read levels (drop at line)) object_size → CountedTo line at t r (braced_read levels (drop at line)) counted
+    pub object-counted : {t u : Tally} {e : ℕ} → CountedTo line at t u e (object_read levels (drop at line)) object_size → CountedTo line at t u e (braced_read levels (drop at line)) counted
     unfolding counted
     object-counted p = counted-from (λ ms. Object (member_parts ms)) object-is (omega arith) (λ a. refl) p
 
-  form-counts : (y : Bool) {t : Tally} {r : Counted} → braced_read levels (drop at line) ≡ form_read y (drop at line) → CountedTo line at t r (form_read y (drop at line)) counted → CountedTo line at t r (braced_read levels (drop at line)) counted
-  form-counts y e p = record { from = p.from; within = p.within; is = λ what rest f. p.is what rest (sym e ∙ f); adds = λ what rest f. p.adds what rest (sym e ∙ f) }
+  form-counts : (y : Bool) {t u : Tally} {e : ℕ} → braced_read levels (drop at line) ≡ form_read y (drop at line) → CountedTo line at t u e (form_read y (drop at line)) counted → CountedTo line at t u e (braced_read levels (drop at line)) counted
+  form-counts y q p = record { from = p.from; within = p.within; is = λ what rest f. p.is what rest (sym q ∙ f); adds = λ what rest f. p.adds what rest (sym q ∙ f) }
 
   module _ (z : x ≡ Entity) where
     pub entity-is : braced_read levels (drop at line) ≡ form_read false (drop at line)
@@ -127,7 +126,7 @@ module _ (levels : ℕ) {line : List ℕ} {at : ℕ} {x : Form} (g : Good line a
     pub entity-good : Good line at (form_read false (drop at line))
     entity-good = record { what = g.what; rest = g.rest; within = g.within; is = sym entity-is ∙ g.is }
 
-    pub entity-counted : {t : Tally} {r : Counted} → CountedTo line at t r (form_read false (drop at line)) counted → CountedTo line at t r (braced_read levels (drop at line)) counted
+    pub entity-counted : {t u : Tally} {e : ℕ} → CountedTo line at t u e (form_read false (drop at line)) counted → CountedTo line at t u e (braced_read levels (drop at line)) counted
     entity-counted p = form-counts false entity-is p
 
   module _ (z : x ≡ Extension) where
@@ -138,5 +137,5 @@ module _ (levels : ℕ) {line : List ℕ} {at : ℕ} {x : Form} (g : Good line a
     pub extension-good : Good line at (form_read true (drop at line))
     extension-good = record { what = g.what; rest = g.rest; within = g.within; is = sym extension-is ∙ g.is }
 
-    pub extension-counted : {t : Tally} {r : Counted} → CountedTo line at t r (form_read true (drop at line)) counted → CountedTo line at t r (braced_read levels (drop at line)) counted
+    pub extension-counted : {t u : Tally} {e : ℕ} → CountedTo line at t u e (form_read true (drop at line)) counted → CountedTo line at t u e (braced_read levels (drop at line)) counted
     extension-counted p = form-counts true extension-is p

@@ -1,8 +1,8 @@
 -- What is added to a tally
-use mathlib.Core.Path.{◌≡◌, refl, sym, ap, ◌∙◌}
+use mathlib.Core.Path.{◌≡◌, refl, ap, ◌∙◌}
 use mathlib.Core.Bool.{Bool, true, false}
 use mathlib.Core.List.{List}
-use Prim.Native.Nat.{ℕ, ◌+◌, ◌-◌, ◌<◌, ◌≤◌}
+use Prim.Native.Nat.{ℕ, ◌+◌, ◌-◌, ◌^◌, ◌<◌, ◌≤◌, min}
 use native.Mathlib.Omega.{arith}
 use lib.Dec.{leb}
 use lib.ListN.{drop}
@@ -26,27 +26,15 @@ capped-high : (n : ℕ) → 4294967295 < n → capped n ≡ 4294967296
 unfolding capped choose
 capped-high n h = rw (lt-leb n 4294967295 h)
 
--- a shown number is the number itself, or stands at the top with it
-record Which (n m : ℕ) : Type 0 where
-  low : n ≤ 4294967295 → n ≡ m
-  high : 4294967295 < n → 4294967295 < m
-
-which : (n m : ℕ) → n ≡ capped m → Which n m
-which n m e =
-    go (leb m 4294967295) refl
+capped-min : (n : ℕ) → capped n ≡ min n 4294967296
+capped-min n = go (leb n 4294967295) refl
   where
-    go : (x : Bool) → leb m 4294967295 ≡ x → Which n m
-    go true q = let z = capped-low m (leb-true m 4294967295 q) in record { low = λ h. e ∙ z; high = λ h. omega (arith, leb-true m 4294967295 q, z, e) }
-    go false q = let z = capped-high m (leb-false m 4294967295 q) in record { low = λ h. absurd (omega (arith, z, e)); high = λ h. leb-false m 4294967295 q }
+    go : (x : Bool) → leb n 4294967295 ≡ x → capped n ≡ min n 4294967296
+    go true q = omega (arith, leb-true n 4294967295 q, capped-low n (leb-true n 4294967295 q))
+    go false q = omega (arith, leb-false n 4294967295 q, capped-high n (leb-false n 4294967295 q))
 
-pub raised-top : {n by : ℕ} → 4294967295 < n → Raised n by 4294967296
-raised-top {n} {by} h = record { is = λ m e. sym (capped-high (m + by) (omega (arith, (which n m e).high h))) }
-
-pub raised-over : {n by : ℕ} → n ≤ 4294967295 → 4294967295 - n < by → Raised n by 4294967296
-raised-over {n} {by} h k = record { is = λ m e. sym (capped-high (m + by) (omega (arith, (which n m e).low h))) }
-
-pub raised_by : {n by : ℕ} → n ≤ 4294967295 → by ≤ 4294967295 - n → Raised n by (n + by)
-raised_by {n} {by} h k = record { is = λ m e. let z = (which n m e).low (omega arith) in ap (λ (k : ℕ). k + by) z ∙ sym (capped-low (m + by) (omega arith)) }
+pub raised-is : {n by s : ℕ} → s ≡ min (n + by) (2 ^ 64 - 1) → Raised n by (min s 4294967296)
+raised-is {n} {by} {s} h = record { is = λ m e. omega (arith, h, e, capped-min m, capped-min (m + by)) }
 
 -- ---- a tally
 
@@ -70,7 +58,7 @@ module _ {t : Tally} {x : ℕ} where
   unfolding list_words ◌⊞◌
   lists-added r = record { shows = λ c h. record { strings = still c.strings h.strings; bytes = still c.bytes h.bytes; values = still c.values h.values; members = still c.members h.members; points = still c.points h.points; lists = r.is c.lists h.lists } }
 
-  pub string-added : {y at : ℕ} {line : List ℕ} {s : Spelt} → Good line at (string (drop at line)) → SpeltTold line at s → Raised t.strings 1 x → Raised t.bytes s.bytes y → CountedTo line at t (record { tally = record { strings = x; bytes = y; values = t.values; members = t.members; points = t.points; lists = t.lists }; end = s.end }) (string (drop at line)) a_string
+  pub string-added : {y at : ℕ} {line : List ℕ} {s : Spelt} → Good line at (string (drop at line)) → SpeltTold line at s → Raised t.strings 1 x → Raised t.bytes s.bytes y → CountedTo line at t (record { strings = x; bytes = y; values = t.values; members = t.members; points = t.points; lists = t.lists }) s.end (string (drop at line)) a_string
   unfolding a_string ◌⊞◌
   string-added {s = s} g p r q =
       let k = p g.what g.rest g.is in

@@ -1,23 +1,22 @@
 -- Strings of a namespace, counted one after another
 use mathlib.Core.Path.{◌≡◌, refl, ap, ◌∙◌}
 use mathlib.Core.List.{List, [], ◌∷◌}
-use Prim.Native.Nat.{ℕ, ◌-◌, ◌<◌}
+use Prim.Native.Nat.{ℕ, ◌<◌}
 use lib.ListN.{length, drop}
+use Rattle.std.proofs.Common.{Option, Some, None}
 use Rattle.jsontext.specs.Reading.{got}
 use Rattle.jsontext.specs.Strings.{string}
 use Rattle.jsontext.specs.Values.{text, array}
 use Rattle.jsontrace.specs.Count.{Count, nothing, ◌⊞◌, a_string, list_words, counted_strings}
-use Rattle.jsonruns.specs.declared.Part.{Part as Position}
-use Rattle.jsonruns.specs.declared.Part.TheVariants.{Next, Closed}
-use Rattle.jsonruns.specs.Good.{Good, Signed, BeginTold, PartTold}
+use Rattle.jsonruns.specs.Good.{Good, Signed, Behind, BeginTold, PartTold}
+use Rattle.jsonruns.proofs.Signs.{ahead}
 use Rattle.jsonruns.specs.Run.{Item, Listed}
 use Rattle.jsonruns.proofs.Runs.{turn, text-string, array-listed}
 use Rattle.jsoncount.specs.declared.tallies.Tally.{Tally}
-use Rattle.jsoncount.specs.declared.tallies.Counted.{Counted}
 use Rattle.jsoncount.specs.Tally.{Adds, sizes, CountedTo}
 use Rattle.jsoncount.specs.Sizes.{text_size, texts_size}
 use Rattle.jsoncount.proofs.Sums.{sum-swap, words_more, adds_then}
-use Rattle.jsoncount.proofs.Looping.{Looping, PartTo, loop_signed, loop_empty, loop_start, part-signed, loop_closed, loop_again, loop_less, counted-as}
+use Rattle.jsoncount.proofs.Looping.{Turning, PartTo, loop_signed, loop_begun, part-signed, loop_again, loop_less, loop_shut, loop_told, counted-as}
 
 sizes-texts : (ts : List (List ℕ)) → sizes text_size ts ≡ texts_size ts
 unfolding sizes text_size counted_strings
@@ -27,8 +26,8 @@ sizes-texts (t ∷ ts) =
     ∙ sum-swap (a_string t) (list_words 1) (counted_strings ts) (list_words (length ts))
     ∙ ap (λ (c : Count). (a_string t ⊞ counted_strings ts) ⊞ c) (words_more (length ts))
 
-abbrev pub Texts : List ℕ → ℕ → Tally → Tally → ℕ → Type 0
-Texts line at t tally i = Looping 93 (Item text) text_size line at t (array text (drop at line)) tally i
+abbrev pub Texts : List ℕ → ℕ → Tally → Tally → ℕ → Option ℕ → Type 0
+Texts line at t tally e part = Turning 93 (Item text) text_size line at t (array text (drop at line)) tally e part
 
 module _ (line : List ℕ) (at : ℕ) where
   listed : (what : List (List ℕ)) (rest : List ℕ) → array text (drop at line) ≡ got what rest → Listed 93 (Item text) (drop at line) what rest
@@ -38,19 +37,15 @@ module _ {line : List ℕ} {at : ℕ} (g : Good line at (array text (drop at lin
   pub texts-signed : Signed line at
   texts-signed = loop_signed 93 (Item text) text_size (listed line at) g
 
-  module _ {x : Position} (b : BeginTold line at 93 x) where
-    pub texts-none : {t : Tally} {e : ℕ} → x ≡ Closed e → CountedTo line at t (record { tally = t; end = e }) (array text (drop at line)) texts_size
-    texts-none z = counted-as sizes-texts (loop_empty 93 (Item text) text_size (listed line at) g b z)
+  pub texts-begun : {t : Tally} {x : Option ℕ} → BeginTold line at 93 x → Texts line at t t at x
+  texts-begun b = loop_begun 93 (Item text) text_size (listed line at) g b
 
-    pub texts-start : {t : Tally} {i : ℕ} → x ≡ Next i → Texts line at t t i
-    texts-start z = loop_start 93 (Item text) text_size (listed line at) g b z
-
-module _ {line : List ℕ} {at i : ℕ} {t tally : Tally} (g : Texts line at t tally i) where
+module _ {line : List ℕ} {at i e' : ℕ} {t tally : Tally} {y : Option ℕ} (g : Texts line at t tally e' y) (z : y ≡ Some i) where
   pub texts-good : Good line i (string (drop i line))
-  texts-good = let n = turn 93 (Item text) g.run in record { what = n.what; rest = n.after; within = g.within; is = text-string (drop i line) n.part }
+  texts-good = let k = g.next i z in let n = turn 93 (Item text) k.run in record { what = n.what; rest = n.after; within = k.within; is = text-string (drop i line) n.part }
 
-  module _ {r : Counted} {u : Tally} (p : CountedTo line i tally r (string (drop i line)) a_string) (l : Adds r.tally (list_words 1) u) where
-    one : PartTo 93 (Item text) text_size line i tally r.end u
+  module _ {q u : Tally} {e : ℕ} (p : CountedTo line i tally q e (string (drop i line)) a_string) (l : Adds q (list_words 1) u) where
+    one : PartTo 93 (Item text) text_size line i tally e u
     unfolding text_size
     one = record {
       from = p.from;
@@ -59,15 +54,19 @@ module _ {line : List ℕ} {at i : ℕ} {t tally : Tally} (g : Texts line at t t
       adds = λ a t e. adds_then (p.adds a t (text-string (drop i line) e)) l;
     }
 
-    pub texts-after : Signed line r.end
-    texts-after = part-signed 93 (Item text) text_size g one
+    pub texts-after : Signed line e
+    texts-after = part-signed 93 (Item text) text_size (g.next i z) one
 
-    module _ {x : Position} (b : PartTold line r.end 93 x) where
-      pub texts-closed : {k : ℕ} → x ≡ Closed k → CountedTo line at t (record { tally = u; end = k }) (array text (drop at line)) texts_size
-      texts-closed y = counted-as sizes-texts (loop_closed 93 (Item text) text_size g one b y)
+    module _ {x : Option ℕ} (b : PartTold line e 93 x) where
+      pub texts-again : Texts line at t u e x
+      texts-again = loop_again 93 (Item text) text_size (g.next i z) one b
 
-      pub texts-again : {j : ℕ} → x ≡ Next j → Texts line at t u j
-      texts-again y = loop_again 93 (Item text) text_size g one b y
+      pub texts-less : ahead line x < ahead line y
+      texts-less = loop_less 93 (Item text) text_size (g.next i z) one b z
 
-      pub texts-less : {j : ℕ} → x ≡ Next j → length line - j < length line - i
-      texts-less y = loop_less 93 (Item text) text_size g one b y
+module _ {line : List ℕ} {at e : ℕ} {t tally : Tally} {x : Option ℕ} (g : Texts line at t tally e x) (z : x ≡ None) where
+  pub texts-shut : Signed line e
+  texts-shut = loop_shut 93 (Item text) text_size g z
+
+  pub texts-told : {k : ℕ} → Behind line e k → CountedTo line at t tally k (array text (drop at line)) texts_size
+  texts-told h = counted-as sizes-texts (loop_told 93 (Item text) text_size g z h)

@@ -2,10 +2,11 @@
 use mathlib.Core.Path.{◌≡◌, refl, sym, ap, ◌∙◌}
 use mathlib.Core.Bool.{Bool, true, false}
 use mathlib.Core.List.{List, [], ◌∷◌}
-use Prim.Native.Nat.{ℕ, ◌+◌, ◌-◌, ◌<◌, ◌≤◌}
+use Prim.Native.Nat.{ℕ, ◌+◌, ◌<◌, ◌≤◌}
 use native.Mathlib.Omega.{arith}
 use lib.Dec.{eqb}
 use lib.ListN.{length, drop, length-drop}
+use Rattle.std.proofs.Common.{Option, Some, None}
 use Rattle.meaning.specs.Tests.{choose}
 use Rattle.jsontext.specs.declared.Fault.TheVariants.{BadField}
 use Rattle.jsontext.specs.declared.Form.{Form}
@@ -18,17 +19,15 @@ use Rattle.jsonread.specs.Told.{Blanks}
 use Rattle.jsonread.proofs.Places.{byte_at}
 use Rattle.jsonread.proofs.Spelling.{never, Came, came}
 use Rattle.jsontrace.specs.Count.{Count, ◌⊞◌, a_string, list_words, counted, counted_entities}
-use Rattle.jsonruns.specs.declared.Part.{Part as Position}
-use Rattle.jsonruns.specs.declared.Part.TheVariants.{Next, Closed}
 use Rattle.jsonruns.specs.Good.{Good, Signed, Past, Behind, BeginTold, PartTold}
+use Rattle.jsonruns.proofs.Signs.{ahead}
 use Rattle.jsonruns.specs.Run.{Item as ItemOf, Listed}
 use Rattle.jsonruns.proofs.Runs.{then_of, due_of, text-string, wanted, turn, array-listed}
 use Rattle.jsoncount.specs.declared.tallies.Tally.{Tally}
-use Rattle.jsoncount.specs.declared.tallies.Counted.{Counted}
 use Rattle.jsoncount.specs.Tally.{Adds, sizes, CountedTo}
 use Rattle.jsoncount.specs.Sizes.{object_size, object_read, fields_size, entity_read, entity_size}
 use Rattle.jsoncount.proofs.Sums.{sum_assoc, adds_then, adds-as}
-use Rattle.jsoncount.proofs.Looping.{Looping, PartTo, loop_signed, loop_empty, loop_start, part-signed, loop_closed, loop_again, loop_less, counted-as}
+use Rattle.jsoncount.proofs.Looping.{Turning, PartTo, loop_signed, loop_begun, part-signed, loop_again, loop_less, loop_shut, loop_told, counted-as}
 
 -- what stands at a place that holds a known byte, and behind it
 pub byte-below : (line : List ℕ) (at : ℕ) {c : ℕ} {s : List ℕ} → drop at line ≡ c ∷ s → at < length line
@@ -65,7 +64,7 @@ module _ {line : List ℕ} {at : ℕ} (g : Good line at (fields 31 (drop at line
   pub fields-good : Good line (at + 1) (object_read 31 (drop (at + 1) line))
   fields-good = record { what = fields-it.made.what; rest = g.rest; within = omega (arith, byte-below line at fields-it.brace); is = ap (object_read 31) (byte_left line at fields-it.brace) ∙ fields-it.made.is }
 
-  pub fields-counted : {t : Tally} {r : Counted} → CountedTo line (at + 1) t r (object_read 31 (drop (at + 1) line)) object_size → CountedTo line at t r (fields 31 (drop at line)) fields_size
+  pub fields-counted : {t u : Tally} {k : ℕ} → CountedTo line (at + 1) t u k (object_read 31 (drop (at + 1) line)) object_size → CountedTo line at t u k (fields 31 (drop at line)) fields_size
   unfolding counted
   fields-counted p = record {
     from = omega (arith, p.from);
@@ -163,42 +162,42 @@ module _ {line : List ℕ} {at : ℕ} (g : Good line at (entity_read (drop at li
     pub type-good : Good line a (string (drop a line))
     type-good = record { what = g.what.type; rest = it.after-type; within = b.within; is = at-type it }
 
-    module _ {t : Tally} {q : Counted} (p : CountedTo line a t q (string (drop a line)) a_string) where
-      first-comma : {i : Item} {rest : List ℕ} (k : Tripled (drop at line) i rest) → blanks (drop q.end line) ≡ 44 ∷ k.to-id
+    module _ {t q : Tally} {e₁ : ℕ} (p : CountedTo line a t q e₁ (string (drop a line)) a_string) where
+      first-comma : {i : Item} {rest : List ℕ} (k : Tripled (drop at line) i rest) → blanks (drop e₁ line) ≡ 44 ∷ k.to-id
       first-comma {i} k = ap blanks (sym (p.is i.type k.after-type (at-type k))) ∙ k.first
 
-      pub type-signed : Signed line q.end
+      pub type-signed : Signed line e₁
       type-signed = record { within = p.within; sign = 44; rest = it.to-id; is = first-comma it }
 
-      module _ {w : ℕ} (v : Past line q.end w) where
+      module _ {w : ℕ} (v : Past line e₁ w) where
         at-id : {i : Item} {rest : List ℕ} (k : Tripled (drop at line) i rest) → string (drop w line) ≡ got i.id k.after-id
         at-id k = ap string (v.is 44 k.to-id (first-comma k)) ∙ k.id-is
 
         pub id-good : Good line w (string (drop w line))
         id-good = record { what = g.what.id; rest = it.after-id; within = v.within; is = at-id it }
 
-        module _ {o : Counted} (d : CountedTo line w q.tally o (string (drop w line)) a_string) where
-          second-comma : {i : Item} {rest : List ℕ} (k : Tripled (drop at line) i rest) → blanks (drop o.end line) ≡ 44 ∷ k.to-attributes
+        module _ {o : Tally} {e₂ : ℕ} (d : CountedTo line w q o e₂ (string (drop w line)) a_string) where
+          second-comma : {i : Item} {rest : List ℕ} (k : Tripled (drop at line) i rest) → blanks (drop e₂ line) ≡ 44 ∷ k.to-attributes
           second-comma {i} k = ap blanks (sym (d.is i.id k.after-id (at-id k))) ∙ k.second
 
-          pub id-signed : Signed line o.end
+          pub id-signed : Signed line e₂
           id-signed = record { within = d.within; sign = 44; rest = it.to-attributes; is = second-comma it }
 
-          module _ {x : ℕ} (y : Past line o.end x) where
+          module _ {x : ℕ} (y : Past line e₂ x) where
             at_fields : {i : Item} {rest : List ℕ} (k : Tripled (drop at line) i rest) → fields 31 (drop x line) ≡ got i.attributes k.left
             at_fields k = ap (fields 31) (y.is 44 k.to-attributes (second-comma k)) ∙ k.attributes-are
 
             pub attributes-good : Good line x (fields 31 (drop x line))
             attributes-good = record { what = g.what.attributes; rest = it.left; within = y.within; is = at_fields it }
 
-            module _ {r : Counted} (f : CountedTo line x o.tally r (fields 31 (drop x line)) fields_size) where
-              at-close : {i : Item} {rest : List ℕ} (k : Tripled (drop at line) i rest) → blanks (drop r.end line) ≡ 93 ∷ rest
+            module _ {r : Tally} {e₃ : ℕ} (f : CountedTo line x o r e₃ (fields 31 (drop x line)) fields_size) where
+              at-close : {i : Item} {rest : List ℕ} (k : Tripled (drop at line) i rest) → blanks (drop e₃ line) ≡ 93 ∷ rest
               at-close {i} k = ap blanks (sym (f.is i.attributes k.left (at_fields k))) ∙ k.close
 
-              pub entity-signed : Signed line r.end
+              pub entity-signed : Signed line e₃
               entity-signed = record { within = f.within; sign = 93; rest = g.rest; is = at-close it }
 
-              pub entity-told : {u : Tally} {e : ℕ} → Adds r.tally (list_words 3) u → Behind line r.end e → CountedTo line at t (record { tally = u; end = e }) (entity_read (drop at line)) entity_size
+              pub entity-told : {u : Tally} {e : ℕ} → Adds r (list_words 3) u → Behind line e₃ e → CountedTo line at t u e (entity_read (drop at line)) entity_size
               unfolding entity_size
               entity-told l c = record {
                 from = omega (arith, b.from, p.from, v.from, d.from, y.from, f.from, c.from);
@@ -221,8 +220,8 @@ sizes-entities (i ∷ others) =
     ∙ ap (λ (c : Count). a_string i.type ⊞ c) (sum_assoc (a_string i.id) (counted (Object i.attributes) ⊞ list_words 3) (counted_entities others))
     ∙ ap (λ (c : Count). a_string i.type ⊞ a_string i.id ⊞ c) (sum_assoc (counted (Object i.attributes)) (list_words 3) (counted_entities others))
 
-abbrev pub Entities : List ℕ → ℕ → Tally → Tally → ℕ → Type 0
-Entities line at t tally i = Looping 93 (ItemOf entity_read) entity_size line at t (array entity_read (drop at line)) tally i
+abbrev pub Entities : List ℕ → ℕ → Tally → Tally → ℕ → Option ℕ → Type 0
+Entities line at t tally e part = Turning 93 (ItemOf entity_read) entity_size line at t (array entity_read (drop at line)) tally e part
 
 listed : (line : List ℕ) (at : ℕ) (what : List Item) (rest : List ℕ) → array entity_read (drop at line) ≡ got what rest → Listed 93 (ItemOf entity_read) (drop at line) what rest
 listed line at what rest e = array-listed entity_read (drop at line) e
@@ -231,30 +230,30 @@ module _ {line : List ℕ} {at : ℕ} (g : Good line at (array entity_read (drop
   pub entities-signed : Signed line at
   entities-signed = loop_signed 93 (ItemOf entity_read) entity_size (listed line at) g
 
-  module _ {x : Position} (b : BeginTold line at 93 x) where
-    pub entities-none : {t : Tally} {e : ℕ} → x ≡ Closed e → CountedTo line at t (record { tally = t; end = e }) (array entity_read (drop at line)) counted_entities
-    entities-none z = counted-as sizes-entities (loop_empty 93 (ItemOf entity_read) entity_size (listed line at) g b z)
+  pub entities-begun : {t : Tally} {x : Option ℕ} → BeginTold line at 93 x → Entities line at t t at x
+  entities-begun b = loop_begun 93 (ItemOf entity_read) entity_size (listed line at) g b
 
-    pub entities-start : {t : Tally} {i : ℕ} → x ≡ Next i → Entities line at t t i
-    entities-start z = loop_start 93 (ItemOf entity_read) entity_size (listed line at) g b z
-
-module _ {line : List ℕ} {at i : ℕ} {t tally : Tally} (g : Entities line at t tally i) where
+module _ {line : List ℕ} {at i e' : ℕ} {t tally : Tally} {y : Option ℕ} (g : Entities line at t tally e' y) (z : y ≡ Some i) where
   pub entities-good : Good line i (entity_read (drop i line))
-  entities-good = let n = turn 93 (ItemOf entity_read) g.run in record { what = n.what; rest = n.after; within = g.within; is = n.part }
+  entities-good = let k = g.next i z in let n = turn 93 (ItemOf entity_read) k.run in record { what = n.what; rest = n.after; within = k.within; is = n.part }
 
-  module _ {r : Counted} (p : CountedTo line i tally r (entity_read (drop i line)) entity_size) where
-    one : PartTo 93 (ItemOf entity_read) entity_size line i tally r.end r.tally
+  module _ {r : Tally} {e : ℕ} (p : CountedTo line i tally r e (entity_read (drop i line)) entity_size) where
+    one : PartTo 93 (ItemOf entity_read) entity_size line i tally e r
     one = record { from = p.from; within = p.within; is = λ a t e. p.is a t e; adds = λ a t e. p.adds a t e }
 
-    pub entities-after : Signed line r.end
-    entities-after = part-signed 93 (ItemOf entity_read) entity_size g one
+    pub entities-after : Signed line e
+    entities-after = part-signed 93 (ItemOf entity_read) entity_size (g.next i z) one
 
-    module _ {x : Position} (b : PartTold line r.end 93 x) where
-      pub entities-closed : {k : ℕ} → x ≡ Closed k → CountedTo line at t (record { tally = r.tally; end = k }) (array entity_read (drop at line)) counted_entities
-      entities-closed y = counted-as sizes-entities (loop_closed 93 (ItemOf entity_read) entity_size g one b y)
+    module _ {x : Option ℕ} (b : PartTold line e 93 x) where
+      pub entities-again : Entities line at t r e x
+      entities-again = loop_again 93 (ItemOf entity_read) entity_size (g.next i z) one b
 
-      pub entities-again : {j : ℕ} → x ≡ Next j → Entities line at t r.tally j
-      entities-again y = loop_again 93 (ItemOf entity_read) entity_size g one b y
+      pub entities-less : ahead line x < ahead line y
+      entities-less = loop_less 93 (ItemOf entity_read) entity_size (g.next i z) one b z
 
-      pub entities-less : {j : ℕ} → x ≡ Next j → length line - j < length line - i
-      entities-less y = loop_less 93 (ItemOf entity_read) entity_size g one b y
+module _ {line : List ℕ} {at e : ℕ} {t tally : Tally} {x : Option ℕ} (g : Entities line at t tally e x) (z : x ≡ None) where
+  pub entities-shut : Signed line e
+  entities-shut = loop_shut 93 (ItemOf entity_read) entity_size g z
+
+  pub entities-told : {k : ℕ} → Behind line e k → CountedTo line at t tally k (array entity_read (drop at line)) counted_entities
+  entities-told h = counted-as sizes-entities (loop_told 93 (ItemOf entity_read) entity_size g z h)

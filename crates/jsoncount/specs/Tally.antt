@@ -4,7 +4,6 @@ use Rattle.meaning.specs.Tests.{choose}
 use Rattle.jsontext.specs.Reading.{Read, got}
 use Rattle.jsontrace.specs.Count.{Count, nothing, ◌⊞◌}
 use Rattle.jsoncount.specs.declared.tallies.Tally.{Tally}
-use Rattle.jsoncount.specs.declared.tallies.Counted.{Counted}
 
 -- a number that a word holds, or one more than the greatest of them
 unfoldable pub capped : ℕ → ℕ
@@ -32,8 +31,8 @@ sizes size [] = nothing
 sizes size (a ∷ others) = size a ⊞ sizes size others
 
 -- what was read up to the end is added
-pub record CountedTo {A : Type 0} (line : List ℕ) (at : ℕ) (t : Tally) (r : Counted) (m : Read A) (size : A → Count) : Type 0 where
-  pub from : at ≤ r.end
-  pub within : r.end ≤ length line
-  pub is : (what : A) (rest : List ℕ) → m ≡ got what rest → rest ≡ drop r.end line
-  pub adds : (what : A) (rest : List ℕ) → m ≡ got what rest → Adds t (size what) r.tally
+pub record CountedTo {A : Type 0} (line : List ℕ) (at : ℕ) (t u : Tally) (end : ℕ) (m : Read A) (size : A → Count) : Type 0 where
+  pub from : at ≤ end
+  pub within : end ≤ length line
+  pub is : (what : A) (rest : List ℕ) → m ≡ got what rest → rest ≡ drop end line
+  pub adds : (what : A) (rest : List ℕ) → m ≡ got what rest → Adds t (size what) u

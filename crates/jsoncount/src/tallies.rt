@@ -8,7 +8,7 @@ ghost use Rattle.jsoncount.specs.Tally.{Raised, Adds, CountedTo};
 use jsonspelt::spelt_at;
 
 // strings and their bytes, values, members, points, list words
-#[derive(Clone, Copy)]
+#[derive(Clone, Copy, Default)]
 pub struct Tally {
     pub strings: usize,
     pub bytes: usize,
@@ -18,65 +18,49 @@ pub struct Tally {
     pub lists: usize,
 }
 
-// so far, and where the line goes on
-#[derive(Clone, Copy)]
-pub struct Counted {
-    pub tally: Tally,
-    pub end: usize,
-}
+// one more than a word holds: no count goes past it
+const TOO_MANY: usize = 1 << 32;
 
 fn raised(n: usize, by: usize) -> usize
     ensures { Raised n by result }
 {
-    if 4294967295 < n {
-        return 4294967296;
+    n.saturating_add(by).min(TOO_MANY)
+}
+
+impl Tally {
+    // a string at `at`, and where it ends
+    pub fn add_string(&mut self, line: &[u8], at: usize) -> usize
+        requires { Good line.now at (string (drop at line.now)) }
+        ensures { CountedTo line.now at self.old self.new result (string (drop at line.now)) a_string }
+    {
+        let s = spelt_at(line, at);
+        self.strings = raised(self.strings, 1);
+        self.bytes = raised(self.bytes, s.bytes);
+        s.end
     }
-    if 4294967295 - n < by {
-        return 4294967296;
+
+    pub fn add_value(&mut self)
+        ensures { Adds self.old a_value self.new }
+    {
+        self.values = raised(self.values, 1);
     }
-    n + by
-}
 
-// a string at `at`
-pub fn with_string(line: &[u8], at: usize, t: Tally) -> Counted
-    requires { Good line.now at (string (drop at line.now)) }
-    ensures { CountedTo line.now at t result (string (drop at line.now)) a_string }
-{
-    let s = spelt_at(line, at);
-    let mut tally = t;
-    tally.strings = raised(t.strings, 1);
-    tally.bytes = raised(t.bytes, s.bytes);
-    Counted { tally, end: s.end }
-}
+    pub fn add_member(&mut self)
+        ensures { Adds self.old a_member self.new }
+    {
+        self.members = raised(self.members, 1);
+    }
 
-pub fn with_value(t: Tally) -> Tally
-    ensures { Adds t a_value result }
-{
-    let mut u = t;
-    u.values = raised(t.values, 1);
-    u
-}
+    pub fn add_point(&mut self)
+        ensures { Adds self.old a_point self.new }
+    {
+        self.points = raised(self.points, 1);
+    }
 
-pub fn with_member(t: Tally) -> Tally
-    ensures { Adds t a_member result }
-{
-    let mut u = t;
-    u.members = raised(t.members, 1);
-    u
-}
-
-pub fn with_point(t: Tally) -> Tally
-    ensures { Adds t a_point result }
-{
-    let mut u = t;
-    u.points = raised(t.points, 1);
-    u
-}
-
-pub fn with_lists(t: Tally, n: usize) -> Tally
-    ensures { Adds t (list_words n) result }
-{
-    let mut u = t;
-    u.lists = raised(t.lists, n);
-    u
+    // list words, so many
+    pub fn add_lists(&mut self, n: usize)
+        ensures { Adds self.old (list_words n) self.new }
+    {
+        self.lists = raised(self.lists, n);
+    }
 }

@@ -5,30 +5,20 @@ ghost use Rattle.jsonruns.specs.Good.{Good};
 ghost use Rattle.jsoncount.specs.Tally.{CountedTo};
 ghost use Rattle.jsoncount.specs.Sizes.{texts_size};
 
-use super::tallies::{Counted, Tally, with_lists, with_string};
-use jsonruns::{Part, first_part, part_after};
+use super::tallies::Tally;
+use jsonruns::{first_part, part_after, sign_end};
 
 // strings, after the bracket; each is a list word too
-pub fn count_texts(line: &[u8], at: usize, t: Tally) -> Counted
+pub fn count_texts(line: &[u8], at: usize, tally: &mut Tally) -> usize
     requires { Good line.now at (array text (drop at line.now)) }
-    ensures { CountedTo line.now at t result (array text (drop at line.now)) texts_size }
+    ensures { CountedTo line.now at tally.old tally.new result (array text (drop at line.now)) texts_size }
 {
-    let mut tally = t;
-    let mut i = at;
-    match first_part(line, at, 93) {
-        Part::Closed(end) => return Counted { tally, end },
-        Part::Next(first) => {
-            i = first;
-        }
+    let mut end = at;
+    let mut part = first_part(line, at, b']');
+    while let Some(i) = part {
+        end = tally.add_string(line, i);
+        tally.add_lists(1);
+        part = part_after(line, end, b']');
     }
-    loop {
-        let s = with_string(line, i, tally);
-        tally = with_lists(s.tally, 1);
-        match part_after(line, s.end, 93) {
-            Part::Closed(end) => return Counted { tally, end },
-            Part::Next(next) => {
-                i = next;
-            }
-        }
-    }
+    sign_end(line, end)
 }

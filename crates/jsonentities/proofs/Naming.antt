@@ -13,7 +13,6 @@ use Rattle.jsontrace.proofs.Laws.Trace.{shaped-texts, shaped-lists}
 use Rattle.jsonread.specs.Told.{Blanks}
 use Rattle.jsonroom.specs.declared.Bodies.{Bodies}
 use Rattle.jsonroom.specs.declared.Next.{Next}
-use Rattle.jsonroom.specs.declared.Written.{Written}
 use Rattle.jsonroom.specs.Put.{ListRoom, ListPut}
 use Rattle.jsonruns.specs.Good.{Signed, Past}
 use Rattle.jsonruns.proofs.Runs.{same-got}
@@ -41,15 +40,15 @@ module _ {line : List ℕ} {at : ℕ} {file marks : List ℕ} {b : Bodies} {n : 
   pub named-text : Due line at (string (drop at line)) file b n name_tables
   named-text = record { what = d.what; rest = d.rest; within = d.within; is = d.is; ready = ready-first (texts (d.what ∷ [])) word named-ready.ready }
 
-  module _ {after : List ℕ} {s : Written} (p : WroteTo line at (string (drop at line)) file after b n name_tables s) where
-    text-added : Adds file after b n (texts (d.what ∷ [])) s.next
+  module _ {after : List ℕ} {s-next : Next} {s-end : ℕ} (p : WroteTo line at (string (drop at line)) file after b n name_tables s-next s-end) where
+    text-added : Adds file after b n (texts (d.what ∷ [])) s-next
     text-added = p.adds d.what d.rest d.is
 
-    next-list : s.next.list ≡ n.list
+    next-list : s-next.list ≡ n.list
     unfolding beyond texts named-text
     next-list = ap (λ (k : Next). k.list) (adds-next named-text.ready text-added) ∙ omega arith
 
-    pub named-room : length after ≡ length file → ListRoom after marks b s.next n.string
+    pub named-room : length after ≡ length file → ListRoom after marks b s-next n.string
     unfolding texts lists ◌⊕◌
     named-room l = record {
       fits = omega (arith, ready-lists (ready-second (texts (d.what ∷ [])) word (shaped-texts (d.what ∷ [])) named-ready.ready text-added l));
@@ -57,7 +56,7 @@ module _ {line : List ℕ} {at : ℕ} {file marks : List ℕ} {b : Bodies} {n : 
       is_word = omega (arith, string-words named-ready.ready);
     }
 
-    pub named-wrote : {last marks' : List ℕ} {k : Next} → ListPut after last marks marks' b s.next n.string 1 k → MarkWrote line at (string (drop at line)) file last marks marks' b n named_tables (record { next = k; end = s.end })
+    pub named-wrote : {last marks' : List ℕ} {k : Next} → ListPut after last marks marks' b s-next n.string 1 k → MarkWrote line at (string (drop at line)) file last marks marks' b n named_tables k s-end
     unfolding named_tables numbers texts
     named-wrote v = record {
       from = p.from;
@@ -72,14 +71,14 @@ module _ {line : List ℕ} {at : ℕ} {file marks : List ℕ} {b : Bodies} {n : 
   pub signed-named : MarkDue line at (string (drop at line)) file marks b n named_tables
   signed-named = d.due
 
-  module _ {after marks' : List ℕ} {s : Written} (p : MarkWrote line at (string (drop at line)) file after marks marks' b n named_tables s) where
-    sign_of : (what rest : List ℕ) (sign : ℕ) (others : List ℕ) → string (drop at line) ≡ got what rest → blanks rest ≡ sign ∷ others → blanks (drop s.end line) ≡ sign ∷ others
+  module _ {after marks' : List ℕ} {s-next : Next} {s-end : ℕ} (p : MarkWrote line at (string (drop at line)) file after marks marks' b n named_tables s-next s-end) where
+    sign_of : (what rest : List ℕ) (sign : ℕ) (others : List ℕ) → string (drop at line) ≡ got what rest → blanks rest ≡ sign ∷ others → blanks (drop s-end line) ≡ sign ∷ others
     sign_of what rest sign others f e = ap blanks (sym (p.is what rest f)) ∙ e
 
-    pub signed-sign : Signed line s.end
+    pub signed-sign : Signed line s-end
     signed-sign = record { within = p.within; sign = d.sign; rest = d.others; is = sign_of d.due.what d.due.rest d.sign d.others d.due.is d.byte }
 
-    pub signed-wrote : {v : ℕ} → Past line s.end v → SignedWritten line at file after marks marks' b n (record { next = s.next; end = v })
+    pub signed-wrote : {v : ℕ} → Past line s-end v → SignedWritten line at file after marks marks' b n s-next v
     signed-wrote q = record {
       within = q.within;
       is = λ what rest sign others f e. q.is sign others (sign_of what rest sign others f e);
@@ -117,40 +116,40 @@ module _ {line : List ℕ} {at : ℕ} {file marks : List ℕ} {b : Bodies} {n : 
       byte = it.first;
     }
 
-    module _ {mid marked : List ℕ} {s : Written} (p : SignedWritten line a file mid marks marked b n s) where
-      type-added : MarkAdds file mid marks marked b n first s.next
+    module _ {mid marked : List ℕ} {s-next : Next} {s-end : ℕ} (p : SignedWritten line a file mid marks marked b n s-next s-end) where
+      type-added : MarkAdds file mid marks marked b n first s-next
       type-added = p.adds d.what.type it.after-type (at-type it)
 
-      numbers-are : numbers s.next ≡ past (numbers n) first
+      numbers-are : numbers s-next ≡ past (numbers n) first
       numbers-are = mark-numbers first (mark-ready-first first second both-ready) type-added
 
-      at-id : {i : Item} {rest : List ℕ} (k : Tripled (drop at line) i rest) → string (drop s.end line) ≡ got i.id k.after-id
+      at-id : {i : Item} {rest : List ℕ} (k : Tripled (drop at line) i rest) → string (drop s-end line) ≡ got i.id k.after-id
       at-id {i} k = ap string (p.is i.type k.after-type 44 k.to-id (at-type k) k.first) ∙ k.id-is
 
-      pub id-due : length mid ≡ length file → SignedDue line s.end mid marked b s.next
+      pub id-due : length mid ≡ length file → SignedDue line s-end mid marked b s-next
       id-due e = record {
         due = record {
           what = d.what.id;
           rest = it.after-id;
           within = p.within;
           is = at-id it;
-          ready = subst (λ (k : Next-as_Trace). MarkReady mid marked b s.next (named_tables d.what.id k)) (sym numbers-are) (mark-ready-second first second (shaped-named d.what.type (numbers n)) both-ready type-added e);
+          ready = subst (λ (k : Next-as_Trace). MarkReady mid marked b s-next (named_tables d.what.id k)) (sym numbers-are) (mark-ready-second first second (shaped-named d.what.type (numbers n)) both-ready type-added e);
         };
         sign = 44;
         others = it.to-attributes;
         byte = it.second;
       }
 
-      module _ {after marks' : List ℕ} {t : Written} (q : SignedWritten line s.end mid after marked marks' b s.next t) where
-        keys-added : MarkAdds file after marks marks' b n (first ⊕ second) t.next
+      module _ {after marks' : List ℕ} {t-next : Next} {t-end : ℕ} (q : SignedWritten line s-end mid after marked marks' b s-next t-next t-end) where
+        keys-added : MarkAdds file after marks marks' b n (first ⊕ second) t-next
         keys-added =
             mark-then first second (shaped-named d.what.type (numbers n)) (shaped-named d.what.id (past (numbers n) first)) type-added
-            (subst (λ (k : Next-as_Trace). MarkAdds mid after marked marks' b s.next (named_tables d.what.id k) t.next) numbers-are (q.adds d.what.id it.after-id (at-id it)))
+            (subst (λ (k : Next-as_Trace). MarkAdds mid after marked marks' b s-next (named_tables d.what.id k) t-next) numbers-are (q.adds d.what.id it.after-id (at-id it)))
 
-        pub keys-wrote : KeysWritten line at file after marks marks' b n t
+        pub keys-wrote : KeysWritten line at file after marks marks' b n t-next t-end
         unfolding keys_tables
         keys-wrote = record {
           within = q.within;
           is = λ what rest e. let k = tripled (drop at line) e in record { left = k.left; is = ap (fields 31) (q.is what.id k.after-id 44 k.to-attributes (at-id k) k.second) ∙ k.attributes-are };
-          adds = λ what rest e. subst (λ (i : Item). MarkAdds file after marks marks' b n (keys_tables i (numbers n)) t.next) (same-got d.is e) keys-added;
+          adds = λ what rest e. subst (λ (i : Item). MarkAdds file after marks marks' b n (keys_tables i (numbers n)) t-next) (same-got d.is e) keys-added;
         }

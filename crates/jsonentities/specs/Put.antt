@@ -8,7 +8,6 @@ use Rattle.jsontrace.specs.Order.{ordered_members}
 use Rattle.jsontrace.specs.Trace.{Tables, ◌⊕◌, texts, lists, Next as Next-as_Trace, past, last_value, value_adds, entity_adds}
 use Rattle.jsonroom.specs.declared.Bodies.{Bodies}
 use Rattle.jsonroom.specs.declared.Next.{Next}
-use Rattle.jsonroom.specs.declared.Written.{Written}
 use Rattle.jsoncount.specs.Sizes.{entity_read}
 use Rattle.jsonview.specs.Room.{numbers}
 use Rattle.jsonadds.specs.Place.{Spare, Stays, named}
@@ -50,11 +49,11 @@ pub record MarkDue {A : Type 0} (line : List ℕ) (at : ℕ) (m : Read A) (file 
   pub ready : MarkReady file marks b n (tables what (numbers n))
 
 -- what was read up to the end is written
-pub record MarkWrote {A : Type 0} (line : List ℕ) (at : ℕ) (m : Read A) (before after marks marks' : List ℕ) (b : Bodies) (n : Next) (tables : A → Next-as_Trace → Tables) (r : Written) : Type 0 where
-  pub from : at ≤ r.end
-  pub within : r.end ≤ length line
-  pub is : (what : A) (rest : List ℕ) → m ≡ got what rest → rest ≡ drop r.end line
-  pub adds : (what : A) (rest : List ℕ) → m ≡ got what rest → MarkAdds before after marks marks' b n (tables what (numbers n)) r.next
+pub record MarkWrote {A : Type 0} (line : List ℕ) (at : ℕ) (m : Read A) (before after marks marks' : List ℕ) (b : Bodies) (n : Next) (tables : A → Next-as_Trace → Tables) (next : Next) (e : ℕ) : Type 0 where
+  pub from : at ≤ e
+  pub within : e ≤ length line
+  pub is : (what : A) (rest : List ℕ) → m ≡ got what rest → rest ≡ drop e line
+  pub adds : (what : A) (rest : List ℕ) → m ≡ got what rest → MarkAdds before after marks marks' b n (tables what (numbers n)) next
 
 -- a string and a byte behind it stand here, and the string fits
 pub record SignedDue (line : List ℕ) (at : ℕ) (file marks : List ℕ) (b : Bodies) (n : Next) : Type 0 where
@@ -64,20 +63,20 @@ pub record SignedDue (line : List ℕ) (at : ℕ) (file marks : List ℕ) (b : B
   pub byte : blanks due.rest ≡ sign ∷ others
 
 -- the string is written, and what stands behind that byte begins at the end
-pub record SignedWritten (line : List ℕ) (at : ℕ) (before after marks marks' : List ℕ) (b : Bodies) (n : Next) (r : Written) : Type 0 where
-  pub within : r.end ≤ length line
-  pub is : (what rest : List ℕ) (sign : ℕ) (others : List ℕ) → string (drop at line) ≡ got what rest → blanks rest ≡ sign ∷ others → drop r.end line ≡ blanks others
-  pub adds : (what rest : List ℕ) → string (drop at line) ≡ got what rest → MarkAdds before after marks marks' b n (named_tables what (numbers n)) r.next
+pub record SignedWritten (line : List ℕ) (at : ℕ) (before after marks marks' : List ℕ) (b : Bodies) (n next : Next) (e : ℕ) : Type 0 where
+  pub within : e ≤ length line
+  pub is : (what rest : List ℕ) (sign : ℕ) (others : List ℕ) → string (drop at line) ≡ got what rest → blanks rest ≡ sign ∷ others → drop e line ≡ blanks others
+  pub adds : (what rest : List ℕ) → string (drop at line) ≡ got what rest → MarkAdds before after marks marks' b n (named_tables what (numbers n)) next
 
 -- type and id are written, and the attributes begin at the end
 pub record Attributes (line : List ℕ) (at : ℕ) (ps : Parts) : Type 0 where
   pub left : List ℕ
   pub is : fields 31 (drop at line) ≡ got ps left
 
-pub record KeysWritten (line : List ℕ) (at : ℕ) (before after marks marks' : List ℕ) (b : Bodies) (n : Next) (r : Written) : Type 0 where
-  pub within : r.end ≤ length line
-  pub is : (what : Item) (rest : List ℕ) → entity_read (drop at line) ≡ got what rest → Attributes line r.end what.attributes
-  pub adds : (what : Item) (rest : List ℕ) → entity_read (drop at line) ≡ got what rest → MarkAdds before after marks marks' b n (keys_tables what (numbers n)) r.next
+pub record KeysWritten (line : List ℕ) (at : ℕ) (before after marks marks' : List ℕ) (b : Bodies) (n next : Next) (e : ℕ) : Type 0 where
+  pub within : e ≤ length line
+  pub is : (what : Item) (rest : List ℕ) → entity_read (drop at line) ≡ got what rest → Attributes line e what.attributes
+  pub adds : (what : Item) (rest : List ℕ) → entity_read (drop at line) ≡ got what rest → MarkAdds before after marks marks' b n (keys_tables what (numbers n)) next
 
 -- with cells for the names inside
 pub record HeldDue {A : Type 0} (line : List ℕ) (at : ℕ) (m : Read A) (file marks : List ℕ) (b : Bodies) (n : Next) (tables : A → Next-as_Trace → Tables) (names : List ℕ) (used : ℕ) (count : A → ℕ) : Type 0 where

@@ -19,7 +19,6 @@ use Rattle.jsontrace.specs.Trace.{Tables, empty, ◌⊕◌, texts, lists, Next a
 use Rattle.jsontrace.proofs.Laws.Trace.{Shaped, shaped-texts, shaped-lists, ◌then◌}
 use Rattle.jsonroom.specs.declared.Bodies.{Bodies}
 use Rattle.jsonroom.specs.declared.Next.{Next}
-use Rattle.jsonroom.specs.declared.Written.{Written}
 use Rattle.jsonruns.specs.declared.Part.{Part as Position}
 use Rattle.jsonruns.specs.declared.Part.TheVariants.{Next as Goes, Closed}
 use Rattle.jsonruns.specs.Good.{Signed, BeginTold, PartTold}
@@ -69,16 +68,16 @@ module _ {line : List ℕ} {at : ℕ} {file marks : List ℕ} {b : Bodies} {n : 
   pub space-named : MarkDue line at (string (drop at line)) file marks b n named_tables
   space-named = d.due
 
-  module _ {after marks' : List ℕ} {w : Written} (p : MarkWrote line at (string (drop at line)) file after marks marks' b n named_tables w) where
-    pub space-signed : Signed line w.end
+  module _ {after marks' : List ℕ} {w-next : Next} {w-end : ℕ} (p : MarkWrote line at (string (drop at line)) file after marks marks' b n named_tables w-next w-end) where
+    pub space-signed : Signed line w-end
     space-signed = record { within = p.within; sign = d.sign; rest = d.others; is = ap blanks (sym (p.is d.due.what d.due.rest d.due.is)) ∙ d.follows }
 
-    module _ {x : Position} (t : PartTold line w.end 93 x) where
-      pub space-last : {e : ℕ} → x ≡ Closed e → SpaceWritten line at file after marks marks' b n (record { next = w.next; more = 0 })
-      space-last {e} y = record { end = w.end; wrote = p; closed = λ z. record { end = e; is = t.closed e y }; goes = λ z. absurd (omega arith) }
+    module _ {x : Position} (t : PartTold line w-end 93 x) where
+      pub space-last : {e : ℕ} → x ≡ Closed e → SpaceWritten line at file after marks marks' b n (record { next = w-next; more = 0 })
+      space-last {e} y = record { end = w-end; wrote = p; closed = λ z. record { end = e; is = t.closed e y }; goes = λ z. absurd (omega arith) }
 
-      pub space-goes : {i : ℕ} → x ≡ Goes i → SpaceWritten line at file after marks marks' b n (record { next = w.next; more = i })
-      space-goes {i} y = record { end = w.end; wrote = p; closed = λ z. absurd (let c = t.next i y in omega (arith, c.from, z)); goes = λ z. t.next i y }
+      pub space-goes : {i : ℕ} → x ≡ Goes i → SpaceWritten line at file after marks marks' b n (record { next = w-next; more = i })
+      space-goes {i} y = record { end = w-end; wrote = p; closed = λ z. absurd (let c = t.next i y in omega (arith, c.from, z)); goes = λ z. t.next i y }
 
 -- ---- the first string
 

@@ -13,7 +13,6 @@ use Rattle.jsontrace.specs.Trace.{Tables, empty, ◌⊕◌, Next as Next-as_Trac
 use Rattle.jsontrace.proofs.Laws.Trace.{Shaped, shaped, shaped-maybe}
 use Rattle.jsonroom.specs.declared.Bodies.{Bodies}
 use Rattle.jsonroom.specs.declared.Next.{Next}
-use Rattle.jsonroom.specs.declared.Written.{Written}
 use Rattle.jsonruns.proofs.Runs.{same-got}
 use Rattle.jsoncount.specs.Sizes.{object_read}
 use Rattle.jsoncount.proofs.Triples.{Fielded, fielded, byte-below, byte_left}
@@ -97,14 +96,14 @@ module _ {line : List ℕ} {at : ℕ} {names file : List ℕ} {b : Bodies} {n : 
     };
   }
 
-  module _ {names' after : List ℕ} {w : Written} (p : Placed line (at + 1) (object_read 31 (drop (at + 1) line)) file after b n object_value w 0 names names') where
-    fields-adds : (ps : Parts) → Stands line at (fields 31) ps → Adds file after b n (fields_tables ps (numbers n)) w.next
+  module _ {names' after : List ℕ} {w-next : Next} {w-end : ℕ} (p : Placed line (at + 1) (object_read 31 (drop (at + 1) line)) file after b n object_value w-next w-end 0 names names') where
+    fields-adds : (ps : Parts) → Stands line at (fields 31) ps → Adds file after b n (fields_tables ps (numbers n)) w-next
     fields-adds ps s =
         let f = fielded 31 (drop at line) s.is in
-        subst (λ (t : Tables). Adds file after b n t w.next) (sym (fields-tables ps (numbers n)))
-        (subst (λ (qs : Parts). Adds file after b n (value_tables (Object qs) (numbers n)) w.next) (sym f.made.makes) (p.told.adds f.made.what s.rest (fields_read f)))
+        subst (λ (t : Tables). Adds file after b n t w-next) (sym (fields-tables ps (numbers n)))
+        (subst (λ (qs : Parts). Adds file after b n (value_tables (Object qs) (numbers n)) w-next) (sym f.made.makes) (p.told.adds f.made.what s.rest (fields_read f)))
 
-    its-adds : Adds file after b n (value_adds (Object (ordered_members d.what)) (numbers n)) w.next
+    its-adds : Adds file after b n (value_adds (Object (ordered_members d.what)) (numbers n)) w-next
     unfolding fields_tables
     its-adds = fields-adds d.what d.stands
 
@@ -112,17 +111,17 @@ module _ {line : List ℕ} {at : ℕ} {names file : List ℕ} {b : Bodies} {n : 
     unfolding fields_tables
     its-ready = d.ready
 
-    pub fields-some : 1 ≤ w.next.value
+    pub fields-some : 1 ≤ w-next.value
     fields-some = value-some (Object (ordered_members d.what)) its-ready its-adds
 
-    pub fields-wrote : OneWritten (Stands line at (fields 31)) fields_tables fields_word names names' file after b n (record { next = w.next; number = w.next.value - 1 })
+    pub fields-wrote : OneWritten (Stands line at (fields 31)) fields_tables fields_word names names' file after b n (record { next = w-next; number = w-next.value - 1 })
     fields-wrote = record {
       long = p.stays.long;
       small = value-small (Object (ordered_members d.what)) its-ready its-adds;
       adds = fields-adds;
       is =
           λ ps s.
-          subst (λ (qs : Parts). w.next.value - 1 ≡ fields_word qs (numbers n)) (stands_one d.what ps d.stands s)
+          subst (λ (qs : Parts). w-next.value - 1 ≡ fields_word qs (numbers n)) (stands_one d.what ps d.stands s)
           (unfold fields_word fields_tables in value-last (Object (ordered_members d.what)) its-ready its-adds);
     }
 
@@ -179,25 +178,25 @@ module _ {line : List ℕ} {at : ℕ} {names file : List ℕ} {b : Bodies} {n : 
       };
     }
 
-    module _ {names' after : List ℕ} {w : Written} (p : Placed line at (value 32 (drop at line)) file after b n value_tables w 0 names names') where
-      one-adds : Adds file after b n (value_tables one.value (numbers n)) w.next
+    module _ {names' after : List ℕ} {w-next : Next} {w-end : ℕ} (p : Placed line at (value 32 (drop at line)) file after b n value_tables w-next w-end 0 names names') where
+      one-adds : Adds file after b n (value_tables one.value (numbers n)) w-next
       one-adds = p.told.adds one.value one.stands.rest one.stands.is
 
-      pub maybe-some : 1 ≤ w.next.value
+      pub maybe-some : 1 ≤ w-next.value
       maybe-some = value-some (ordered one.value) one-ready one-adds
 
-      what-adds : Adds file after b n (maybe_tables d.what (numbers n)) w.next
-      what-adds = subst (λ (t : Tables). Adds file after b n t w.next) (sym (ap (λ (o : Option J). maybe_tables o (numbers n)) one.there ∙ some-tables one.value (numbers n))) one-adds
+      what-adds : Adds file after b n (maybe_tables d.what (numbers n)) w-next
+      what-adds = subst (λ (t : Tables). Adds file after b n t w-next) (sym (ap (λ (o : Option J). maybe_tables o (numbers n)) one.there ∙ some-tables one.value (numbers n))) one-adds
 
-      what-word : w.next.value - 1 ≡ maybe_word d.what (numbers n)
+      what-word : w-next.value - 1 ≡ maybe_word d.what (numbers n)
       what-word = value-last (ordered one.value) one-ready one-adds ∙ sym (ap (λ (o : Option J). maybe_word o (numbers n)) one.there ∙ some_word one.value (numbers n))
 
-      pub maybe-wrote : OneWritten (MayStand line at) maybe_tables maybe_word names names' file after b n (record { next = w.next; number = w.next.value - 1 })
+      pub maybe-wrote : OneWritten (MayStand line at) maybe_tables maybe_word names names' file after b n (record { next = w-next; number = w-next.value - 1 })
       maybe-wrote = record {
         long = p.stays.long;
         small = value-small (ordered one.value) one-ready one-adds;
-        adds = λ o s. subst (λ (x : Option J). Adds file after b n (maybe_tables x (numbers n)) w.next) (may_one d.what o d.stands s) what-adds;
-        is = λ o s. subst (λ (x : Option J). w.next.value - 1 ≡ maybe_word x (numbers n)) (may_one d.what o d.stands s) what-word;
+        adds = λ o s. subst (λ (x : Option J). Adds file after b n (maybe_tables x (numbers n)) w-next) (may_one d.what o d.stands s) what-adds;
+        is = λ o s. subst (λ (x : Option J). w-next.value - 1 ≡ maybe_word x (numbers n)) (may_one d.what o d.stands s) what-word;
       }
 
 -- ---- two of them

@@ -55,7 +55,7 @@ module _ {line out : List ℕ} {at : ℕ} {b : Bodies} {n : Next} (r : StringRoo
     pub bytes_fit : Fits w64 (n.byte + s.bytes)
     bytes_fit = record { fits = omega (arith, byte_word, size_word) }
 
-    pub string-put : {v : List ℕ} → Writing w v (b.strings + 8 * n.string) (packed (n.byte ∷ s.bytes ∷ [])) → StringPut line at out v b n (record { next = record { string = n.string + 1; byte = n.byte + s.bytes; value = n.value; member = n.member; list = n.list; point = n.point }; end = s.end })
+    pub string-put : {v : List ℕ} → Writing w v (b.strings + 8 * n.string) (packed (n.byte ∷ s.bytes ∷ [])) → StringPut line at out v b n (record { string = n.string + 1; byte = n.byte + s.bytes; value = n.value; member = n.member; list = n.list; point = n.point }) s.end
     unfolding with_string
     string-put {v} g text rest e =
         let q = p text rest e in

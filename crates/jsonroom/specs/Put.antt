@@ -7,7 +7,6 @@ use Rattle.jsontext.specs.Strings.{string}
 use Rattle.jsonspelt.specs.Spelt.{Fits}
 use Rattle.jsonroom.specs.declared.Bodies.{Bodies}
 use Rattle.jsonroom.specs.declared.Next.{Next}
-use Rattle.jsonroom.specs.declared.Written.{Written}
 
 -- one value more
 unfoldable pub with_value : Next → Next
@@ -27,17 +26,17 @@ pub record StringRoom (line : List ℕ) (at : ℕ) (out : List ℕ) (b : Bodies)
   pub record_fits : b.strings + 8 * n.string + 8 ≤ b.text
   pub words : length out ≤ 4294967295
 
-pub record StringIs (line : List ℕ) (at : ℕ) (before after : List ℕ) (b : Bodies) (n : Next) (r : Written) (text rest : List ℕ) : Type 0 where
-  pub from : at < r.end
-  pub within : r.end ≤ length line
-  pub rest-is : rest ≡ drop r.end line
+pub record StringIs (line : List ℕ) (at : ℕ) (before after : List ℕ) (b : Bodies) (n m : Next) (e : ℕ) (text rest : List ℕ) : Type 0 where
+  pub from : at < e
+  pub within : e ≤ length line
+  pub rest-is : rest ≡ drop e line
   pub middle : List ℕ
   pub bytes : Writing before middle (b.text + n.byte) text
   pub record_is : Writing middle after (b.strings + 8 * n.string) (packed (n.byte ∷ length text ∷ []))
-  pub next : r.next ≡ with_string (length text) n
+  pub next : m ≡ with_string (length text) n
 
-abbrev pub StringPut : List ℕ → ℕ → List ℕ → List ℕ → Bodies → Next → Written → Type 0
-StringPut line at before after b n r = (text rest : List ℕ) → string (drop at line) ≡ got text rest → StringIs line at before after b n r text rest
+abbrev pub StringPut : List ℕ → ℕ → List ℕ → List ℕ → Bodies → Next → Next → ℕ → Type 0
+StringPut line at before after b n next e = (text rest : List ℕ) → string (drop at line) ≡ got text rest → StringIs line at before after b n next e text rest
 
 -- a list word fits, and its mark
 pub record ListRoom (out marks : List ℕ) (b : Bodies) (n : Next) (word : ℕ) : Type 0 where

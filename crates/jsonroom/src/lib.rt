@@ -24,7 +24,7 @@ pub struct Bodies {
 }
 
 // how many records stand in each table: the numbers that the next ones get; and how many bytes of text
-#[derive(Clone, Copy)]
+#[derive(Clone, Copy, Default)]
 pub struct Next {
     pub string: usize,
     pub byte: usize,
@@ -32,13 +32,6 @@ pub struct Next {
     pub member: usize,
     pub list: usize,
     pub point: usize,
-}
-
-// what is next after something was written, and where it ended in the line
-#[derive(Clone, Copy)]
-pub struct Written {
-    pub next: Next,
-    pub end: usize,
 }
 
 // two words
@@ -62,27 +55,24 @@ fn put_record(out: &mut [u8], at: usize, kind: u32, x: u32, y: u32)
     put_word(out, at + 12, 0);
 }
 
-pub fn put_value(out: &mut [u8], b: Bodies, n: Next, kind: u32, x: u32, y: u32) -> Next
-    requires { b.values + 16 * n.value + 16 ≤ length out.old }
-    ensures { ValuePut out.old out.new b n kind x y result }
+pub fn put_value(out: &mut [u8], b: Bodies, next: &mut Next, kind: u32, x: u32, y: u32)
+    requires { b.values + 16 * next.old.value + 16 ≤ length out.old }
+    ensures { ValuePut out.old out.new b next.old kind x y next.new }
 {
-    put_record(out, b.values + 16 * n.value, kind, x, y);
-    let mut m = n;
-    m.value += 1;
-    m
+    put_record(out, b.values + 16 * next.value, kind, x, y);
+    next.value += 1;
 }
 
 // a string at `at`, and where it ends
-pub fn put_string(line: &[u8], at: usize, out: &mut [u8], b: Bodies, n: Next) -> Written
-    requires { StringRoom line.now at out.old b n }
-    ensures { StringPut line.now at out.old out.new b n result }
+pub fn put_string(line: &[u8], at: usize, out: &mut [u8], b: Bodies, next: &mut Next) -> usize
+    requires { StringRoom line.now at out.old b next.old }
+    ensures { StringPut line.now at out.old out.new b next.old next.new result }
 {
-    let s = put_spelt(line, at, out, b.text + n.byte);
-    put_pair(out, b.strings + 8 * n.string, n.byte, s.bytes);
-    let mut next = n;
+    let s = put_spelt(line, at, out, b.text + next.byte);
+    put_pair(out, b.strings + 8 * next.string, next.byte, s.bytes);
     next.string += 1;
     next.byte += s.bytes;
-    Written { next, end: s.end }
+    s.end
 }
 
 // member i of all; no name is 4294967295
@@ -95,16 +85,13 @@ pub fn put_member(out: &mut [u8], b: Bodies, i: usize, name: usize, value: usize
 }
 
 // a list word and its mark
-pub fn put_list(out: &mut [u8], marks: &mut [u8], b: Bodies, n: Next, word: usize, mark: u8) -> Next
-    requires { ListRoom out.old marks.old b n word }
-    ensures { ListPut out.old out.new marks.old marks.new b n word mark result }
+pub fn put_list(out: &mut [u8], marks: &mut [u8], b: Bodies, next: &mut Next, word: usize, mark: u8)
+    requires { ListRoom out.old marks.old b next.old word }
+    ensures { ListPut out.old out.new marks.old marks.new b next.old word mark next.new }
 {
-    put_word(out, b.lists + 4 * n.list, narrow(word));
-    let i = n.list;
-    marks[i] = mark;
-    let mut m = n;
-    m.list += 1;
-    m
+    put_word(out, b.lists + 4 * next.list, narrow(word));
+    marks[next.list] = mark;
+    next.list += 1;
 }
 
 // words from a place on
@@ -112,10 +99,8 @@ pub fn put_words(out: &mut [u8], at: usize, words: &[u32])
     requires { at + 4 * length words.now ≤ length out.old }
     ensures { Writing out.old out.new at (packed words.now) }
 {
-    let mut i = 0;
-    while i < words.len() {
-        put_word(out, at + 4 * i, words[i]);
-        i += 1;
+    for (i, word) in words.iter().enumerate() {
+        put_word(out, at + 4 * i, *word);
     }
 }
 

@@ -3,11 +3,10 @@ use mathlib.Core.Path.{◌≡◌, refl, sym, ap, subst, ◌∙◌}
 use mathlib.Core.Bool.{Bool, true, false, not}
 use mathlib.Core.List.{List, [], ◌∷◌}
 use mathlib.Core.Option.{Option, none, some}
-use Prim.Native.Nat.{ℕ, ◌+◌, ◌-◌, ◌<◌, ◌≤◌}
+use Prim.Native.Nat.{ℕ, ◌-◌, ◌<◌, ◌≤◌}
 use native.Mathlib.Omega.{arith}
 use lib.Dec.{eqb}
-use lib.ListN.{length, drop, get_or}
-use borrow.Author.Tests.{eqb-true, eqb-false, eq-eqb, ne_eqb}
+use lib.ListN.{length, drop}
 use Rattle.std.proofs.Common.{IsSome, Option as Place, Some, None, unwrap_or}
 use Rattle.meaning.specs.Tests.{◌and◌, ◌or◌, choose}
 use Rattle.laws.specs.Tests.{yes, no as otherwise}
@@ -26,7 +25,6 @@ use Rattle.jsonruns.specs.Good.{Good, Ends, Signed, Past, Behind, PartTold}
 use Rattle.jsonruns.specs.Run.{Run, Member}
 use Rattle.jsonruns.specs.Forms.{first_name, second_name, one_of, under, form_of, pair_read, Says, TwoTold, FirstTold, kept_place, Kept}
 use Rattle.jsonruns.proofs.Runs.{same-got, same_rest, then_of, text-string, object-listed, Turn, turn}
-use Rattle.jsonruns.proofs.Signs.{sign_below, sign-is, sign-left}
 
 -- ---- small ones
 

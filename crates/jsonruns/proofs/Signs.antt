@@ -1,10 +1,10 @@
 -- Past a byte and the blanks around it
-use mathlib.Core.Path.{◌≡◌, sym, ap, subst, ◌∙◌}
+use mathlib.Core.Path.{◌≡◌, refl, sym, ap, subst, ◌∙◌}
 use mathlib.Core.List.{List, ◌∷◌}
-use Prim.Native.Nat.{ℕ, ◌+◌, ◌<◌, ◌≤◌}
+use Prim.Native.Nat.{ℕ, suc, ◌+◌, ◌-◌, ◌<◌, ◌≤◌}
 use native.Mathlib.Omega.{arith}
 use lib.ListN.{length, drop, get_or, length-drop}
-use Rattle.std.proofs.Common.{Some, None}
+use Rattle.std.proofs.Common.{Option, Some, None}
 use Rattle.jsontext.specs.Reading.{blanks}
 use Rattle.jsonread.specs.Told.{Blanks}
 use Rattle.jsonread.proofs.Places.{byte_at}
@@ -75,3 +75,13 @@ closed-left {line} {at} {close} {k} c h = c.is ∙ ap (λ (s : List ℕ). close 
 
 pub closed-signed : {line : List ℕ} {at close : ℕ} → at ≤ length line → Closes line at close → Signed line at
 closed-signed {close = close} h c = record { within = h; sign = close; rest = c.rest; is = c.is }
+
+-- how much of a line a part and what follows it may take
+unfoldable pub ahead : List ℕ → Option ℕ → ℕ
+ahead line None = 0
+ahead line (Some i) = suc (length line - i)
+
+pub ahead-less : (line : List ℕ) {close i e : ℕ} {x y : Option ℕ} → y ≡ Some i → PartTold line e close x → i ≤ e → ahead line x < ahead line y
+unfolding ahead
+ahead-less line {x = None} z b h = rw z (omega arith)
+ahead-less line {i = i} {x = Some j} z b h = let c = b.next j refl in rw z (omega (arith, c.from, c.within))

@@ -22,7 +22,6 @@ use Rattle.jsonruns.specs.Good.{Good}
 use Rattle.jsonruns.proofs.Runs.{then_of, due_of, wanted}
 use Rattle.jsonruns.proofs.Signs.{sign_below, sign-left}
 use Rattle.jsoncount.specs.declared.tallies.Tally.{Tally}
-use Rattle.jsoncount.specs.declared.tallies.Counted.{Counted}
 use Rattle.jsoncount.specs.Tally.{capped, Shows, Adds, CountedTo}
 use Rattle.jsoncount.proofs.Sums.{adds_then, adds_none, adds-as, sum_comm, sum-none}
 use Rattle.jsontotal.specs.Fields.{entries_read, entries_size}
@@ -84,7 +83,7 @@ module _ {line : List ℕ} {i : ℕ} (b : Blanks line 0 i) where
       let l = lined line g.is in
       record { what = l.members; rest = l.left; within = omega (arith, sign_below b l.brace); is = at-members l }
 
-  pub line-adds : {t u : Tally} {r : Counted} → Adds t a_point u → CountedTo line (i + 1) u r (entries_read (drop (i + 1) line)) entries_size → LineAdds line t r.tally
+  pub line-adds : {t u v : Tally} {k : ℕ} → Adds t a_point u → CountedTo line (i + 1) u v k (entries_read (drop (i + 1) line)) entries_size → LineAdds line t v
   line-adds m p = record {
     is = λ e rest q. let l = lined line q in adds-as (lined-total l) (adds_then m (p.adds l.members l.left (at-members l)));
   }

@@ -21,10 +21,9 @@ use Rattle.jsontrace.specs.Count.{Count, a_string, counted, counted_entities}
 use Rattle.jsonlines.specs.Entities.{entity_of}
 use Rattle.jsonlines.specs.Fields.{reader_at}
 use Rattle.jsonlines.proofs.Naming.{others-are}
-use Rattle.jsonruns.specs.Good.{Good}
+use Rattle.jsonruns.specs.Good.{Good, Ends}
 use Rattle.jsonruns.proofs.Runs.{then_of, due_of, text-string, wanted}
 use Rattle.jsoncount.specs.declared.tallies.Tally.{Tally}
-use Rattle.jsoncount.specs.declared.tallies.Counted.{Counted}
 use Rattle.jsoncount.specs.Tally.{CountedTo}
 use Rattle.jsoncount.specs.Sizes.{texts_size, fields_size, entity_read}
 use Rattle.jsoncount.proofs.Sums.{adds_none}
@@ -34,14 +33,17 @@ use Rattle.jsontotal.specs.Fields.{time_size, field_size}
 -- ---- a time
 
 module _ {line : List ℕ} {at : ℕ} (g : Good line at (due BadField numeral number (drop at line))) {x : Step} (p : Told line at x (due BadField numeral number (drop at line))) where
-  pub time-read : {e : ℕ} {t : Tally} → x ≡ At e → CountedTo line at t (record { tally = t; end = e }) (due BadField numeral number (drop at line)) time_size
-  unfolding time_size
-  time-read {e} {t} q =
+  pub time-read : {e : ℕ} → x ≡ At e → Ends line at e (due BadField numeral number (drop at line))
+  time-read {e} q =
       let k = p.stands e q in
-      record { from = k.from; within = k.within; is = λ what rest f. let z = k.is in cc; adds = λ what rest f. adds_none t }
+      record { from = k.from; within = k.within; is = λ what rest f. let z = k.is in cc }
 
-  pub time-good : {w : Fault} {a b e : ℕ} {t v : Tally} → x ≡ Bad w a b → CountedTo line at t (record { tally = v; end = e }) (due BadField numeral number (drop at line)) time_size
+  pub time-good : {w : Fault} {a b e : ℕ} → x ≡ Bad w a b → Ends line at e (due BadField numeral number (drop at line))
   time-good q = absurd (never (sym (p.faulty _ _ _ q).is ∙ g.is))
+
+none-counted : {line : List ℕ} {at e : ℕ} {t : Tally} → Ends line at e (due BadField numeral number (drop at line)) → CountedTo line at t t e (due BadField numeral number (drop at line)) time_size
+unfolding time_size
+none-counted {t = t} p = record { from = p.from; within = p.within; is = p.is; adds = λ what rest f. adds_none t }
 
 -- ---- an array, and nothing else
 
@@ -65,7 +67,7 @@ module _ {A : Type 0} (inside : List ℕ → Read A) (line : List ℕ) (at : ℕ
   listed-good : Good line at (listed inside (drop at line)) → Good line (at + 1) (inside (drop (at + 1) line))
   listed-good g = let b = bracketed inside (drop at line) g.is in record { what = g.what; rest = g.rest; within = omega (arith, bracket-below b); is = inside_is b }
 
-  listed-counted : {t : Tally} {r : Counted} {size : A → Count} → CountedTo line (at + 1) t r (inside (drop (at + 1) line)) size → CountedTo line at t r (listed inside (drop at line)) size
+  listed-counted : {t u : Tally} {k : ℕ} {size : A → Count} → CountedTo line (at + 1) t u k (inside (drop (at + 1) line)) size → CountedTo line at t u k (listed inside (drop at line)) size
   listed-counted p = record {
     from = omega (arith, p.from);
     within = p.within;
@@ -78,7 +80,7 @@ module _ {A : Type 0} (inside : List ℕ → Read A) (line : List ℕ) (at : ℕ
 text-as : {line : List ℕ} {at : ℕ} → Good line at (text (drop at line)) → Good line at (string (drop at line))
 text-as {line} {at} g = record { what = g.what; rest = g.rest; within = g.within; is = text-string (drop at line) g.is }
 
-as-text : {line : List ℕ} {at : ℕ} {t : Tally} {r : Counted} → CountedTo line at t r (string (drop at line)) a_string → CountedTo line at t r (text (drop at line)) a_string
+as-text : {line : List ℕ} {at : ℕ} {t u : Tally} {k : ℕ} → CountedTo line at t u k (string (drop at line)) a_string → CountedTo line at t u k (text (drop at line)) a_string
 as-text {line} {at} p = record {
   from = p.from;
   within = p.within;
@@ -130,39 +132,39 @@ module _ {line : List ℕ} {at field : ℕ} where
     unfolding entity_read
     entities-due n0 n1 n2 n3 n4 n5 n6 n7 = listed-good (array entity_of) line at (good-from Entities (others-are field (drop at line) n0 n1 n2 n3 n4 n5 n6 n7) g.within g)
 
-  module _ {t : Tally} {r : Counted} where
-    pub time-counted : field ≡ 0 → CountedTo line at t r (due BadField numeral number (drop at line)) time_size → CountedTo line at t r (reader_at field (drop at line)) field_size
-    unfolding reader_at field_size
-    time-counted e p = counted-from Time (made_as (drop at line) e) (omega arith) (λ a. refl) p
+  pub time-counted : {t : Tally} {k : ℕ} → field ≡ 0 → Ends line at k (due BadField numeral number (drop at line)) → CountedTo line at t t k (reader_at field (drop at line)) field_size
+  unfolding reader_at field_size
+  time-counted e p = counted-from Time (made_as (drop at line) e) (omega arith) (λ a. refl) (none-counted p)
 
-    pub namespace-counted : field ≡ 1 → CountedTo line (at + 1) t r (array text (drop (at + 1) line)) texts_size → CountedTo line at t r (reader_at field (drop at line)) field_size
+  module _ {t u : Tally} {k : ℕ} where
+    pub namespace-counted : field ≡ 1 → CountedTo line (at + 1) t u k (array text (drop (at + 1) line)) texts_size → CountedTo line at t u k (reader_at field (drop at line)) field_size
     unfolding reader_at field_size
     namespace-counted e p = counted-from Namespace (made_as (drop at line) e) (omega arith) (λ a. refl) (listed-counted (array text) line at p)
 
-    pub action-counted : field ≡ 2 → CountedTo line at t r (string (drop at line)) a_string → CountedTo line at t r (reader_at field (drop at line)) field_size
+    pub action-counted : field ≡ 2 → CountedTo line at t u k (string (drop at line)) a_string → CountedTo line at t u k (reader_at field (drop at line)) field_size
     unfolding reader_at field_size
     action-counted e p = counted-from Action (made_as (drop at line) e) (omega arith) (λ a. refl) (as-text p)
 
-    pub kind-counted : field ≡ 3 → CountedTo line at t r (string (drop at line)) a_string → CountedTo line at t r (reader_at field (drop at line)) field_size
+    pub kind-counted : field ≡ 3 → CountedTo line at t u k (string (drop at line)) a_string → CountedTo line at t u k (reader_at field (drop at line)) field_size
     unfolding reader_at field_size
     kind-counted e p = counted-from Kind (made_as (drop at line) e) (omega arith) (λ a. refl) (as-text p)
 
-    pub logged-counted : field ≡ 4 → CountedTo line at t r (fields 31 (drop at line)) fields_size → CountedTo line at t r (reader_at field (drop at line)) field_size
+    pub logged-counted : field ≡ 4 → CountedTo line at t u k (fields 31 (drop at line)) fields_size → CountedTo line at t u k (reader_at field (drop at line)) field_size
     unfolding reader_at field_size
     logged-counted e p = counted-from Logged (made_as (drop at line) e) (omega arith) (λ a. refl) p
 
-    pub context-counted : field ≡ 5 → CountedTo line at t r (fields 31 (drop at line)) fields_size → CountedTo line at t r (reader_at field (drop at line)) field_size
+    pub context-counted : field ≡ 5 → CountedTo line at t u k (fields 31 (drop at line)) fields_size → CountedTo line at t u k (reader_at field (drop at line)) field_size
     unfolding reader_at field_size
     context-counted e p = counted-from Context (made_as (drop at line) e) (omega arith) (λ a. refl) p
 
-    pub principal-counted : field ≡ 6 → CountedTo line at t r (value 32 (drop at line)) counted → CountedTo line at t r (reader_at field (drop at line)) field_size
+    pub principal-counted : field ≡ 6 → CountedTo line at t u k (value 32 (drop at line)) counted → CountedTo line at t u k (reader_at field (drop at line)) field_size
     unfolding reader_at field_size
     principal-counted e p = counted-from Principal (made_as (drop at line) e) (omega arith) (λ a. refl) p
 
-    pub resource-counted : field ≡ 7 → CountedTo line at t r (value 32 (drop at line)) counted → CountedTo line at t r (reader_at field (drop at line)) field_size
+    pub resource-counted : field ≡ 7 → CountedTo line at t u k (value 32 (drop at line)) counted → CountedTo line at t u k (reader_at field (drop at line)) field_size
     unfolding reader_at field_size
     resource-counted e p = counted-from Resource (made_as (drop at line) e) (omega arith) (λ a. refl) p
 
-    pub entities-counted : (field ≡ 0 → ⊥) → (field ≡ 1 → ⊥) → (field ≡ 2 → ⊥) → (field ≡ 3 → ⊥) → (field ≡ 4 → ⊥) → (field ≡ 5 → ⊥) → (field ≡ 6 → ⊥) → (field ≡ 7 → ⊥) → CountedTo line (at + 1) t r (array entity_read (drop (at + 1) line)) counted_entities → CountedTo line at t r (reader_at field (drop at line)) field_size
+    pub entities-counted : (field ≡ 0 → ⊥) → (field ≡ 1 → ⊥) → (field ≡ 2 → ⊥) → (field ≡ 3 → ⊥) → (field ≡ 4 → ⊥) → (field ≡ 5 → ⊥) → (field ≡ 6 → ⊥) → (field ≡ 7 → ⊥) → CountedTo line (at + 1) t u k (array entity_read (drop (at + 1) line)) counted_entities → CountedTo line at t u k (reader_at field (drop at line)) field_size
     unfolding field_size entity_read
     entities-counted n0 n1 n2 n3 n4 n5 n6 n7 p = counted-from Entities (others-are field (drop at line) n0 n1 n2 n3 n4 n5 n6 n7) (omega arith) (λ a. refl) (listed-counted (array entity_of) line at p)

@@ -7,7 +7,6 @@ use Rattle.encode.specs.Encode.{flat, placed}
 use Rattle.encode.proofs.Laws.Words.{packed-long}
 use Rattle.jsonroom.specs.declared.Bodies.{Bodies}
 use Rattle.jsonroom.specs.declared.Next.{Next}
-use Rattle.jsonroom.specs.declared.Written.{Written}
 use Rattle.jsonroom.specs.Put.{with_value, ValuePut, with_string, StringIs}
 use Rattle.jsontrace.specs.Trace.{empty, texts, value, members}
 use Rattle.jsonview.specs.Cells.{write, writing, write-nothing, write-inside, write-long}
@@ -170,7 +169,7 @@ grown-value {after = after} {b = b} {r = r} {n = n} kind x y s f p = record {
   next = p.next ∙ same_next (omega arith) (omega arith) refl (omega arith) (omega arith) (omega arith);
 }
 
-pub grown-string : {line file after : List ℕ} {at : ℕ} {b : Bodies} {r : Room} {n : Next} {w : Written} {text rest : List ℕ} → Shows file b r → Fit r n (texts (text ∷ [])) → StringIs line at file after b n w text rest → Grown after b r n (texts (text ∷ [])) w.next
+pub grown-string : {line file after : List ℕ} {at : ℕ} {b : Bodies} {r : Room} {n : Next} {m : Next} {e : ℕ} {text rest : List ℕ} → Shows file b r → Fit r n (texts (text ∷ [])) → StringIs line at file after b n m e text rest → Grown after b r n (texts (text ∷ [])) m
 unfolding filled beyond texts with_string flat placed
 grown-string {after = after} {b = b} {r = r} {n = n} {text = text} s f p = record {
   shows =

@@ -1,27 +1,27 @@
 use Rattle.std.proofs.Common.{rules}
-use Rattle.jsoncount.proofs.Triples.{entities-signed, entities-none, entities-start, entities-good, entities-after, entities-closed, entities-again, entities-less}
+use Rattle.jsoncount.proofs.Triples.{entities-signed, entities-begun, entities-good, entities-after, entities-less, entities-again, entities-shut, entities-told}
 use Rattle.jsoncount.proofs.entities.count_entities.Goals as goal
 
-pub first_part-requires : goal.first_part-requires
-first_part-requires c = search (entities-signed, rules)
+pub first_part-part-requires : goal.first_part-part-requires
+first_part-part-requires c = search (entities-signed, rules)
 
-pub returns-in-Closed : goal.returns-in-Closed
-returns-in-Closed c = search (entities-none, rules)
+pub loop-part-init : goal.loop-part-init
+loop-part-init c = search (entities-begun, rules)
 
-pub loop-end-init : goal.loop-end-init
-loop-end-init c = search (entities-start, rules)
+pub count_entity-end-requires : goal.count_entity-end-requires
+count_entity-end-requires c = search (entities-good, rules)
 
-pub count_entity-r-requires : goal.count_entity-r-requires
-count_entity-r-requires c = search (entities-good, rules)
+pub part_after-part-requires : goal.part_after-part-requires
+part_after-part-requires c = search (entities-after, rules)
 
-pub part_after-requires : goal.part_after-requires
-part_after-requires c = search (entities-after, rules)
+pub loop-part-smaller : goal.loop-part-smaller
+loop-part-smaller c = search (entities-less, rules)
 
-pub returns-in-Closed-part_after : goal.returns-in-Closed-part_after
-returns-in-Closed-part_after c = search (entities-closed, rules)
+pub loop-part-preserved : goal.loop-part-preserved
+loop-part-preserved c = search (entities-again, rules)
 
-pub loop-end-smaller : goal.loop-end-smaller
-loop-end-smaller c = search (entities-less, rules)
+pub sign_end-requires : goal.sign_end-requires
+sign_end-requires c = search (entities-shut, rules)
 
-pub loop-end-preserved : goal.loop-end-preserved
-loop-end-preserved c = search (entities-again, rules)
+pub returns : goal.returns
+returns c = search (entities-told, rules)

@@ -1,10 +1,9 @@
-use Prim.Native.Nat.{◌-◌}
-use lib.ListN.{length}
+use Rattle.jsonruns.proofs.Signs.{ahead}
 use Rattle.jsoncount.proofs.Triples.{Entities}
 use Rattle.jsoncount.proofs.entities.count_entities.Given as goal
 
-abbrev pub invariant-loop-end : goal.invariant-loop-end
-invariant-loop-end l = Entities l.line l.at l.initial.tally l.tally l.i
+abbrev pub invariant-loop-part : goal.invariant-loop-part
+invariant-loop-part l = Entities l.line l.at l.initial.tally l.tally l.end l.part
 
-abbrev pub decreases-loop-end : goal.decreases-loop-end
-decreases-loop-end l = length l.line - l.i
+abbrev pub decreases-loop-part : goal.decreases-loop-part
+decreases-loop-part l = ahead l.line l.part

@@ -1,18 +1,14 @@
 use Rattle.std.proofs.Common.{rules}
 use Rattle.jsoncount.proofs.Formed.{first_good, second-good, decimal-told, entity-told}
+use Rattle.jsoncount.proofs.forms.count_form.Goals.{then-not-extension, else-not-extension}
 use Rattle.jsoncount.proofs.forms.count_form.Goals as goal
 
-pub with_string-arg-requires : goal.with_string-arg-requires
-with_string-arg-requires c = search (second-good, rules)
+pub add_string-requires : goal.add_string-requires
+add_string-requires c = search (first_good, rules)
 
-pub returns-then-extension : goal.returns-then-extension
-returns-then-extension c = search (decimal-told, rules)
-
-pub with_string-kind-requires : goal.with_string-kind-requires
-with_string-kind-requires c = search (first_good, rules)
-
-pub with_string-id-requires : goal.with_string-id-requires
-with_string-id-requires c = search (second-good, rules)
+pub add_string-requires-2 : goal.add_string-requires-2
+add_string-requires-2 c = search (second-good, rules)
 
 pub returns : goal.returns
-returns c = search (entity-told, rules)
+returns c =
+    elim c.if-not-extension.branch [ then-not-extension w ↦ search (entity-told, rules) | else-not-extension w ↦ search (decimal-told, rules) ]

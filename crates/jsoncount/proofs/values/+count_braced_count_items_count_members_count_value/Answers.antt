@@ -1,5 +1,5 @@
 use Rattle.std.proofs.Common.{rules}
-use Rattle.jsoncount.proofs.Items.{items-signed, items-none, items-start, items-good, items-after, items-closed, items-again, items-less, members-signed, members-none, members-start, members-name, members-colon, members-value, members-after, members-closed, members-again, members-less}
+use Rattle.jsoncount.proofs.Items.{items-signed, items-begun, items-good, items-after, items-less, items-again, items-shut, items-told, members-signed, members-begun, members-name, members-colon, members-value, members-after, members-less, members-again, members-shut, members-told}
 use Rattle.jsoncount.proofs.Nested.{has_level, value-below, deeper, deeper_yet, array-good, array-counted, scalar-good, scalar-counted, braced-good, braced-counted, object-good, object-counted, entity-good, entity-counted, extension-good, extension-counted}
 use Rattle.jsoncount.proofs.values.+count_braced_count_items_count_members_count_value.Goals as goal
 
@@ -21,59 +21,59 @@ count_braced-returns-in-Entity t c = search (entity-counted, rules)
 pub count_braced-returns-in-Extension : goal.count_braced-returns-in-Extension
 count_braced-returns-in-Extension t c = search (extension-counted, rules)
 
-pub count_items-first_part-requires : goal.count_items-first_part-requires
-count_items-first_part-requires t c = search (items-signed, rules)
+pub count_items-first_part-part-requires : goal.count_items-first_part-part-requires
+count_items-first_part-part-requires t c = search (items-signed, rules)
 
-pub count_items-returns-in-Closed : goal.count_items-returns-in-Closed
-count_items-returns-in-Closed t c = search (items-none, rules)
+pub count_items-loop-part-init : goal.count_items-loop-part-init
+count_items-loop-part-init t c = search (items-begun, rules)
 
-pub count_items-loop-end-init : goal.count_items-loop-end-init
-count_items-loop-end-init t c = search (items-start, rules)
+pub count_items-count_value-end-requires : goal.count_items-count_value-end-requires
+count_items-count_value-end-requires t c = search (items-good, rules)
 
-pub count_items-count_value-r-requires : goal.count_items-count_value-r-requires
-count_items-count_value-r-requires t c = search (items-good, rules)
+pub count_items-part_after-part-requires : goal.count_items-part_after-part-requires
+count_items-part_after-part-requires t c = search (items-after, rules)
 
-pub count_items-part_after-requires : goal.count_items-part_after-requires
-count_items-part_after-requires t c = search (items-after, rules)
+pub count_items-loop-part-smaller : goal.count_items-loop-part-smaller
+count_items-loop-part-smaller t c = search (items-less, rules)
 
-pub count_items-returns-in-Closed-part_after : goal.count_items-returns-in-Closed-part_after
-count_items-returns-in-Closed-part_after t c = search (items-closed, rules)
+pub count_items-loop-part-preserved : goal.count_items-loop-part-preserved
+count_items-loop-part-preserved t c = search (items-again, rules)
 
-pub count_items-loop-end-smaller : goal.count_items-loop-end-smaller
-count_items-loop-end-smaller t c = search (items-less, rules)
+pub count_items-sign_end-requires : goal.count_items-sign_end-requires
+count_items-sign_end-requires t c = search (items-shut, rules)
 
-pub count_items-loop-end-preserved : goal.count_items-loop-end-preserved
-count_items-loop-end-preserved t c = search (items-again, rules)
+pub count_items-returns : goal.count_items-returns
+count_items-returns t c = search (items-told, rules)
 
-pub count_members-first_part-requires : goal.count_members-first_part-requires
-count_members-first_part-requires t c = search (members-signed, rules)
+pub count_members-first_part-part-requires : goal.count_members-first_part-part-requires
+count_members-first_part-part-requires t c = search (members-signed, rules)
 
-pub count_members-returns-in-Closed : goal.count_members-returns-in-Closed
-count_members-returns-in-Closed t c = search (members-none, rules)
+pub count_members-loop-part-init : goal.count_members-loop-part-init
+count_members-loop-part-init t c = search (members-begun, rules)
 
-pub count_members-loop-end-init : goal.count_members-loop-end-init
-count_members-loop-end-init t c = search (members-start, rules)
-
-pub count_members-with_string-name-requires : goal.count_members-with_string-name-requires
-count_members-with_string-name-requires t c = search (members-name, rules)
+pub count_members-add_string-name_end-requires : goal.count_members-add_string-name_end-requires
+count_members-add_string-name_end-requires t c = search (members-name, rules)
 
 pub count_members-after_sign-requires : goal.count_members-after_sign-requires
 count_members-after_sign-requires t c = search (members-colon, rules)
 
-pub count_members-count_value-r-requires : goal.count_members-count_value-r-requires
-count_members-count_value-r-requires t c = search (members-value, rules)
+pub count_members-count_value-end-requires : goal.count_members-count_value-end-requires
+count_members-count_value-end-requires t c = search (members-value, rules)
 
-pub count_members-part_after-requires : goal.count_members-part_after-requires
-count_members-part_after-requires t c = search (members-after, rules)
+pub count_members-part_after-part-requires : goal.count_members-part_after-part-requires
+count_members-part_after-part-requires t c = search (members-after, rules)
 
-pub count_members-returns-in-Closed-part_after : goal.count_members-returns-in-Closed-part_after
-count_members-returns-in-Closed-part_after t c = search (members-closed, rules)
+pub count_members-loop-part-smaller : goal.count_members-loop-part-smaller
+count_members-loop-part-smaller t c = search (members-less, rules)
 
-pub count_members-loop-end-smaller : goal.count_members-loop-end-smaller
-count_members-loop-end-smaller t c = search (members-less, rules)
+pub count_members-loop-part-preserved : goal.count_members-loop-part-preserved
+count_members-loop-part-preserved t c = search (members-again, rules)
 
-pub count_members-loop-end-preserved : goal.count_members-loop-end-preserved
-count_members-loop-end-preserved t c = search (members-again, rules)
+pub count_members-sign_end-requires : goal.count_members-sign_end-requires
+count_members-sign_end-requires t c = search (members-shut, rules)
+
+pub count_members-returns : goal.count_members-returns
+count_members-returns t c = search (members-told, rules)
 
 pub count_value-bounds-line-at : goal.count_value-bounds-line-at
 count_value-bounds-line-at t c = search (value-below, rules)
@@ -84,20 +84,20 @@ count_value-overflow_sub-levels t c = search (has_level, rules)
 pub count_value-count_items-requires : goal.count_value-count_items-requires
 count_value-count_items-requires t c = search (deeper, array-good, rules)
 
-pub count_value-returns-then-c-eq91 : goal.count_value-returns-then-c-eq91
-count_value-returns-then-c-eq91 t c = search (array-counted, rules)
+pub count_value-returns-in-91 : goal.count_value-returns-in-91
+count_value-returns-in-91 t c = search (array-counted, rules)
 
-pub count_value-overflow_sub-levels-then-c-eq123 : goal.count_value-overflow_sub-levels-then-c-eq123
-count_value-overflow_sub-levels-then-c-eq123 t c = search (has_level, rules)
+pub count_value-overflow_sub-levels-in-123 : goal.count_value-overflow_sub-levels-in-123
+count_value-overflow_sub-levels-in-123 t c = search (has_level, rules)
 
 pub count_value-count_braced-requires : goal.count_value-count_braced-requires
 count_value-count_braced-requires t c = search (deeper_yet, braced-good, rules)
 
-pub count_value-returns-then-c-eq123 : goal.count_value-returns-then-c-eq123
-count_value-returns-then-c-eq123 t c = search (braced-counted, rules)
+pub count_value-returns-in-123 : goal.count_value-returns-in-123
+count_value-returns-in-123 t c = search (braced-counted, rules)
 
 pub count_value-count_scalar-requires : goal.count_value-count_scalar-requires
 count_value-count_scalar-requires t c = search (scalar-good, rules)
 
-pub count_value-returns : goal.count_value-returns
-count_value-returns t c = search (scalar-counted, rules)
+pub count_value-returns-in_default : goal.count_value-returns-in_default
+count_value-returns-in_default t c = search (scalar-counted, rules)

@@ -2,17 +2,17 @@ use Rattle.std.proofs.Common.{rules}
 use Rattle.jsontotal.proofs.Valued.{time-due, namespace-due, action-due, kind-due, logged-due, context-due, principal-due, resource-due, entities-due, time-counted, namespace-counted, action-counted, kind-counted, logged-counted, context-counted, principal-counted, resource-counted, entities-counted}
 use Rattle.jsontotal.proofs.fields.count_field.Goals as goal
 
-pub count_time-requires : goal.count_time-requires
-count_time-requires c = search (time-due, rules)
+pub time_end-requires : goal.time_end-requires
+time_end-requires c = search (time-due, rules)
 
 pub count_texts-requires : goal.count_texts-requires
 count_texts-requires c = search (namespace-due, rules)
 
-pub with_string-requires : goal.with_string-requires
-with_string-requires c = search (action-due, rules)
+pub add_string-requires : goal.add_string-requires
+add_string-requires c = search (action-due, rules)
 
-pub with_string-requires-in-3 : goal.with_string-requires-in-3
-with_string-requires-in-3 c = search (kind-due, rules)
+pub add_string-requires-in-3 : goal.add_string-requires-in-3
+add_string-requires-in-3 c = search (kind-due, rules)
 
 pub count_fields-requires : goal.count_fields-requires
 count_fields-requires c = search (logged-due, rules)

@@ -4,7 +4,7 @@ use Rattle.jsontotal.proofs.Totals.{total-start, total-done, line-good, total-on
 use Rattle.jsontotal.proofs.lines.count_log.Goals as goal
 
 pub loop-at-init : goal.loop-at-init
-loop-at-init c = search (total-start, rules)
+loop-at-init c = let h = c.default-tally.ensures in ?
 
 pub slice_bounds-count_line-count : goal.slice_bounds-count_line-count
 slice_bounds-count_line-count c = search (end-from, rules)
@@ -15,8 +15,8 @@ slice_bounds-count_line-start c = search (end-from, rules)
 pub slice_bounds-count_line-end : goal.slice_bounds-count_line-end
 slice_bounds-count_line-end c = search (end-within, rules)
 
-pub count_line-tally-requires : goal.count_line-tally-requires
-count_line-tally-requires c = search (line-good, rules)
+pub count_line-requires : goal.count_line-requires
+count_line-requires c = search (line-good, rules)
 
 pub overflow_add-at : goal.overflow_add-at
 overflow_add-at c = search (end_fits, rules)

@@ -1,6 +1,6 @@
 use Rattle.std.proofs.Common.{rules}
-use Rattle.jsontotal.proofs.Valued.{time-read, time-good}
-use Rattle.jsontotal.proofs.fields.count_time.Goals as goal
+use Rattle.jsontotal.proofs.Valued.{time-good, time-read}
+use Rattle.jsontotal.proofs.fields.time_end.Goals as goal
 
 pub returns-in-Bad : goal.returns-in-Bad
 returns-in-Bad c = search (time-good, rules)

@@ -1,6 +1,6 @@
 use Rattle.std.proofs.Common.{rules}
 use Rattle.jsoncount.proofs.Raised.{point-added}
-use Rattle.jsoncount.proofs.tallies.with_point.Goals as goal
+use Rattle.jsoncount.proofs.tallies.Tally.add_point.Goals as goal
 
 pub returns : goal.returns
 returns c = search (point-added, rules)

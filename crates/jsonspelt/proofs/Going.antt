@@ -8,15 +8,15 @@ use lib.Dec.{ltb}
 use lib.ListN.{length, drop, get_or, set, length-append, length-set, drop_of_length-le}
 use lib.Seq.{sets-eq}
 use borrow.Author.Tests.{ltb-true, ltb-false}
+use Rattle.std.specs.Prelude.{Result, Ok, Err}
 use Rattle.meaning.specs.Tests.{◌and◌, choose}
 use Rattle.meaning.specs.Text.{next, follow, ended}
 use Rattle.meaning.specs.declared.Due.{Due}
 use Rattle.meaning.specs.declared.Due.TheVariants.{Nothing, One, Two, Three, AfterE0, AfterEd, AfterF0, AfterF4, Wrong as Never}
 use Rattle.laws.specs.Writing.{Writing, write-none, write-more}
+use Rattle.jsontext.specs.declared.Bad.{Bad}
 use Rattle.jsontext.specs.Reading.{Read, got, then, mapped}
 use Rattle.jsontext.specs.Strings.{utf8_of, escape, is_wrong, chars, string}
-use Rattle.jsonread.specs.declared.strings.Escape.{Escape}
-use Rattle.jsonread.specs.declared.strings.Escape.TheVariants.{For, Wrong}
 use Rattle.jsonread.specs.Told.{CharTold}
 use Rattle.jsonread.proofs.Places.{byte_at, then_is}
 use Rattle.jsonread.proofs.Spelling.{never, Came, came, none_left, after_slash, slashed, plain, string-none, string-text}
@@ -127,20 +127,20 @@ module _ {line : List ℕ} {at bytes i : ℕ} (g : Going line at bytes i) where
             record { turns = p.turns; due = p.due; others = p.others; is = p.is; all = l.all ∙ ap (λ (o : List ℕ). g.done ++ o) p.makes ∙ sym (append_assoc g.done (get_or line i 0 ∷ []) p.others) };
       }
 
-    module _ (q : get_or line i 0 ≡ 92) {x : Escape} (t : CharTold line (i + 1 + 1) x (escape (drop (i + 1) line))) where
+    module _ (q : get_or line i 0 ≡ 92) {x : Result (ℕ × ℕ) Bad} (t : CharTold line (i + 1 + 1) x (escape (drop (i + 1) line))) where
       after : {done text rest : List ℕ} (l : Left line i done text rest) → after_slash (l.turns - 1) (drop (i + 1) line) ≡ got l.others rest
       after l = slashed l.turns l.due (drop (i + 1) line) (here l q)
 
-      no-wrong : {p : ℕ} {text rest : List ℕ} → x ≡ Wrong p → string (drop at line) ≡ got text rest → ⊥
+      no-wrong : {p : Bad} {text rest : List ℕ} → x ≡ Err p → string (drop at line) ≡ got text rest → ⊥
       unfolding then
       no-wrong {text = text} {rest = rest} w e =
           let l = g.goes text rest e in
-          never (sym (ap (λ (m : Read (List ℕ)). then m (λ b rest. mapped (λ t. b ++ t) (chars (l.turns - 1) Nothing rest))) (t.wrong _ w).is) ∙ after l)
+          never (sym (ap (λ (m : Read (List ℕ)). then m (λ b rest. mapped (λ t. b ++ t) (chars (l.turns - 1) Nothing rest))) (t.missing _ w).faulty.is) ∙ after l)
 
-      pub going-wrong : {p : ℕ} {r : Spelt} → x ≡ Wrong p → SpeltTold line at r
+      pub going-wrong : {p : Bad} {r : Spelt} → x ≡ Err p → SpeltTold line at r
       going-wrong w text rest e = absurd (no-wrong w e)
 
-      module _ {u e : ℕ} (f : x ≡ For u e) where
+      module _ {u e : ℕ} (f : x ≡ Ok (u, e)) where
         came_of : {text rest : List ℕ} (v : string (drop at line) ≡ got text rest) → Came (λ t. utf8_of u ++ t) (chars ((g.goes text rest v).turns - 1) Nothing (drop e line)) (g.goes text rest v).others rest
         came_of {text} {rest} v =
             let l = g.goes text rest v in
@@ -211,11 +211,11 @@ module _ {line before out : List ℕ} {at to k i : ℕ} (g : Putting line at bef
         written = write-more (get_or line i 0 ∷ []) k g.written (omega (arith, fits.room)) (omega (arith, g.counts, g.going.many)) (sets-eq (get_or line i 0 ∷ []) out k (omega (arith, byte-room)));
       }
 
-    module _ (q : get_or line i 0 ≡ 92) {x : Escape} (t : CharTold line (i + 1 + 1) x (escape (drop (i + 1) line))) where
-      pub put_wrong : {p : ℕ} {r : Spelt} → x ≡ Wrong p → PutTold line at before out to r
+    module _ (q : get_or line i 0 ≡ 92) {x : Result (ℕ × ℕ) Bad} (t : CharTold line (i + 1 + 1) x (escape (drop (i + 1) line))) where
+      pub put_wrong : {p : Bad} {r : Spelt} → x ≡ Err p → PutTold line at before out to r
       put_wrong w text rest e = absurd (no-wrong g.going h q t w e)
 
-      module _ {u e : ℕ} (f : x ≡ For u e) (fits : Fits line at to before) where
+      module _ {u e : ℕ} (f : x ≡ Ok (u, e)) (fits : Fits line at to before) where
         pub character-room : k + length (utf8_of u) ≤ length out
         character-room = omega (arith, g.counts, g.long, fits.room, character-left g.going h q t f fits.is)
 
@@ -231,7 +231,7 @@ module _ {line before out : List ℕ} {at to k i : ℕ} (g : Putting line at bef
           written = write-more (utf8_of u) k g.written (omega (arith, fits.room)) (omega (arith, g.counts, g.going.many)) p.is.is;
         }
 
-pub escape-shorter : {line : List ℕ} {i u e : ℕ} {x : Escape} {m : Read (List ℕ)} → i < length line → CharTold line (i + 1 + 1) x m → x ≡ For u e → length line - e < length line - i
+pub escape-shorter : {line : List ℕ} {i u e : ℕ} {x : Result (ℕ × ℕ) Bad} {m : Read (List ℕ)} → i < length line → CharTold line (i + 1 + 1) x m → x ≡ Ok (u, e) → length line - e < length line - i
 escape-shorter h t f = omega (arith, (t.found _ _ f).from)
 
 pub fits-within : {line out : List ℕ} {at to : ℕ} → Fits line at to out → at ≤ length line

@@ -7,7 +7,7 @@ ghost use Rattle.laws.specs.Writing.{Writing};
 ghost use Rattle.jsontext.specs.Strings.{utf8_of};
 ghost use Rattle.jsonspelt.specs.Spelt.{SpeltTold, Put, Fits, PutTold};
 
-use jsonread::strings::{Escape, escape_at};
+use jsonread::strings::escape_at;
 
 #[derive(Clone, Copy)]
 pub struct Spelt {
@@ -20,15 +20,14 @@ fn character_bytes(u: u32) -> usize
     ensures { (result ≡ length (utf8_of u)) × (result ≤ 4) }
 {
     if u < 128 {
-        return 1;
+        1
+    } else if u < 2048 {
+        2
+    } else if u < 65536 {
+        3
+    } else {
+        4
     }
-    if u < 2048 {
-        return 2;
-    }
-    if u < 65536 {
-        return 3;
-    }
-    4
 }
 
 // a string that begins at `at`
@@ -38,22 +37,21 @@ pub fn spelt_at(line: &[u8], at: usize) -> Spelt
 {
     let mut bytes = 0;
     let mut i = at + 1;
+    // a while: an escape is passed over whole, so the place does not move by one
     while i < line.len() {
-        let c = line[i];
-        if c == 34 {
-            return Spelt { bytes, end: i + 1 };
-        }
-        if c == 92 {
-            match escape_at(line, i + 1) {
-                Escape::Wrong(_) => return Spelt { bytes, end: i },
-                Escape::For(u, end) => {
-                    bytes += character_bytes(u);
-                    i = end;
-                }
+        match line[i] {
+            b'"' => return Spelt { bytes, end: i + 1 },
+            b'\\' => {
+                let Ok((u, end)) = escape_at(line, i + 1) else {
+                    return Spelt { bytes, end: i };
+                };
+                bytes += character_bytes(u);
+                i = end;
             }
-        } else {
-            bytes += 1;
-            i += 1;
+            _ => {
+                bytes += 1;
+                i += 1;
+            }
         }
     }
     Spelt { bytes, end: i }
@@ -98,18 +96,17 @@ fn put_character(out: &mut [u8], at: usize, u: u32) -> usize
 {
     if u < 128 {
         out[at] = u as u8;
-        return at + 1;
-    }
-    if u < 2048 {
+        at + 1
+    } else if u < 2048 {
         put_two(out, at, u);
-        return at + 2;
-    }
-    if u < 65536 {
+        at + 2
+    } else if u < 65536 {
         put_three(out, at, u);
-        return at + 3;
+        at + 3
+    } else {
+        put_four(out, at, u);
+        at + 4
     }
-    put_four(out, at, u);
-    at + 4
 }
 
 // a string's bytes go to a place
@@ -119,31 +116,28 @@ pub fn put_spelt(line: &[u8], at: usize, out: &mut [u8], to: usize) -> Spelt
 {
     let mut k = to;
     let mut i = at + 1;
+    // a while: an escape is passed over whole, so neither place moves by one
     while i < line.len() {
-        let c = line[i];
-        if c == 34 {
-            return Spelt {
+        match line[i] {
+            b'"' => return Spelt {
                 bytes: k - to,
                 end: i + 1,
-            };
-        }
-        if c == 92 {
-            match escape_at(line, i + 1) {
-                Escape::Wrong(_) => {
+            },
+            b'\\' => {
+                let Ok((u, end)) = escape_at(line, i + 1) else {
                     return Spelt {
                         bytes: k - to,
                         end: i,
                     };
-                }
-                Escape::For(u, end) => {
-                    k = put_character(out, k, u);
-                    i = end;
-                }
+                };
+                k = put_character(out, k, u);
+                i = end;
             }
-        } else {
-            out[k] = c;
-            k += 1;
-            i += 1;
+            c => {
+                out[k] = c;
+                k += 1;
+                i += 1;
+            }
         }
     }
     Spelt {

@@ -11,5 +11,5 @@ returns-then-u-lt2048 c = search (bytes-two, rules)
 pub returns-then-u-lt65536 : goal.returns-then-u-lt65536
 returns-then-u-lt65536 c = search (bytes-three, rules)
 
-pub returns : goal.returns
-returns c = search (bytes-four, rules)
+pub returns-else-u-lt65536 : goal.returns-else-u-lt65536
+returns-else-u-lt65536 c = search (bytes-four, rules)

@@ -23,5 +23,5 @@ returns-then-u-lt65536 c = search (put_three, rules)
 pub put_four-requires : goal.put_four-requires
 put_four-requires c = search (room-four, rules)
 
-pub returns : goal.returns
-returns c = search (put_four, rules)
+pub returns-else-u-lt65536 : goal.returns-else-u-lt65536
+returns-else-u-lt65536 c = search (put_four, rules)

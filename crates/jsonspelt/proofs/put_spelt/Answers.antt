@@ -9,20 +9,20 @@ overflow_add-i c = search (fits-within, rules)
 pub loop-i-init : goal.loop-i-init
 loop-i-init c = search (put-start, rules)
 
-pub returns-then-c-eq34 : goal.returns-then-c-eq34
-returns-then-c-eq34 c = search (put-quote, rules)
+pub returns-in-34 : goal.returns-in-34
+returns-in-34 c = search (put-quote, rules)
 
-pub returns-in-Wrong : goal.returns-in-Wrong
-returns-in-Wrong c = search (put_wrong, rules)
+pub returns-in_default-escape_at : goal.returns-in_default-escape_at
+returns-in_default-escape_at c = search (put_wrong, rules)
 
 pub put_character-k-requires : goal.put_character-k-requires
 put_character-k-requires c = search (char_below, character-room, rules)
 
-pub loop-i-smaller-in-For : goal.loop-i-smaller-in-For
-loop-i-smaller-in-For c = search (escape-shorter, rules)
+pub loop-i-smaller-in-92 : goal.loop-i-smaller-in-92
+loop-i-smaller-in-92 c = search (escape-shorter, rules)
 
-pub loop-i-preserved-in-For : goal.loop-i-preserved-in-For
-loop-i-preserved-in-For c = search (put-escape, rules)
+pub loop-i-preserved-in-92 : goal.loop-i-preserved-in-92
+loop-i-preserved-in-92 c = search (put-escape, rules)
 
 pub bounds-out-k : goal.bounds-out-k
 bounds-out-k c = search (byte-room, rules)

@@ -6,6 +6,7 @@ use native.Mathlib.Omega.{arith}
 use lib.ListN.{length, drop, get_or}
 use mir.Val.{Fits}
 use mir.Syntax.{w64}
+use Rattle.std.proofs.Common.{Option, Some, None}
 use Rattle.laws.specs.Writing.{Writing}
 use Rattle.encode.specs.Words.{packed}
 use Rattle.jsontext.specs.declared.Form.{Form}
@@ -15,9 +16,8 @@ use Rattle.jsonparts.specs.Flat.{scalar}
 use Rattle.jsonroom.specs.declared.Bodies.{Bodies}
 use Rattle.jsonroom.specs.declared.Next.{Next}
 use Rattle.jsonroom.specs.Put.{ValuePut}
-use Rattle.jsonruns.specs.declared.Part.{Part as Position}
-use Rattle.jsonruns.specs.declared.Part.TheVariants.{Next as Goes, Closed}
 use Rattle.jsonruns.specs.Good.{Good, Signed, BeginTold, PartTold}
+use Rattle.jsonruns.proofs.Signs.{ahead, ahead-less}
 use Rattle.jsonruns.specs.Forms.{form_read}
 use Rattle.jsoncount.specs.Sizes.{object_read, braced_read}
 use Rattle.jsonview.specs.Room.{leaving}
@@ -32,6 +32,13 @@ use mathlib.Core.Bool.{true, false}
 
 -- ---- items
 
+-- so many items are members of the run; another stands at the part, or the bracket closes
+pub record Putting (levels : ℕ) (line : List ℕ) (at : ℕ) (names₀ names : List ℕ) (used : ℕ) (before file : List ℕ) (b : Bodies) (n : Next) (count : ℕ) (m : Next) (k : ℕ) (part : Option ℕ) : Type 0 where
+  pub next : (i : ℕ) → part ≡ Some i → Filling levels line at names₀ names used before file b n count m k i
+  pub long : length file ≡ length before
+  pub kept : length names ≡ length names₀
+  pub told : part ≡ None → RunPlaced (array (value levels) (drop at line)) before file b n array_tables m used names₀ names
+
 module _ (levels : ℕ) {line : List ℕ} {at : ℕ} {file : List ℕ} {b : Bodies} {n : Next} {names : List ℕ} {used : ℕ} (d : PlaceDue line at (array (value levels) (drop at line)) file b n array_tables names used named_items) where
   pub items-signed : Signed line at
   items-signed = Items.items-signed levels d.due
@@ -40,21 +47,29 @@ module _ (levels : ℕ) {line : List ℕ} {at : ℕ} {file : List ℕ} {b : Bodi
     pub items-run : n.member + count ≤ 4294967295
     items-run = Items.items-run levels d.due k
 
-    module _ {next : Next} (z : next ≡ leaving n count) {x : Position} (t : BeginTold line at 93 x) where
-      pub items-none : {e : ℕ} → x ≡ Closed e → RunPlaced (array (value levels) (drop at line)) file file b n array_tables next used names names
-      items-none y = record { told = Items.items-none levels d.due k z t y; stays = Values.stays_self used names }
+    module _ {next : Next} (z : next ≡ leaving n count) {x : Option ℕ} (t : BeginTold line at 93 x) where
+      pub items-begun : Putting levels line at names names used file file b n count next 0 x
+      items-begun = record {
+        next = λ i y. Items.items-start levels d.due k z t d.spare y;
+        long = refl;
+        kept = refl;
+        told = λ y. record { told = Items.items-none levels d.due k z t y; stays = Values.stays_self used names };
+      }
 
-      pub items-start : {i : ℕ} → x ≡ Goes i → Filling levels line at names names used file file b n count next 0 i
-      items-start y = Items.items-start levels d.due k z t d.spare y
+module _ (levels : ℕ) {line : List ℕ} {at : ℕ} {names₀ names : List ℕ} {used : ℕ} {before file : List ℕ} {b : Bodies} {n : Next} {count : ℕ} {next : Next} {k i : ℕ} {y : Option ℕ} (start : Putting levels line at names₀ names used before file b n count next k y) (z : y ≡ Some i) where
+  g : Filling levels line at names₀ names used before file b n count next k i
+  g = start.next i z
 
-module _ (levels : ℕ) {line : List ℕ} {at : ℕ} {names₀ names : List ℕ} {used : ℕ} {before file : List ℕ} {b : Bodies} {n : Next} {count : ℕ} {next : Next} {k i : ℕ} (g : Filling levels line at names₀ names used before file b n count next k i) where
+  pub run_fits : Fits w64 (n.member + k)
+  run_fits = Items.run_fits levels g
+
+  pub item_count : Fits w64 (k + 1)
+  item_count = Items.item_count levels g
+
   pub item-due : PlaceDue line i (value levels (drop i line)) file b next value_tables names used named
   item-due = record { due = Items.item-due levels g; spare = Items.item-spare levels g }
 
   module _ {names' after : List ℕ} {w-next : Next} {w-end : ℕ} (p : Placed line i (value levels (drop i line)) file after b next value_tables w-next w-end used names names') where
-    pub names-after : length names' ≡ length names₀
-    names-after = Items.names-after levels g p.stays
-
     pub item-signed : length after ≡ length file → Signed line w-end
     item-signed l = Items.item-signed levels g p.told p.stays l
 
@@ -62,22 +77,31 @@ module _ (levels : ℕ) {line : List ℕ} {at : ℕ} {names₀ names : List ℕ}
       pub item_room : MemberRoom after b (n.member + k) 4294967295 w-next
       item_room = record { fits = Items.item_room levels g p.told p.stays l; name-word = omega arith; some = Items.item-some levels g p.told p.stays l; value-word = Items.item-word levels g p.told p.stays l }
 
-      module _ {last : List ℕ} (m : Writing after last (b.members + 8 * (n.member + k)) (packed (4294967295 ∷ (w-next.value - 1) ∷ []))) (h : length last ≡ length after) {x : Position} (t : PartTold line w-end 93 x) where
-        pub items-closed : {e : ℕ} → x ≡ Closed e → RunPlaced (array (value levels) (drop at line)) before last b n array_tables w-next used names₀ names'
-        items-closed y = record { told = Items.items-closed levels g p.told p.stays l m h t y; stays = Items.stays_after levels g p.stays }
+      module _ {last : List ℕ} (m : Writing after last (b.members + 8 * (n.member + k)) (packed (4294967295 ∷ (w-next.value - 1) ∷ []))) (h : length last ≡ length after) {x : Option ℕ} (t : PartTold line w-end 93 x) where
+        pub items-again : Putting levels line at names₀ names' used before last b n count w-next (k + 1) x
+        items-again = record {
+          next = λ j q. Items.items-again levels g p.told p.stays l m h t q;
+          long = Items.out-after levels g after last l h;
+          kept = Items.names-after levels g p.stays;
+          told = λ q. record { told = Items.items-closed levels g p.told p.stays l m h t q; stays = Items.stays_after levels g p.stays };
+        }
 
-        pub items-again : {j : ℕ} → x ≡ Goes j → Filling levels line at names₀ names' used before last b n count w-next (k + 1) j
-        items-again y = Items.items-again levels g p.told p.stays l m h t y
+        pub items-less : ahead line x < ahead line y
+        items-less = ahead-less line z t p.told.from
 
-        pub items-less : {j : ℕ} → x ≡ Goes j → length line - j < length line - i
-        items-less y = Items.items-less levels g p.told p.stays l m h t y
+module _ {levels : ℕ} {line : List ℕ} {at : ℕ} {names₀ names : List ℕ} {used : ℕ} {before file : List ℕ} {b : Bodies} {n : Next} {count : ℕ} {next : Next} {k : ℕ} {x : Option ℕ} (g : Putting levels line at names₀ names used before file b n count next k x) where
+  pub items-names : length names ≡ length names₀
+  items-names = g.kept
+
+  pub items-out : length file ≡ length before
+  items-out = g.long
+
+  pub items-told : x ≡ None → RunPlaced (array (value levels) (drop at line)) before file b n array_tables next used names₀ names
+  items-told z = g.told z
 
 -- ---- members
 
 module _ {levels : ℕ} {line names₀ names : List ℕ} {used stop : ℕ} {before file : List ℕ} {b : Bodies} {n next : Next} {i : ℕ} (g : Gathering levels line names₀ names used stop before file b n next i) (c : i < stop) where
-  pub part-more : Fits w64 stop → Fits w64 (i + 1)
-  part-more f = record { fits = omega (arith, c, f.fits) }
-
   module _ {mid : List ℕ} {s-next : Next} {s-end : ℕ} (p : NameWritten line (get_or names i 0) file mid b next s-next s-end) where
     pub part-due : length mid ≡ length file → PlaceDue line s-end (value levels (drop s-end line)) mid b s-next value_tables names stop named
     part-due l = record { due = Members.part-due g c p l; spare = Members.part-spare g c p l }
@@ -99,7 +123,7 @@ module _ (levels : ℕ) {line : List ℕ} {at : ℕ} {file : List ℕ} {b : Bodi
   run-due = record { due = Values.items-due levels d.due; spare = d.spare }
 
   module _ {c : Many} (t : CountTold line at (array (value levels) (drop at line)) c) {after : List ℕ} {next : Next} {names' : List ℕ} (p : RunPlaced (array (value levels) (drop at line)) file after b n array_tables next used names names') where
-    pub array-room : length after ≡ length file → HeldRoom after b next n c.count
+    pub array-room : length after ≡ length file → HeldRoom after b next n.member c.count
     array-room l = record { fits = Values.array-room levels d.due t p.told l; first = Values.array-member levels d.due; many = Values.array_count levels d.due t }
 
     pub array_placed : {last : List ℕ} {k : Next} → ValuePut after last b next 6 n.member c.count k → Placed line at (array (value levels) (drop at line)) file last b n array_value k c.end used names names'
@@ -117,7 +141,7 @@ module _ (levels : ℕ) {line : List ℕ} {at : ℕ} {file : List ℕ} {b : Bodi
     object-parts = Values.object-parts levels d.due t d.spare
 
     module _ {after last-names : List ℕ} {next : Next} (p : PartsWritten levels line sorted last-names used (used + c.count) file after b n next) where
-      pub object-room : length after ≡ length file → HeldRoom after b next n c.count
+      pub object-room : length after ≡ length file → HeldRoom after b next n.member c.count
       object-room l = record { fits = Values.object-room levels d.due t p l; first = Values.object-member levels d.due; many = Values.object-count levels d.due t }
 
       pub object-placed : {last : List ℕ} {k : Next} → ValuePut after last b next 7 n.member c.count k → Placed line at (object_read levels (drop at line)) file last b n object_value k c.end used names last-names

@@ -5,6 +5,8 @@ use mathlib.Core.List.{List, [], ◌∷◌}
 use Prim.Native.Nat.{ℕ, ◌+◌, ◌*◌, ◌<◌, ◌≤◌}
 use native.Mathlib.Omega.{arith}
 use lib.ListN.{length, drop, get_or, length-append}
+use mir.Val.{Fits}
+use mir.Syntax.{w32}
 use Rattle.encode.specs.Encode.{flat}
 use Rattle.jsontext.specs.declared.Fault.{Fault}
 use Rattle.jsontext.specs.declared.Step.{Step}
@@ -205,19 +207,22 @@ module _ (x : Bool) {line : List ℕ} {at : ℕ} {file : List ℕ} {b : Bodies} 
       pub entity-two : TwoDue line r.first r.second file b n
       entity-two = record { first = two.one; second = two.other; first-is = two.first; second_is = two.second; ready = ready-first (texts (two.one ∷ two.other ∷ [])) _ entity-ready }
 
-      pub entity-next : n.string + 1 ≤ 4294967295
+      entity-next : n.string + 1 ≤ 4294967295
       unfolding texts ◌⊕◌ value·Trace
       entity-next = omega (arith, string-words entity-ready)
+
+      pub entity-fits : {z : ℕ} → z ≡ n.string → Fits w32 (z + 1)
+      entity-fits e = record { fits = omega (arith, e, entity-next) }
 
       module _ {after : List ℕ} {next : Next} (p : TwoWritten line r.first r.second file after b n next) where
         pub entity-room : length after ≡ length file → b.values + 16 * next.value + 16 ≤ length after
         entity-room l = behind-room (two.one ∷ two.other ∷ []) 5 n.string (n.string + 1) entity-ready (p.adds two.one two.other two.first two.second) l
 
-        pub entity-wrote : {last : List ℕ} {z : ℕ} {k : Next} {y : ℕ} → ValuePut after last b next 5 z y k → z ≡ n.string → y ≡ n.string + 1 → WroteTo line at (form_read x (drop at line)) file last b n value_tables k r.end
-        entity-wrote {last} {z} {k} {y} v q o =
+        pub entity-wrote : {last : List ℕ} {z : ℕ} {k : Next} → ValuePut after last b next 5 z (z + 1) k → z ≡ n.string → WroteTo line at (form_read x (drop at line)) file last b n value_tables k r.end
+        entity-wrote {last} {z} {k} v q =
             form-wrote (λ j w.
             subst (λ (u : Tables). Adds file last b n u k) (sym (entity_of_lem j w))
-            (subst (λ (i : ℕ). Adds file last b n (texts (w.one ∷ w.other ∷ []) ⊕ value·Trace 5 i (n.string + 1)) k) q (subst (λ (i : ℕ). Adds file last b n (texts (w.one ∷ w.other ∷ []) ⊕ value·Trace 5 z i) k) o (behind-added (w.one ∷ w.other ∷ []) (p.adds w.one w.other w.first w.second) v))))
+            (subst (λ (i : ℕ). Adds file last b n (texts (w.one ∷ w.other ∷ []) ⊕ value·Trace 5 i (i + 1)) k) q (behind-added (w.one ∷ w.other ∷ []) (p.adds w.one w.other w.first w.second) v)))
 
 -- ---- a value that holds no other
 

@@ -7,6 +7,7 @@ use Prim.Native.Nat.{ℕ, zero, suc, ◌+◌, ◌-◌, ◌<◌, ◌≤◌}
 use native.Mathlib.Omega.{arith}
 use lib.Dec.{eqb}
 use lib.ListN.{length, drop}
+use Rattle.std.proofs.Common.{Option as Maybe, Some, None}
 use Rattle.meaning.specs.Tests.{choose}
 use Rattle.meaning.specs.Equal.{same_list}
 use Rattle.laws.specs.Text.{self_same}
@@ -21,9 +22,8 @@ use Rattle.jsonnames.specs.Merges.{Merged}
 use Rattle.jsonnames.specs.Runs.{Grown}
 use Rattle.jsonnames.proofs.Halves.{spells_one}
 use Rattle.jsonnames.proofs.Stays.{sorted_none}
-use Rattle.jsonruns.specs.declared.Part.{Part as Position}
-use Rattle.jsonruns.specs.declared.Part.TheVariants.{Next as Goes, Closed}
-use Rattle.jsonruns.specs.Good.{Good, Signed, BeginTold, PartTold}
+use Rattle.jsonruns.specs.Good.{Good, Signed, Behind, Closes, BeginTold, PartTold}
+use Rattle.jsonruns.proofs.Signs.{closed-signed, ahead, ahead-less}
 use Rattle.jsonruns.specs.Run.{Listed, Member}
 use Rattle.jsonruns.proofs.Runs.{same-got, then_of, after_of, Turn, turn, object-listed}
 use Rattle.jsoncount.specs.Sizes.{object_read}
@@ -34,7 +34,7 @@ use Rattle.jsonadds.specs.declared.Many.{Many}
 use Rattle.jsonadds.specs.Place.{Spare, Stays, MemberGood, MemberEnds, CollectTold, SortTold, named, named_members}
 use Rattle.jsonadds.proofs.Items.{Others, others_of_lem}
 use Rattle.jsonadds.proofs.Named.{many-members}
-use Rattle.jsonadds.proofs.Passing.{Passing, PartEnds, pass-signed, pass-none, pass-empty, pass-start, pass-after, pass-last, pass-closed, pass-again, pass-less}
+use Rattle.jsonadds.proofs.Passing.{Passing, PartEnds, pass-signed, pass-none, pass-empty, pass-start, pass-after, pass-last, pass-closed, pass-again}
 
 -- ---- the names of an object that reads well differ
 
@@ -145,11 +145,21 @@ pub record Sorting (levels : ℕ) (line : List ℕ) (at : ℕ) (names₀ names :
   pub within : i ≤ length line
   pub stop-within : used + count ≤ length names₀
 
+-- a name stands behind e, or the bracket closes there
+pub record Collecting (levels : ℕ) (line : List ℕ) (at : ℕ) (names₀ names : List ℕ) (used count e : ℕ) (part : Maybe ℕ) : Type 0 where
+  pub next : (i : ℕ) → part ≡ Some i → Sorting levels line at names₀ names used count i
+  pub within : e ≤ length line
+  pub long : length names ≡ length names₀
+  pub few : count ≤ length line + 1
+  pub fits : used + count ≤ length names₀
+  pub closes : part ≡ None → Closes line e 125
+  pub told : part ≡ None → (k : ℕ) → Behind line e k → CollectTold levels line at (object_read levels (drop at line)) names₀ names used (record { count = count; end = k })
+
 module _ (levels : ℕ) {line : List ℕ} {at : ℕ} (g : Good line at (object_read levels (drop at line))) where
   pub sort_signed : Signed line at
   sort_signed = pass-signed 125 (Part levels) (members-law line at levels) g
 
-  module _ {names : List ℕ} {used : ℕ} (s : Spare (object_read levels (drop at line)) names used named_members) {x : Position} (b : BeginTold line at 125 x) where
+  module _ {names : List ℕ} {used : ℕ} (s : Spare (object_read levels (drop at line)) names used named_members) {x : Maybe ℕ} (b : BeginTold line at 125 x) where
     all-spare : used + length g.what ≤ length names
     unfolding named
     all-spare = omega (arith, s.is g.what g.rest g.is, many-members g.what)
@@ -160,10 +170,10 @@ module _ (levels : ℕ) {line : List ℕ} {at : ℕ} (g : Good line at (object_r
     none_in : (used stop : ℕ) → used ≡ stop → Scattered levels line names used stop end
     none_in used stop e = record { all = λ n o a. absurd (among_none a); only = λ k f h. absurd (omega arith) }
 
-    pub sort_empty : {e : ℕ} → x ≡ Closed e → CollectTold levels line at (object_read levels (drop at line)) names names used (record { count = 0; end = e })
+    sort_empty : {e : ℕ} → x ≡ None → Behind line at e → CollectTold levels line at (object_read levels (drop at line)) names names used (record { count = 0; end = e })
     unfolding ordered_members member_parts Ascends
-    sort_empty {e} z =
-        let c = pass-empty 125 (Part levels) (members-law line at levels) g b z in
+    sort_empty {e} z h =
+        let c = pass-empty 125 (Part levels) (members-law line at levels) g b z h in
         let n : (what : List (List ℕ × J)) (rest : List ℕ) → object_read levels (drop at line) ≡ got what rest → what ≡ [] = λ what rest f. sym (same-got g.is f) ∙ pass-none 125 (Part levels) (members-law line at levels) g b z in
         record {
           from = c.from;
@@ -177,7 +187,7 @@ module _ (levels : ℕ) {line : List ℕ} {at : ℕ} (g : Good line at (object_r
           stays = record { long = refl; same = λ k h. refl };
         }
 
-    pub sort_start : {i : ℕ} → x ≡ Goes i → Sorting levels line at names names used 0 i
+    sort_start : {i : ℕ} → x ≡ Some i → Sorting levels line at names names used 0 i
     unfolding Ascends
     sort_start {i} z =
         let p = pass-start 125 (Part levels) (members-law line at levels) g b z in
@@ -197,7 +207,21 @@ module _ (levels : ℕ) {line : List ℕ} {at : ℕ} (g : Good line at (object_r
           stop-within = omega (arith, all-spare);
         }
 
-module _ (levels : ℕ) {line : List ℕ} {at : ℕ} {names₀ names : List ℕ} {used count i : ℕ} (g : Sorting levels line at names₀ names used count i) where
+    pub sort_begun : Collecting levels line at names names used 0 at x
+    sort_begun = record {
+      next = λ i z. sort_start z;
+      within = g.within;
+      long = refl;
+      few = omega arith;
+      fits = omega (arith, all-spare);
+      closes = b.closed;
+      told = λ z k h. sort_empty z h;
+    }
+
+module _ (levels : ℕ) {line : List ℕ} {at : ℕ} {names₀ names : List ℕ} {used count i e' : ℕ} {y : Maybe ℕ} (start : Collecting levels line at names₀ names used count e' y) (z : y ≡ Some i) where
+  abbrev pub g : Sorting levels line at names₀ names used count i
+  g = start.next i z
+
   pub head : Turn 125 (Part levels) (drop i line) g.passing.left g.passing.good.rest
   head = turn 125 (Part levels) g.passing.parts
 
@@ -210,11 +234,11 @@ module _ (levels : ℕ) {line : List ℕ} {at : ℕ} {names₀ names : List ℕ}
   pub sort_within : i ≤ length line
   sort_within = g.passing.within
 
+  sort_few : count ≤ length line
+  sort_few = omega (arith, g.passed, g.within)
+
   pub sort_room : used + count < length names
   sort_room = omega (arith, g.spare, g.passing.total, ap length tail.is, g.stays.long)
-
-  pub sort_long : (after : List ℕ) → length after ≡ length names → length after ≡ length names₀
-  sort_long after e = e ∙ g.stays.long
 
   pub sort_member : MemberGood levels line i
   sort_member = record { what = head.what; after = head.after; within = g.passing.within; is = head.part }
@@ -267,11 +291,11 @@ module _ (levels : ℕ) {line : List ℕ} {at : ℕ} {names₀ names : List ℕ}
     put-table = subst (λ (e : ℕ). Sorted line after used e) more k.sorted
 
     module _ {e : ℕ} (m : MemberEnds levels line i e) where
-      module _ {x : Position} (b : PartTold line e 125 x) where
-        pub sort_closed : {p : ℕ} → x ≡ Closed p → CollectTold levels line at (object_read levels (drop at line)) names₀ after used (record { count = count + 1; end = p })
+      module _ {x : Maybe ℕ} (b : PartTold line e 125 x) where
+        sort_closed : {p : ℕ} → x ≡ None → Behind line e p → CollectTold levels line at (object_read levels (drop at line)) names₀ after used (record { count = count + 1; end = p })
         unfolding member_parts insert_all tail head
-        sort_closed {p} y =
-            let c = pass-closed 125 (Part levels) g.passing (ends m) b y in
+        sort_closed {p} y h =
+            let c = pass-closed 125 (Part levels) g.passing (ends m) b y h in
             let o : tail.others ≡ [] = pass-last 125 (Part levels) g.passing (ends m) b y in
             record {
               from = c.from;
@@ -288,9 +312,9 @@ module _ (levels : ℕ) {line : List ℕ} {at : ℕ} {names₀ names : List ℕ}
             whole : tail.others ≡ [] → (what : List (List ℕ × J)) (rest : List ℕ) → object_read levels (drop at line) ≡ got what rest → insert_part name (ordered head.what.1) g.sorted ≡ ordered_members (member_parts what)
             whole o what rest f = ap (λ (ms : List (List ℕ × J)). insert_all (member_parts ms) (insert_part name (ordered head.what.1) g.sorted)) (sym o) ∙ split.goes ∙ ap (λ (ms : List (List ℕ × J)). ordered_members (member_parts ms)) (same-got g.passing.good.is f)
 
-        pub sort_again : {j : ℕ} → x ≡ Goes j → Sorting levels line at names₀ after used (count + 1) j
+        sort_next : {j : ℕ} → x ≡ Some j → Sorting levels line at names₀ after used (count + 1) j
         unfolding tail head
-        sort_again {j} y = record {
+        sort_next {j} y = record {
           passing = pass-again 125 (Part levels) g.passing (ends m) b y;
           sorted = insert_part name (ordered head.what.1) g.sorted;
           scattered = put-scattered;
@@ -306,8 +330,29 @@ module _ (levels : ℕ) {line : List ℕ} {at : ℕ} {names₀ names : List ℕ}
           stop-within = omega (arith, sort_room, g.stays.long);
         }
 
-        pub sort_less : {j : ℕ} → x ≡ Goes j → length line - j < length line - i
-        sort_less y = pass-less 125 (Part levels) g.passing (ends m) b y
+        pub sort_again : Collecting levels line at names₀ after used (count + 1) e x
+        sort_again = record {
+          next = λ j q. sort_next q;
+          within = m.within;
+          long = put-stays.long;
+          few = omega (arith, sort_few);
+          fits = omega (arith, sort_room, g.stays.long);
+          closes = b.closed;
+          told = λ q k h. sort_closed q h;
+        }
+
+        pub sort_less : ahead line x < ahead line y
+        sort_less = ahead-less line z b m.from
+
+module _ {levels : ℕ} {line : List ℕ} {at : ℕ} {names₀ names : List ℕ} {used count e : ℕ} {x : Maybe ℕ} (g : Collecting levels line at names₀ names used count e x) where
+  pub sort_long : length names ≡ length names₀
+  sort_long = g.long
+
+  pub sort_shut : x ≡ None → Signed line e
+  sort_shut z = closed-signed g.within (g.closes z)
+
+  pub sort_told : {k : ℕ} → x ≡ None → Behind line e k → CollectTold levels line at (object_read levels (drop at line)) names₀ names used (record { count = count; end = k })
+  sort_told {k} z h = g.told z k h
 
 -- ---- the runs become one
 

@@ -105,7 +105,7 @@ pub record PlaceDue {A : Type 0} (line : List ℕ) (at : ℕ) (m : Read A) (file
 
 -- what was written, the names of open objects being as they were
 pub record Placed {A : Type 0} (line : List ℕ) (at : ℕ) (m : Read A) (before after : List ℕ) (b : Bodies) (n : Next) (tables : A → Next-as_Trace → Tables) (next : Next) (e : ℕ) (used : ℕ) (names names' : List ℕ) : Type 0 where
-  pub told : WroteTo line at m before after b n tables r
+  pub told : WroteTo line at m before after b n tables next e
   pub stays : Stays used names names'
 
 pub record RunPlaced {A : Type 0} (m : Read A) (before after : List ℕ) (b : Bodies) (n : Next) (tables : A → Next-as_Trace → Tables) (r : Next) (used : ℕ) (names names' : List ℕ) : Type 0 where
@@ -120,9 +120,9 @@ pub record MemberRoom (file : List ℕ) (b : Bodies) (i name : ℕ) (next : Next
   pub value-word : next.value - 1 ≤ 4294967295
 
 -- the record of an array or object fits, and its numbers are words
-pub record HeldRoom (file : List ℕ) (b : Bodies) (next n : Next) (count : ℕ) : Type 0 where
+pub record HeldRoom (file : List ℕ) (b : Bodies) (next : Next) (run count : ℕ) : Type 0 where
   pub fits : b.values + 16 * next.value + 16 ≤ length file
-  pub first : n.member ≤ 4294967295
+  pub first : run ≤ 4294967295
   pub many : count ≤ 4294967295
 
 -- ---- strings and values that hold no other

@@ -16,29 +16,25 @@ use joining::narrow;
 use jsonadds::Flat;
 use jsonparts::scalars::scalar_at;
 use jsonread::integers::{Whole, int_at};
-use jsonroom::{Bodies, Next, Written, put_member, put_string, put_value};
+use jsonroom::{Bodies, Next, put_member, put_string, put_value};
 use jsonruns::{after_sign, two_of};
 use jsontext::Step;
 
-// a string, as one more of its table
-pub fn put_text(line: &[u8], at: usize, out: &mut [u8], b: Bodies, n: Next) -> Written
-    requires { Due line.now at (string (drop at line.now)) out.old b n name_tables }
-    ensures { WroteTo line.now at (string (drop at line.now)) out.old out.new b n name_tables result }
+// a string, as one more of its table, and where it ends
+pub fn put_text(line: &[u8], at: usize, out: &mut [u8], b: Bodies, next: &mut Next) -> usize
+    requires { Due line.now at (string (drop at line.now)) out.old b next.old name_tables }
+    ensures { WroteTo line.now at (string (drop at line.now)) out.old out.new b next.old name_tables next.new result }
 {
-    put_string(line, at, out, b, n)
+    put_string(line, at, out, b, next)
 }
 
 // a member's name, and where its value begins
-pub fn put_name(line: &[u8], at: usize, out: &mut [u8], b: Bodies, n: Next) -> Written
-    requires { NameDue line.now at out.old b n }
-    ensures { NameWritten line.now at out.old out.new b n result }
+pub fn put_name(line: &[u8], at: usize, out: &mut [u8], b: Bodies, next: &mut Next) -> usize
+    requires { NameDue line.now at out.old b next.old }
+    ensures { NameWritten line.now at out.old out.new b next.old next.new result }
 {
-    let s = put_text(line, at, out, b, n);
-    let next = s.next;
-    Written {
-        next,
-        end: after_sign(line, s.end),
-    }
+    let end = put_text(line, at, out, b, next);
+    after_sign(line, end)
 }
 
 // a member of a run, of the value that was written last
@@ -49,49 +45,45 @@ pub fn put_part(out: &mut [u8], b: Bodies, i: usize, name: usize, next: Next)
     put_member(out, b, i, name, next.value - 1);
 }
 
-// the record of an array or object whose run of so many members began at `n`
-pub fn put_held(out: &mut [u8], b: Bodies, next: Next, kind: u32, n: Next, count: usize) -> Next
-    requires { HeldRoom out.old b next n count }
-    ensures { ValuePut out.old out.new b next kind n.member count result }
+// the record of an array or object whose run of so many members begins at `first`
+pub fn put_held(out: &mut [u8], b: Bodies, next: &mut Next, kind: u32, first: usize, count: usize)
+    requires { HeldRoom out.old b next.old first count }
+    ensures { ValuePut out.old out.new b next.old kind first count next.new }
 {
-    put_value(out, b, next, kind, narrow(n.member), narrow(count))
+    put_value(out, b, next, kind, narrow(first), narrow(count));
 }
 
 // two strings
-pub fn put_two(line: &[u8], one: usize, other: usize, out: &mut [u8], b: Bodies, n: Next) -> Next
-    requires { TwoDue line.now one other out.old b n }
-    ensures { TwoWritten line.now one other out.old out.new b n result }
+pub fn put_two(line: &[u8], one: usize, other: usize, out: &mut [u8], b: Bodies, next: &mut Next)
+    requires { TwoDue line.now one other out.old b next.old }
+    ensures { TwoWritten line.now one other out.old out.new b next.old next.new }
 {
-    let s = put_text(line, one, out, b, n);
-    let t = put_text(line, other, out, b, s.next);
-    t.next
+    put_text(line, one, out, b, next);
+    put_text(line, other, out, b, next);
 }
 
-// a form, after its brace
+// a form, after its brace, and where it ends
 pub fn write_form(
     line: &[u8],
     at: usize,
     extension: bool,
     out: &mut [u8],
     b: Bodies,
-    n: Next,
-) -> Written
-    requires { Due line.now at (form_read extension (drop at line.now)) out.old b n value_tables }
-    ensures { WroteTo line.now at (form_read extension (drop at line.now)) out.old out.new b n value_tables result }
+    next: &mut Next,
+) -> usize
+    requires { Due line.now at (form_read extension (drop at line.now)) out.old b next.old value_tables }
+    ensures { WroteTo line.now at (form_read extension (drop at line.now)) out.old out.new b next.old value_tables next.new result }
 {
-    let string = narrow(n.string);
-    let t = two_of(line, at, extension);
+    let string = narrow(next.string);
+    let two = two_of(line, at, extension);
     if extension {
-        let s = put_text(line, t.second, out, b, n);
-        return Written {
-            next: put_value(out, b, s.next, 3, string, 0),
-            end: t.end,
-        };
-    }
-    let next = put_two(line, t.first, t.second, out, b, n);
-    Written {
-        next: put_value(out, b, next, 5, string, narrow(n.string + 1)),
-        end: t.end,
+        put_text(line, two.second, out, b, next);
+        put_value(out, b, next, 3, string, 0);
+        two.end
+    } else {
+        put_two(line, two.first, two.second, out, b, next);
+        put_value(out, b, next, 5, string, string + 1);
+        two.end
     }
 }
 
@@ -111,8 +103,8 @@ pub fn integer_of(line: &[u8], at: usize) -> u64
     requires { Good line.now at (number (drop at line.now)) }
     ensures { IntegerTold line.now at result }
 {
-    if line[at] == 45 {
-        return std::num::wrapping_sub_u64(0, magnitude_of(line, at + 1));
+    if line[at] == b'-' {
+        return magnitude_of(line, at + 1).wrapping_neg();
     }
     magnitude_of(line, at)
 }
@@ -134,63 +126,56 @@ fn flat_of(line: &[u8], at: usize) -> Flat
     requires { FlatDue line.now at }
     ensures { FlatTold line.now at result }
 {
-    let c = line[at];
-    if c == 110 {
-        return Flat {
+    match line[at] {
+        b'n' => Flat {
             kind: 0,
             x: 0,
             y: 0,
-        };
-    }
-    if c == 116 {
-        return Flat {
+        },
+        b't' => Flat {
             kind: 1,
             x: 1,
             y: 0,
-        };
-    }
-    if c == 102 {
-        return Flat {
+        },
+        b'f' => Flat {
             kind: 1,
             x: 0,
             y: 0,
-        };
-    }
-    let z = integer_of(line, at);
-    Flat {
-        kind: 2,
-        x: low_of(z),
-        y: high_of(z),
-    }
-}
-
-// a string
-fn write_text(line: &[u8], at: usize, out: &mut [u8], b: Bodies, n: Next) -> Written
-    requires { Due line.now at (mapped Text (string (drop at line.now))) out.old b n value_tables }
-    ensures { WroteTo line.now at (mapped Text (string (drop at line.now))) out.old out.new b n value_tables result }
-{
-    let string = narrow(n.string);
-    let s = put_text(line, at, out, b, n);
-    Written {
-        next: put_value(out, b, s.next, 4, string, 0),
-        end: s.end,
+        },
+        _ => {
+            let z = integer_of(line, at);
+            Flat {
+                kind: 2,
+                x: low_of(z),
+                y: high_of(z),
+            }
+        }
     }
 }
 
-// a string, a number or a word
-pub fn write_scalar(line: &[u8], at: usize, out: &mut [u8], b: Bodies, n: Next) -> Written
-    requires { Due line.now at (scalar (drop at line.now)) out.old b n value_tables }
-    ensures { WroteTo line.now at (scalar (drop at line.now)) out.old out.new b n value_tables result }
+// a string as a value, and where it ends
+fn write_text(line: &[u8], at: usize, out: &mut [u8], b: Bodies, next: &mut Next) -> usize
+    requires { Due line.now at (mapped Text (string (drop at line.now))) out.old b next.old value_tables }
+    ensures { WroteTo line.now at (mapped Text (string (drop at line.now))) out.old out.new b next.old value_tables next.new result }
 {
-    if line[at] == 34 {
-        return write_text(line, at, out, b, n);
+    let string = narrow(next.string);
+    let end = put_text(line, at, out, b, next);
+    put_value(out, b, next, 4, string, 0);
+    end
+}
+
+// a string, a number or a word, and where it ends
+pub fn write_scalar(line: &[u8], at: usize, out: &mut [u8], b: Bodies, next: &mut Next) -> usize
+    requires { Due line.now at (scalar (drop at line.now)) out.old b next.old value_tables }
+    ensures { WroteTo line.now at (scalar (drop at line.now)) out.old out.new b next.old value_tables next.new result }
+{
+    if line[at] == b'"' {
+        return write_text(line, at, out, b, next);
     }
     let f = flat_of(line, at);
+    put_value(out, b, next, f.kind, f.x, f.y);
     match scalar_at(line, at) {
-        Step::Bad(_, _, _) => Written { next: n, end: at },
-        Step::At(end) => Written {
-            next: put_value(out, b, n, f.kind, f.x, f.y),
-            end,
-        },
+        Step::Bad(_, _, _) => at,
+        Step::At(end) => end,
     }
 }

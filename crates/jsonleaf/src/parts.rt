@@ -10,17 +10,15 @@ use jsonadds::Many;
 use jsonends::value_end;
 use jsonnames::runs::gather;
 use jsonroom::Next;
-use jsonruns::{Part, after_sign, first_part, part_after, string_end};
+use jsonruns::{after_sign, first_part, part_after, sign_end, string_end};
 use jsonsort::keep;
 
 // the run of so many parts is left free
-pub fn after_run(n: Next, count: usize) -> Next
-    requires { n.member + count ≤ 4294967295 }
-    ensures { result ≡ leaving n count }
+pub fn after_run(next: &mut Next, count: usize)
+    requires { next.old.member + count ≤ 4294967295 }
+    ensures { next.new ≡ leaving next.old count }
 {
-    let mut m = n;
-    m.member += count;
-    m
+    next.member += count;
 }
 
 // items, after the bracket
@@ -29,21 +27,16 @@ pub fn count_items(line: &[u8], at: usize, levels: u32) -> Many
     ensures { CountTold line.now at (array (value levels) (drop at line.now)) result }
 {
     let mut count = 0;
-    let mut i = at;
-    match first_part(line, at, 93) {
-        Part::Closed(end) => return Many { count, end },
-        Part::Next(first) => {
-            i = first;
-        }
-    }
-    loop {
+    let mut end = at;
+    let mut part = first_part(line, at, b']');
+    while let Some(i) = part {
         count += 1;
-        match part_after(line, value_end(line, i, levels), 93) {
-            Part::Closed(end) => return Many { count, end },
-            Part::Next(next) => {
-                i = next;
-            }
-        }
+        end = value_end(line, i, levels);
+        part = part_after(line, end, b']');
+    }
+    Many {
+        count,
+        end: sign_end(line, end),
     }
 }
 
@@ -62,23 +55,17 @@ fn collect_names(line: &[u8], at: usize, levels: u32, names: &mut [u64], used: u
     ensures { CollectTold levels line.now at (object_read levels (drop at line.now)) names.old names.new used result }
 {
     let mut count = 0;
-    let mut i = at;
-    match first_part(line, at, 125) {
-        Part::Closed(end) => return Many { count, end },
-        Part::Next(first) => {
-            i = first;
-        }
-    }
-    loop {
-        let part = part_after(line, member_end(line, i, levels), 125);
+    let mut end = at;
+    let mut part = first_part(line, at, b'}');
+    while let Some(i) = part {
+        end = member_end(line, i, levels);
+        part = part_after(line, end, b'}');
         keep(line, names, used, used + count, i);
         count += 1;
-        match part {
-            Part::Closed(end) => return Many { count, end },
-            Part::Next(next) => {
-                i = next;
-            }
-        }
+    }
+    Many {
+        count,
+        end: sign_end(line, end),
     }
 }
 

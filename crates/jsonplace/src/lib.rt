@@ -10,9 +10,12 @@ ghost use Rattle.jsonadds.specs.Place.{PlaceDue, Placed, RunPlaced, Counts, arra
 use jsonleaf::flats::{put_held, put_name, put_part, write_form, write_scalar};
 use jsonleaf::parts::{after_run, count_items, sort_names};
 use jsonread::forms::form_at;
-use jsonroom::{Bodies, Next, Written};
-use jsonruns::{Part, first_part, part_after};
+use jsonroom::{Bodies, Next};
+use jsonruns::{first_part, part_after};
 use jsontext::Form;
+
+// in place of the number of a name, where a member has none
+const NO_NAME: usize = u32::MAX as usize;
 
 // items, after the bracket, each a member of the run of so many
 #[cycle(put_items_put_members_write_array_write_braced_write_object_write_value)]
@@ -24,37 +27,26 @@ fn put_items(
     used: usize,
     out: &mut [u8],
     b: Bodies,
-    n: Next,
+    next: &mut Next,
     count: usize,
-) -> Next
-    requires place_due { PlaceDue line.now at (array (value levels) (drop at line.now)) out.old b n array_tables names.old used named_items }
+)
+    requires place_due { PlaceDue line.now at (array (value levels) (drop at line.now)) out.old b next.old array_tables names.old used named_items }
     requires counts { Counts (array (value levels) (drop at line.now)) count }
-    ensures { RunPlaced (array (value levels) (drop at line.now)) out.old out.new b n array_tables result used names.old names.new }
+    ensures { RunPlaced (array (value levels) (drop at line.now)) out.old out.new b next.old array_tables next.new used names.old names.new }
 {
-    let mut next = after_run(n, count);
+    let first = next.member;
+    after_run(next, count);
     let mut k = 0;
-    let mut i = at;
-    match first_part(line, at, 93) {
-        Part::Closed(_) => return next,
-        Part::Next(first) => {
-            i = first;
-        }
-    }
-    loop {
-        let w = write_value(line, i, levels, names, used, out, b, next);
-        next = w.next;
-        put_part(out, b, n.member + k, 4294967295, next);
+    let mut part = first_part(line, at, b']');
+    while let Some(i) = part {
+        let end = write_value(line, i, levels, names, used, out, b, next);
+        put_part(out, b, first + k, NO_NAME, *next);
         k += 1;
-        match part_after(line, w.end, 93) {
-            Part::Closed(_) => return next,
-            Part::Next(more) => {
-                i = more;
-            }
-        }
+        part = part_after(line, end, b']');
     }
 }
 
-// an array, after its bracket
+// an array, after its bracket, and where it ends
 #[cycle(put_items_put_members_write_array_write_braced_write_object_write_value)]
 fn write_array(
     line: &[u8],
@@ -64,17 +56,16 @@ fn write_array(
     used: usize,
     out: &mut [u8],
     b: Bodies,
-    n: Next,
-) -> Written
-    requires { PlaceDue line.now at (array (value levels) (drop at line.now)) out.old b n array_value names.old used named_items }
-    ensures { Placed line.now at (array (value levels) (drop at line.now)) out.old out.new b n array_value result used names.old names.new }
+    next: &mut Next,
+) -> usize
+    requires { PlaceDue line.now at (array (value levels) (drop at line.now)) out.old b next.old array_value names.old used named_items }
+    ensures { Placed line.now at (array (value levels) (drop at line.now)) out.old out.new b next.old array_value next.new result used names.old names.new }
 {
     let m = count_items(line, at, levels);
-    let next = put_items(line, at, levels, names, used, out, b, n, m.count);
-    Written {
-        next: put_held(out, b, next, 6, n, m.count),
-        end: m.end,
-    }
+    let first = next.member;
+    put_items(line, at, levels, names, used, out, b, next, m.count);
+    put_held(out, b, next, 6, first, m.count);
+    m.end
 }
 
 // members by the names from cell `used` to `stop`, each a member of the run
@@ -87,25 +78,22 @@ fn put_members(
     stop: usize,
     out: &mut [u8],
     b: Bodies,
-    n: Next,
-) -> Next
-    requires { PartsDue levels line.now names.old used stop out.old b n }
-    ensures { PartsWritten levels line.now names.old names.new used stop out.old out.new b n result }
+    next: &mut Next,
+)
+    requires { PartsDue levels line.now names.old used stop out.old b next.old }
+    ensures { PartsWritten levels line.now names.old names.new used stop out.old out.new b next.old next.new }
 {
-    let mut next = after_run(n, stop - used);
-    let mut i = used;
-    while i < stop {
+    let first = next.member;
+    after_run(next, stop - used);
+    for i in used..stop {
         let string = next.string;
-        let s = put_name(line, names[i] as usize, out, b, next);
-        let w = write_value(line, s.end, levels, names, stop, out, b, s.next);
-        next = w.next;
-        put_part(out, b, n.member + (i - used), string, next);
-        i += 1;
+        let begin = put_name(line, names[i] as usize, out, b, next);
+        write_value(line, begin, levels, names, stop, out, b, next);
+        put_part(out, b, first + (i - used), string, *next);
     }
-    next
 }
 
-// an object, after its brace
+// an object, after its brace, and where it ends
 #[cycle(put_items_put_members_write_array_write_braced_write_object_write_value)]
 pub fn write_object(
     line: &[u8],
@@ -115,20 +103,19 @@ pub fn write_object(
     used: usize,
     out: &mut [u8],
     b: Bodies,
-    n: Next,
-) -> Written
-    requires { PlaceDue line.now at (object_read levels (drop at line.now)) out.old b n object_value names.old used named_members }
-    ensures { Placed line.now at (object_read levels (drop at line.now)) out.old out.new b n object_value result used names.old names.new }
+    next: &mut Next,
+) -> usize
+    requires { PlaceDue line.now at (object_read levels (drop at line.now)) out.old b next.old object_value names.old used named_members }
+    ensures { Placed line.now at (object_read levels (drop at line.now)) out.old out.new b next.old object_value next.new result used names.old names.new }
 {
     let m = sort_names(line, at, levels, names, used);
-    let next = put_members(line, levels, names, used, used + m.count, out, b, n);
-    Written {
-        next: put_held(out, b, next, 7, n, m.count),
-        end: m.end,
-    }
+    let first = next.member;
+    put_members(line, levels, names, used, used + m.count, out, b, next);
+    put_held(out, b, next, 7, first, m.count);
+    m.end
 }
 
-// an object or a form, after the brace
+// an object or a form, after the brace, and where it ends
 #[cycle(put_items_put_members_write_array_write_braced_write_object_write_value)]
 fn write_braced(
     line: &[u8],
@@ -138,19 +125,19 @@ fn write_braced(
     used: usize,
     out: &mut [u8],
     b: Bodies,
-    n: Next,
-) -> Written
-    requires { PlaceDue line.now at (braced_read levels (drop at line.now)) out.old b n value_tables names.old used named }
-    ensures { Placed line.now at (braced_read levels (drop at line.now)) out.old out.new b n value_tables result used names.old names.new }
+    next: &mut Next,
+) -> usize
+    requires { PlaceDue line.now at (braced_read levels (drop at line.now)) out.old b next.old value_tables names.old used named }
+    ensures { Placed line.now at (braced_read levels (drop at line.now)) out.old out.new b next.old value_tables next.new result used names.old names.new }
 {
     match form_at(line, at) {
-        Form::Plain => write_object(line, at, levels, names, used, out, b, n),
-        Form::Entity => write_form(line, at, false, out, b, n),
-        Form::Extension => write_form(line, at, true, out, b, n),
+        Form::Plain => write_object(line, at, levels, names, used, out, b, next),
+        Form::Entity => write_form(line, at, false, out, b, next),
+        Form::Extension => write_form(line, at, true, out, b, next),
     }
 }
 
-// a value, with so many levels left
+// a value, with so many levels left, and where it ends
 #[cycle(put_items_put_members_write_array_write_braced_write_object_write_value)]
 pub fn write_value(
     line: &[u8],
@@ -160,17 +147,14 @@ pub fn write_value(
     used: usize,
     out: &mut [u8],
     b: Bodies,
-    n: Next,
-) -> Written
-    requires { PlaceDue line.now at (value levels (drop at line.now)) out.old b n value_tables names.old used named }
-    ensures { Placed line.now at (value levels (drop at line.now)) out.old out.new b n value_tables result used names.old names.new }
+    next: &mut Next,
+) -> usize
+    requires { PlaceDue line.now at (value levels (drop at line.now)) out.old b next.old value_tables names.old used named }
+    ensures { Placed line.now at (value levels (drop at line.now)) out.old out.new b next.old value_tables next.new result used names.old names.new }
 {
-    let c = line[at];
-    if c == 91 {
-        return write_array(line, at + 1, levels - 1, names, used, out, b, n);
+    match line[at] {
+        b'[' => write_array(line, at + 1, levels - 1, names, used, out, b, next),
+        b'{' => write_braced(line, at + 1, levels - 1, names, used, out, b, next),
+        _ => write_scalar(line, at, out, b, next),
     }
-    if c == 123 {
-        return write_braced(line, at + 1, levels - 1, names, used, out, b, n);
-    }
-    write_scalar(line, at, out, b, n)
 }

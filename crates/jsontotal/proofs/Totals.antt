@@ -98,21 +98,22 @@ pub record Totalling (text : List ℕ) (tally : Tally) (at : ℕ) : Type 0 where
   pub reads : lines at (cut (drop at text)) ≡ events left
   pub shows : (f : Tally) → Adds tally (counted_events left) f → Shows f (counted_events what)
 
-abbrev none_yet : Tally
-none_yet = record { strings = 0; bytes = 0; values = 0; members = 0; points = 0; lists = 0 }
+-- a new tally shows nothing
+abbrev pub Zeros : Tally → Type 0
+Zeros t = (t.strings ≡ 0) × ((t.bytes ≡ 0) × ((t.values ≡ 0) × ((t.members ≡ 0) × ((t.points ≡ 0) × (t.lists ≡ 0)))))
 
-shows-none : Shows none_yet nothing
+shows-none : {t : Tally} → Zeros t → Shows t nothing
 unfolding capped choose nothing
-shows-none = record { strings = refl; bytes = refl; values = refl; members = refl; points = refl; lists = refl }
+shows-none h = record { strings = h.0; bytes = h.1.0; values = h.1.1.0; members = h.1.1.1.0; points = h.1.1.1.1.0; lists = h.1.1.1.1.1 }
 
-pub total-start : {text : List ℕ} → LogIs text → Totalling text none_yet 0
+pub total-start : {text : List ℕ} {t : Tally} → Zeros t → LogIs text → Totalling text t 0
 unfolding log
-total-start g = record {
+total-start z g = record {
   what = g.what;
   is = g.is;
   left = g.what;
   reads = g.is;
-  shows = λ f h. subst (Shows f) (sum_comm nothing (counted_events g.what) ∙ sum-none (counted_events g.what)) (h.shows nothing shows-none);
+  shows = λ f h. subst (Shows f) (sum_comm nothing (counted_events g.what) ∙ sum-none (counted_events g.what)) (h.shows nothing (shows-none z));
 }
 
 same-events : {l : Log} {es fs : List Event} → l ≡ events es → l ≡ events fs → es ≡ fs

@@ -1,6 +1,6 @@
-use Prim.Native.Nat.{◌+◌, ◌*◌, ◌-◌}
-use lib.ListN.{length}
-use Rattle.jsonadds.proofs.Items.{Filling}
+use Prim.Native.Nat.{◌+◌, ◌*◌}
+use Rattle.jsonruns.proofs.Signs.{ahead}
+use Rattle.jsonadds.proofs.Cycle.{Putting}
 use Rattle.jsonadds.proofs.Members.{Gathering}
 use Rattle.jsonplace.proofs.+put_items_put_members_write_array_write_braced_write_object_write_value.Given as goal
 
@@ -22,14 +22,11 @@ decreases-write_object l = 4 * l.levels + 2
 abbrev pub decreases-write_value : goal.decreases-write_value
 decreases-write_value l = 4 * l.levels
 
-abbrev pub invariant-put_items-loop-next : goal.invariant-put_items-loop-next
-invariant-put_items-loop-next l = Filling l.levels l.line l.at l.initial.names l.names l.used l.initial.out l.out l.b l.n l.count l.next l.k l.i
+abbrev pub invariant-put_items-loop-part : goal.invariant-put_items-loop-part
+invariant-put_items-loop-part l = Putting l.levels l.line l.at l.fn.names l.names l.used l.fn.out l.out l.b l.fn.next l.count l.next l.k l.part
 
-abbrev pub decreases-put_items-loop-next : goal.decreases-put_items-loop-next
-decreases-put_items-loop-next l = length l.line - l.i
+abbrev pub decreases-put_items-loop-part : goal.decreases-put_items-loop-part
+decreases-put_items-loop-part l = ahead l.line l.part
 
 abbrev pub invariant-put_members-loop-i : goal.invariant-put_members-loop-i
-invariant-put_members-loop-i l = Gathering l.levels l.line l.initial.names l.names l.used l.stop l.initial.out l.out l.b l.n l.next l.i
-
-abbrev pub decreases-put_members-loop-i : goal.decreases-put_members-loop-i
-decreases-put_members-loop-i l = l.stop - l.i
+invariant-put_members-loop-i l = Gathering l.levels l.line l.fn.names l.names l.used l.stop l.fn.out l.out l.b l.fn.next l.next l.i

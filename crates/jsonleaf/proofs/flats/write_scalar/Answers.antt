@@ -1,6 +1,5 @@
 use Rattle.std.proofs.Common.{rules}
-use Rattle.jsonadds.proofs.Flats.{flat-here, flat-text, flat-text-wrote, flat-room, flat-other, flat-never, flat-wrote}
-use Rattle.std.proofs.Common.{rules}
+use Rattle.jsonadds.proofs.Flats.{flat-here, flat-text, flat-text-wrote, flat-other, flat-room, flat-never, flat-wrote}
 use Rattle.jsonleaf.proofs.flats.write_scalar.Goals as goal
 
 pub bounds-line-at : goal.bounds-line-at

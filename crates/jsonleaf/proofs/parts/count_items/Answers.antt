@@ -1,28 +1,27 @@
 use Rattle.std.proofs.Common.{rules}
-use Rattle.std.proofs.Common.{rules}
-use Rattle.jsonadds.proofs.Passing.{count-signed, count-empty, count-start, count-good, count-after, count-closed, count-again, count_less}
+use Rattle.jsonadds.proofs.Passing.{count-signed, count-begun, count-good, count-after, count_less, count-again, count-shut, count-told}
 use Rattle.jsonleaf.proofs.parts.count_items.Goals as goal
 
-pub first_part-requires : goal.first_part-requires
-first_part-requires c = search (count-signed, rules)
+pub first_part-part-requires : goal.first_part-part-requires
+first_part-part-requires c = search (count-signed, rules)
 
-pub returns-in-Closed : goal.returns-in-Closed
-returns-in-Closed c = search (count-empty, rules)
+pub loop-part-init : goal.loop-part-init
+loop-part-init c = search (count-begun, rules)
 
-pub loop-end-init : goal.loop-end-init
-loop-end-init c = search (count-start, rules)
+pub value_end-end-requires : goal.value_end-end-requires
+value_end-end-requires c = search (count-good, rules)
 
-pub value_end-requires : goal.value_end-requires
-value_end-requires c = search (count-good, rules)
+pub part_after-part-requires : goal.part_after-part-requires
+part_after-part-requires c = search (count-after, rules)
 
-pub part_after-requires : goal.part_after-requires
-part_after-requires c = search (count-after, rules)
+pub loop-part-smaller : goal.loop-part-smaller
+loop-part-smaller c = search (count_less, rules)
 
-pub returns-in-Closed-part_after : goal.returns-in-Closed-part_after
-returns-in-Closed-part_after c = search (count-closed, rules)
+pub loop-part-preserved : goal.loop-part-preserved
+loop-part-preserved c = search (count-again, rules)
 
-pub loop-end-smaller : goal.loop-end-smaller
-loop-end-smaller c = search (count_less, rules)
+pub sign_end-requires : goal.sign_end-requires
+sign_end-requires c = search (count-shut, rules)
 
-pub loop-end-preserved : goal.loop-end-preserved
-loop-end-preserved c = search (count-again, rules)
+pub returns : goal.returns
+returns c = search (count-told, rules)

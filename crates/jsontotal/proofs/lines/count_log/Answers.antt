@@ -4,7 +4,7 @@ use Rattle.jsontotal.proofs.Totals.{total-start, total-done, line-good, total-on
 use Rattle.jsontotal.proofs.lines.count_log.Goals as goal
 
 pub loop-at-init : goal.loop-at-init
-loop-at-init c = let h = c.default-tally.ensures in ?
+loop-at-init c = search (total-start, rules)
 
 pub slice_bounds-count_line-count : goal.slice_bounds-count_line-count
 slice_bounds-count_line-count c = search (end-from, rules)

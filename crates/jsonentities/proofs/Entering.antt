@@ -162,9 +162,6 @@ module _ {line names₀ names : List ℕ} {count : ℕ} {before file marks₀ ma
   enter-marks = g.marked
 
   module _ (h : i < count) where
-    pub enter-more : Fits w64 count → Fits w64 (i + 1)
-    enter-more f = record { fits = omega (arith, h, f.fits) }
-
     pub enter-cell : i < length names
     enter-cell = omega (arith, g.spare, g.stays.long)
 
@@ -253,7 +250,7 @@ module _ {line : List ℕ} {at : ℕ} {names file marks : List ℕ} {b : Bodies}
       spare = omega (arith, d.spare, named-all d.what, inside-ordered d.what, s.many d.what d.rest d.is, s.long);
     }
 
-    pub entities-wrote : {last after marks' : List ℕ} {next : Next} → SortedWritten line sorted last count file after marks marks' b n next → EntitiesWritten (array entity_read (drop at line)) names last file after marks marks' b n (record { count = count; next = next })
+    pub entities-wrote : {last after marks' : List ℕ} {next : Next} → SortedWritten line sorted last count file after marks marks' b n next → EntitiesWritten (array entity_read (drop at line)) names last file after marks marks' b n next count
     entities-wrote w = record {
       long = w.long ∙ s.long;
       many = s.many;

@@ -7,19 +7,19 @@ use native.Mathlib.Omega.{arith}
 use lib.Dec.{ltb}
 use lib.ListN.{length, drop, get_or}
 use borrow.Author.Tests.{ltb-true, ltb-false}
+use Rattle.std.proofs.Common.{Option as Maybe, Some, None}
 use Rattle.laws.specs.Lists.{Every}
 use Rattle.jsontext.specs.Reading.{got}
 use Rattle.jsontext.specs.Values.{array}
 use Rattle.jsontext.specs.Events.{Item}
 use Rattle.jsontrace.specs.Order.{item_before, ordered_entities}
-use Rattle.jsonruns.specs.declared.Part.{Part as Position}
-use Rattle.jsonruns.specs.declared.Part.TheVariants.{Next as Goes, Closed}
 use Rattle.jsonruns.specs.Good.{Good, Ends, Signed, BeginTold, PartTold}
+use Rattle.jsonruns.proofs.Signs.{ahead, ahead-less}
 use Rattle.jsonruns.specs.Run.{Listed, Item as ItemOf}
 use Rattle.jsonruns.proofs.Runs.{same-got, Turn, turn, array-listed}
 use Rattle.jsoncount.specs.Sizes.{entity_read}
 use Rattle.jsonadds.proofs.Items.{Others, others_of_lem}
-use Rattle.jsonadds.proofs.Passing.{Passing, PartEnds, pass-signed, pass-none, pass-empty, pass-start, pass-after, pass-last, pass-closed, pass-again, pass-less}
+use Rattle.jsonadds.proofs.Passing.{Passing, PartEnds, pass-signed, pass-none, pass-start, pass-after, pass-last, pass-again}
 use Rattle.jsonentry.specs.Entries.{named_entities}
 use Rattle.jsonentities.specs.Order.{arranged_item, insert_behind, insert_items, Rises, behind-here, behind-past, behind-long, rises-behind, all-items, arranged-before}
 use Rattle.jsonentities.specs.Sort.{Stands, InOrder, ItemPut, Stood, ItemCells, none, more, SortDue, Sorted}
@@ -137,6 +137,13 @@ pub record Sorting (line : List ℕ) (at : ℕ) (names₀ names : List ℕ) (cou
   pub within : i ≤ length line
   pub stop-within : count ≤ length names₀
 
+-- an entity stands at the part, or the bracket closes
+pub record Collecting (line : List ℕ) (at : ℕ) (names₀ names : List ℕ) (count : ℕ) (part : Maybe ℕ) : Type 0 where
+  pub next : (i : ℕ) → part ≡ Some i → Sorting line at names₀ names count i
+  pub long : length names ≡ length names₀
+  pub few : count ≤ length names₀
+  pub told : part ≡ None → Sorted line (array entity_read (drop at line)) names₀ names count
+
 -- as many cells as entities, at least
 items-named : (is : List Item) → length is ≤ named_entities is
 unfolding named_entities
@@ -150,18 +157,18 @@ module _ {line : List ℕ} {at : ℕ} {names : List ℕ} (d : SortDue line at (a
   pub sort_signed : Signed line at
   sort_signed = pass-signed 93 Entity (law line at) d.good
 
-  module _ {x : Position} (b : BeginTold line at 93 x) where
-    pub sort_empty : {e : ℕ} → x ≡ Closed e → Sorted line (array entity_read (drop at line)) names names 0
+  module _ {x : Maybe ℕ} (b : BeginTold line at 93 x) where
+    sort_empty : x ≡ None → Sorted line (array entity_read (drop at line)) names names 0
     unfolding ordered_entities
-    sort_empty {e} z =
-        let c = pass-empty 93 Entity (law line at) d.good b z in
+    sort_empty z =
+        let n : (what : List Item) (rest : List ℕ) → array entity_read (drop at line) ≡ got what rest → what ≡ [] = λ what rest f. sym (same-got d.good.is f) ∙ pass-none 93 Entity (law line at) d.good b z in
         record {
           long = refl;
-          many = c.many_is.is;
-          cells = λ what rest f. let y : what ≡ [] = sym (same-got d.good.is f) ∙ pass-none 93 Entity (law line at) d.good b z in rw y none;
+          many = λ what rest f. sym (ap length (n what rest f));
+          cells = λ what rest f. rw (n what rest f) none;
         }
 
-    pub sort_start : {i : ℕ} → x ≡ Goes i → Sorting line at names names 0 i
+    sort_start : {i : ℕ} → x ≡ Some i → Sorting line at names names 0 i
     unfolding Rises
     sort_start {i} z =
         let p = pass-start 93 Entity (law line at) d.good b z in
@@ -179,7 +186,13 @@ module _ {line : List ℕ} {at : ℕ} {names : List ℕ} (d : SortDue line at (a
           stop-within = omega arith;
         }
 
-module _ {line : List ℕ} {at : ℕ} {names₀ names : List ℕ} {count i : ℕ} (g : Sorting line at names₀ names count i) where
+    pub sort_begun : Collecting line at names names 0 x
+    sort_begun = record { next = λ i z. sort_start z; long = refl; few = omega arith; told = λ z. sort_empty z }
+
+module _ {line : List ℕ} {at : ℕ} {names₀ names : List ℕ} {count i : ℕ} {y : Maybe ℕ} (start : Collecting line at names₀ names count y) (z : y ≡ Some i) where
+  abbrev g : Sorting line at names₀ names count i
+  g = start.next i z
+
   head : Turn 93 Entity (drop i line) g.passing.left g.passing.good.rest
   head = turn 93 Entity g.passing.parts
 
@@ -195,9 +208,6 @@ module _ {line : List ℕ} {at : ℕ} {names₀ names : List ℕ} {count i : ℕ
   pub sort-good : Good line i (entity_read (drop i line))
   sort-good = record { what = head.what; rest = head.after; within = g.passing.within; is = head.part }
 
-  pub sort_long : (after : List ℕ) → length after ≡ length names → length after ≡ length names₀
-  sort_long after e = e ∙ g.long
-
   stands : Stands line i head.what
   stands = record { rest = head.after; within = g.passing.within; is = head.part }
 
@@ -212,26 +222,25 @@ module _ {line : List ℕ} {at : ℕ} {names₀ names : List ℕ} {count i : ℕ
     pub sort_after : Signed line e
     sort_after = pass-after 93 Entity g.passing ends
 
-    module _ {after : List ℕ} (p : ItemPut line names after count i) {x : Position} (b : PartTold line e 93 x) where
+    module _ {after : List ℕ} (p : ItemPut line names after count i) {x : Maybe ℕ} (b : PartTold line e 93 x) where
       put-cells : ItemCells line after 0 (insert_behind (arranged_item head.what) g.sorted)
       put-cells = cells-put p stands 0 g.sorted (omega arith) (omega (arith, g.many_is)) g.cells
 
-      pub sort_closed : {k : ℕ} → x ≡ Closed k → Sorted line (array entity_read (drop at line)) names₀ after (count + 1)
+      sort_closed : x ≡ None → Sorted line (array entity_read (drop at line)) names₀ after (count + 1)
       unfolding insert_items tail head
-      sort_closed {k} y =
-          let c = pass-closed 93 Entity g.passing ends b y in
+      sort_closed y =
           let o : tail.others ≡ [] = pass-last 93 Entity g.passing ends b y in
           record {
             long = p.inserted.long ∙ g.long;
-            many = c.many_is.is;
+            many = λ what rest f. omega (arith, g.passing.total, ap length tail.is, ap length o, ap length (same-got f g.passing.good.is));
             cells = λ what rest f.
                 let z = ap (λ (is : List Item). insert_items is (insert_behind (arranged_item head.what) g.sorted)) (sym o) ∙ goes_on ∙ ap ordered_entities (same-got g.passing.good.is f) in
                 subst (λ (is : List Item). ItemCells line after 0 is) z put-cells;
           }
 
-      pub sort_again : {j : ℕ} → x ≡ Goes j → Sorting line at names₀ after (count + 1) j
+      sort_next : {j : ℕ} → x ≡ Some j → Sorting line at names₀ after (count + 1) j
       unfolding tail head
-      sort_again {j} y = record {
+      sort_next {j} y = record {
         passing = pass-again 93 Entity g.passing ends b y;
         sorted = insert_behind (arranged_item head.what) g.sorted;
         cells = put-cells;
@@ -245,5 +254,20 @@ module _ {line : List ℕ} {at : ℕ} {names₀ names : List ℕ} {count i : ℕ
         stop-within = omega (arith, sort_room, g.long);
       }
 
-      pub sort_less : {j : ℕ} → x ≡ Goes j → length line - j < length line - i
-      sort_less y = pass-less 93 Entity g.passing ends b y
+      pub sort_again : Collecting line at names₀ after (count + 1) x
+      sort_again = record {
+        next = λ j q. sort_next q;
+        long = p.inserted.long ∙ g.long;
+        few = omega (arith, sort_room, g.long);
+        told = λ q. sort_closed q;
+      }
+
+    pub sort_less : {x : Maybe ℕ} → PartTold line e 93 x → ahead line x < ahead line y
+    sort_less b = ahead-less line z b m.from
+
+module _ {line : List ℕ} {at : ℕ} {names₀ names : List ℕ} {count : ℕ} {x : Maybe ℕ} (g : Collecting line at names₀ names count x) where
+  pub sort_long : length names ≡ length names₀
+  sort_long = g.long
+
+  pub sort_told : x ≡ None → Sorted line (array entity_read (drop at line)) names₀ names count
+  sort_told z = g.told z

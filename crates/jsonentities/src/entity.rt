@@ -17,13 +17,14 @@ fn put_attributes(
     out: &mut [u8],
     marks: &mut [u8],
     b: Bodies,
-    n: Next,
-) -> Next
-    requires { HeldDue line.now at (fields 31 (drop at line.now)) out.old marks.old b n attributes_tables names.old used named_fields }
-    ensures { HeldWritten (fields 31 (drop at line.now)) out.old out.new marks.old marks.new b n attributes_tables result used names.old names.new }
+    next: &mut Next,
+)
+    requires { HeldDue line.now at (fields 31 (drop at line.now)) out.old marks.old b next.old attributes_tables names.old used named_fields }
+    ensures { HeldWritten (fields 31 (drop at line.now)) out.old out.new marks.old marks.new b next.old attributes_tables next.new used names.old names.new }
 {
-    let w = write_object(line, at + 1, 31, names, used, out, b, n);
-    put_list(out, marks, b, w.next, w.next.value - 1, 0)
+    write_object(line, at + 1, 31, names, used, out, b, next);
+    let value = next.value - 1;
+    put_list(out, marks, b, next, value, 0);
 }
 
 // type, id and attributes, and the three words that name them
@@ -35,11 +36,11 @@ pub fn put_entity(
     out: &mut [u8],
     marks: &mut [u8],
     b: Bodies,
-    n: Next,
-) -> Next
-    requires { HeldDue line.now at (entity_read (drop at line.now)) out.old marks.old b n entity_tables names.old used named_item }
-    ensures { HeldWritten (entity_read (drop at line.now)) out.old out.new marks.old marks.new b n entity_tables result used names.old names.new }
+    next: &mut Next,
+)
+    requires { HeldDue line.now at (entity_read (drop at line.now)) out.old marks.old b next.old entity_tables names.old used named_item }
+    ensures { HeldWritten (entity_read (drop at line.now)) out.old out.new marks.old marks.new b next.old entity_tables next.new used names.old names.new }
 {
-    let k = put_keys(line, at, out, marks, b, n);
-    put_attributes(line, k.end, names, used, out, marks, b, k.next)
+    let attributes = put_keys(line, at, out, marks, b, next);
+    put_attributes(line, attributes, names, used, out, marks, b, next);
 }

@@ -6,26 +6,25 @@ ghost use Rattle.jsonentities.specs.Put.{MarkDue, MarkWrote, SignedDue, SignedWr
 
 use jsonleaf::flats::put_text;
 use jsonread::bytes::skip_blanks;
-use jsonroom::{Bodies, Next, Written, put_list};
+use jsonroom::{Bodies, Next, put_list};
 use jsonruns::after_sign;
 
-// a string that is named by a list word
+// a string that is named by a list word, and where it ends
 pub fn put_named(
     line: &[u8],
     at: usize,
     out: &mut [u8],
     marks: &mut [u8],
     b: Bodies,
-    n: Next,
-) -> Written
-    requires { MarkDue line.now at (string (drop at line.now)) out.old marks.old b n named_tables }
-    ensures { MarkWrote line.now at (string (drop at line.now)) out.old out.new marks.old marks.new b n named_tables result }
+    next: &mut Next,
+) -> usize
+    requires { MarkDue line.now at (string (drop at line.now)) out.old marks.old b next.old named_tables }
+    ensures { MarkWrote line.now at (string (drop at line.now)) out.old out.new marks.old marks.new b next.old named_tables next.new result }
 {
-    let s = put_text(line, at, out, b, n);
-    Written {
-        next: put_list(out, marks, b, s.next, n.string, 1),
-        end: s.end,
-    }
+    let string = next.string;
+    let end = put_text(line, at, out, b, next);
+    put_list(out, marks, b, next, string, 1);
+    end
 }
 
 // a named string, and where what stands behind its comma begins
@@ -35,17 +34,13 @@ fn put_signed(
     out: &mut [u8],
     marks: &mut [u8],
     b: Bodies,
-    n: Next,
-) -> Written
-    requires { SignedDue line.now at out.old marks.old b n }
-    ensures { SignedWritten line.now at out.old out.new marks.old marks.new b n result }
+    next: &mut Next,
+) -> usize
+    requires { SignedDue line.now at out.old marks.old b next.old }
+    ensures { SignedWritten line.now at out.old out.new marks.old marks.new b next.old next.new result }
 {
-    let s = put_named(line, at, out, marks, b, n);
-    let next = s.next;
-    Written {
-        next,
-        end: after_sign(line, s.end),
-    }
+    let end = put_named(line, at, out, marks, b, next);
+    after_sign(line, end)
 }
 
 // type and id, each with its word, and where the attributes begin
@@ -55,11 +50,11 @@ pub fn put_keys(
     out: &mut [u8],
     marks: &mut [u8],
     b: Bodies,
-    n: Next,
-) -> Written
-    requires { MarkDue line.now at (entity_read (drop at line.now)) out.old marks.old b n keys_tables }
-    ensures { KeysWritten line.now at out.old out.new marks.old marks.new b n result }
+    next: &mut Next,
+) -> usize
+    requires { MarkDue line.now at (entity_read (drop at line.now)) out.old marks.old b next.old keys_tables }
+    ensures { KeysWritten line.now at out.old out.new marks.old marks.new b next.old next.new result }
 {
-    let kind = put_signed(line, skip_blanks(line, at + 1), out, marks, b, n);
-    put_signed(line, kind.end, out, marks, b, kind.next)
+    let id = put_signed(line, skip_blanks(line, at + 1), out, marks, b, next);
+    put_signed(line, id, out, marks, b, next)
 }

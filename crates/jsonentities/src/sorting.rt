@@ -10,7 +10,7 @@ use jsoncount::tallies::Tally;
 use jsonnames::insert;
 use jsonread::bytes::skip_blanks;
 use jsonread::names::{Order, compare};
-use jsonruns::{Part, after_sign, first_part, part_after, string_end};
+use jsonruns::{after_sign, first_part, part_after, string_end};
 
 // an entity's type and id, at their quotation marks
 #[derive(Clone, Copy)]
@@ -86,16 +86,7 @@ fn entity_end(line: &[u8], at: usize) -> usize
     requires { Good line.now at (entity_read (drop at line.now)) }
     ensures { Ends line.now at result (entity_read (drop at line.now)) }
 {
-    let none = Tally {
-        strings: 0,
-        bytes: 0,
-        values: 0,
-        members: 0,
-        points: 0,
-        lists: 0,
-    };
-    let c = count_entity(line, at, none);
-    c.end
+    count_entity(line, at, &mut Tally::default())
 }
 
 // the entities' places, after the bracket, sorted from the first cell on: how many
@@ -104,22 +95,11 @@ pub fn sort_entities(line: &[u8], at: usize, names: &mut [u64]) -> usize
     ensures { Sorted line.now (array entity_read (drop at line.now)) names.old names.new result }
 {
     let mut count = 0;
-    let mut i = at;
-    match first_part(line, at, 93) {
-        Part::Closed(_) => return count,
-        Part::Next(first) => {
-            i = first;
-        }
-    }
-    loop {
-        let part = part_after(line, entity_end(line, i), 93);
+    let mut part = first_part(line, at, b']');
+    while let Some(i) = part {
+        part = part_after(line, entity_end(line, i), b']');
         keep_entity(line, names, count, i);
         count += 1;
-        match part {
-            Part::Closed(_) => return count,
-            Part::Next(next) => {
-                i = next;
-            }
-        }
     }
+    count
 }

@@ -7,7 +7,6 @@ ghost use Rattle.jsonentities.specs.Sort.{SortedDue, SortedWritten};
 
 use super::entity::put_entity;
 use super::sorting::sort_entities;
-use jsonentry::Several;
 use jsonroom::{Bodies, Next};
 
 // entities by the places in the first cells, so many
@@ -18,21 +17,17 @@ fn put_sorted(
     out: &mut [u8],
     marks: &mut [u8],
     b: Bodies,
-    n: Next,
-) -> Next
-    requires { SortedDue line.now names.old count out.old marks.old b n }
-    ensures { SortedWritten line.now names.old names.new count out.old out.new marks.old marks.new b n result }
+    next: &mut Next,
+)
+    requires { SortedDue line.now names.old count out.old marks.old b next.old }
+    ensures { SortedWritten line.now names.old names.new count out.old out.new marks.old marks.new b next.old next.new }
 {
-    let mut next = n;
-    let mut i = 0;
-    while i < count {
-        next = put_entity(line, names[i] as usize, names, count, out, marks, b, next);
-        i += 1;
+    for i in 0..count {
+        put_entity(line, names[i] as usize, names, count, out, marks, b, next);
     }
-    next
 }
 
-// entities, after their bracket: how many, and the numbers that are next
+// entities, after their bracket: how many
 pub fn put_entities(
     line: &[u8],
     at: usize,
@@ -40,12 +35,12 @@ pub fn put_entities(
     out: &mut [u8],
     marks: &mut [u8],
     b: Bodies,
-    n: Next,
-) -> Several
-    requires { EntitiesDue line.now at (array entity_read (drop at line.now)) names.old out.old marks.old b n }
-    ensures { EntitiesWritten (array entity_read (drop at line.now)) names.old names.new out.old out.new marks.old marks.new b n result }
+    next: &mut Next,
+) -> usize
+    requires { EntitiesDue line.now at (array entity_read (drop at line.now)) names.old out.old marks.old b next.old }
+    ensures { EntitiesWritten (array entity_read (drop at line.now)) names.old names.new out.old out.new marks.old marks.new b next.old next.new result }
 {
     let count = sort_entities(line, at, names);
-    let next = put_sorted(line, names, count, out, marks, b, n);
-    Several { count, next }
+    put_sorted(line, names, count, out, marks, b, next);
+    count
 }

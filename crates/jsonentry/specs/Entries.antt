@@ -9,7 +9,6 @@ use Rattle.jsonroom.specs.declared.Bodies.{Bodies}
 use Rattle.jsonroom.specs.declared.Next.{Next}
 use Rattle.jsonview.specs.Room.{numbers}
 use Rattle.jsonadds.specs.Place.{named}
-use Rattle.jsonentry.specs.declared.Several.{Several}
 use Rattle.jsonentry.specs.Marks.{MarkReady, MarkAdds}
 
 -- nothing was written yet
@@ -31,10 +30,10 @@ pub record EntitiesDue (line : List ℕ) (at : ℕ) (m : Read (List Item)) (name
   pub ready : MarkReady file marks b n (entities_add (ordered_entities what) (numbers n))
   pub spare : named_entities what ≤ length names
 
-pub record EntitiesWritten (m : Read (List Item)) (names names' before after marks marks' : List ℕ) (b : Bodies) (n : Next) (r : Several) : Type 0 where
+pub record EntitiesWritten (m : Read (List Item)) (names names' before after marks marks' : List ℕ) (b : Bodies) (n next : Next) (count : ℕ) : Type 0 where
   pub long : length names' ≡ length names
-  pub many : (what : List Item) (rest : List ℕ) → m ≡ got what rest → r.count ≡ length what
-  pub adds : (what : List Item) (rest : List ℕ) → m ≡ got what rest → MarkAdds before after marks marks' b n (entities_add (ordered_entities what) (numbers n)) r.next
+  pub many : (what : List Item) (rest : List ℕ) → m ≡ got what rest → count ≡ length what
+  pub adds : (what : List Item) (rest : List ℕ) → m ≡ got what rest → MarkAdds before after marks marks' b n (entities_add (ordered_entities what) (numbers n)) next
 
 -- ---- a line
 

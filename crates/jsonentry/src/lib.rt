@@ -2,8 +2,6 @@
 
 #![tactic(auto)]
 
-use jsonroom::Next;
-
 // where the value of each field of a line begins; 0 where there is no principal or resource
 #[derive(Clone, Copy)]
 pub struct Fields {
@@ -16,11 +14,4 @@ pub struct Fields {
     pub principal: usize,
     pub resource: usize,
     pub entities: usize,
-}
-
-// how many were written, and the numbers that are next
-#[derive(Clone, Copy)]
-pub struct Several {
-    pub count: usize,
-    pub next: Next,
 }

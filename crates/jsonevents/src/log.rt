@@ -10,18 +10,12 @@ pub fn put_log(text: &[u8], names: &mut [u64], out: &mut [u8], marks: &mut [u8],
     requires { LogDue text.now names.old out.old marks.old b }
     ensures { LogWritten text.now names.old names.new out.old out.new marks.old marks.new b result }
 {
-    let mut next = Next {
-        string: 0,
-        byte: 0,
-        value: 0,
-        member: 0,
-        list: 0,
-        point: 0,
-    };
+    let mut next = Next::default();
     let mut at = 0;
+    // a while: the place moves from line to line
     while at < text.len() {
         let end = line_end(text, at);
-        next = put_line(&text[at..end], names, out, marks, b, next);
+        put_line(&text[at..end], names, out, marks, b, &mut next);
         at = end + 1;
     }
     next

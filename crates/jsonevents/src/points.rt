@@ -5,7 +5,7 @@ ghost use Rattle.encode.specs.Words.{packed};
 ghost use Rattle.jsonpieces.specs.Parts.{QuadSmall, NamesSmall, ValuesSmall, name_words, value_words, PointRoom, PointPut};
 
 use jsonleaf::flats::{high_of, low_of};
-use jsonpieces::{Body, Four};
+use jsonpieces::{Body, Values};
 use jsonroom::{Bodies, Next, put_pair};
 
 // four words
@@ -37,27 +37,22 @@ fn put_heading(out: &mut [u8], at: usize, time: u64, n: Next, spaces: usize)
 }
 
 // the four values, and the entities
-fn put_ending(out: &mut [u8], at: usize, r: Four, count: usize)
+fn put_ending(out: &mut [u8], at: usize, r: Values, list: usize, count: usize)
     requires at_in_bounds { at + 24 ≤ length out.old }
-    requires values_small { ValuesSmall r count }
-    ensures { Writing out.old out.new at (packed (value_words r count)) }
+    requires values_small { ValuesSmall r list count }
+    ensures { Writing out.old out.new at (packed (value_words r list count)) }
 {
-    let next = r.next;
     put_quad(out, at, r.logged, r.context, r.principal, r.resource);
-    put_pair(out, at + 16, next.list, count);
+    put_pair(out, at + 16, list, count);
 }
 
 // the point of an event that began at `n`
-pub fn put_point(out: &mut [u8], b: Bodies, time: u64, n: Next, r: Body) -> Next
-    requires { PointRoom out.old b n r }
-    ensures { PointPut out.old out.new b time n r result }
+pub fn put_point(out: &mut [u8], b: Bodies, next: &mut Next, time: u64, n: Next, r: Body)
+    requires { PointRoom out.old b next.old n r }
+    ensures { PointPut out.old out.new b next.old time n r next.new }
 {
-    let front = r.front;
-    let several = r.several;
-    let mut next = several.next;
     let at = b.points + 48 * next.point;
-    put_heading(out, at, time, n, front.spaces);
-    put_ending(out, at + 24, front.four, several.count);
+    put_heading(out, at, time, n, r.spaces);
+    put_ending(out, at + 24, r.values, r.list, r.count);
     next.point += 1;
-    next
 }

@@ -23,7 +23,6 @@ use Rattle.jsonview.specs.Filling.{numbers-beyond}
 use Rattle.jsonview.proofs.Adding.{ready-first, ready-second, adds_then}
 use Rattle.jsonview.proofs.Rows.{adds-next}
 use Rattle.jsonentry.specs.declared.Fields.{Fields}
-use Rattle.jsonentry.specs.declared.Several.{Several}
 use Rattle.jsonentry.specs.Fields.{Stands, MayStand, FieldsStand}
 use Rattle.jsonentry.specs.Entries.{EntitiesDue, EntitiesWritten}
 use Rattle.jsonentry.specs.Marks.{MarkReady, MarkAdds}
@@ -31,10 +30,8 @@ use Rattle.jsonentry.specs.Marking.{mark-none, mark-then, mark-ready-first, mark
 use Rattle.jsonentry.specs.NoLists.{no-lists, no-lists-maybe, no-lists-then}
 use Rattle.jsonentities.specs.Lists.{ready-lists, mark-numbers}
 use Rattle.jsonfields.specs.Few.{cells-listed}
-use Rattle.jsonpieces.specs.declared.Pair.{Pair}
-use Rattle.jsonpieces.specs.declared.Four.{Four}
-use Rattle.jsonpieces.specs.declared.Front.{Front}
-use Rattle.jsonpieces.specs.Parts.{names_add, NamesDue, NamesWritten, fields_tables, fields_word, maybe_tables, maybe_word, both_tables, PairDue, PairWritten, records_add, parties_add, values_add, FourIs, ValuesDue, ValuesWritten, front_add, last_add, body_add, PieceDue, LastWritten, FrontIs, FrontWritten, BodyIs, BodyWritten}
+use Rattle.jsonpieces.specs.declared.Values.{Values}
+use Rattle.jsonpieces.specs.Parts.{names_add, NamesDue, NamesWritten, fields_tables, fields_word, maybe_tables, maybe_word, both_tables, PairDue, PairWritten, records_add, parties_add, values_add, ValuesAre, ValuesDue, ValuesWritten, front_add, last_add, body_add, PieceDue, LastWritten, FrontIs, FrontWritten, BodyIs, BodyWritten}
 use Rattle.jsonpieces.proofs.Values.{shaped-fields, shaped_might}
 use Rattle.jsonpieces.proofs.Names.{shaped-names, inside_of, listed_below}
 
@@ -86,18 +83,18 @@ module _ {line : List ℕ} {f : Fields} {names file : List ℕ} {b : Bodies} {n 
   pub values-records : PairDue (Stands line f.logged (fields 31)) (Stands line f.context (fields 31)) fields_tables line names file b n
   values-records = record { first = d.what.logged; second = d.what.context; first-is = value-fields.logged; second_is = value-fields.context; ready = unfold records_add in records-ready; cells = d.cells }
 
-  module _ {names₁ mid : List ℕ} {x : Pair} (p : PairWritten (Stands line f.logged (fields 31)) (Stands line f.context (fields 31)) fields_tables fields_word names names₁ file mid b n x) where
-    records-added : Adds file mid b n records x.next
+  module _ {names₁ mid : List ℕ} {x-next : Next} {x-first : ℕ} {x-second : ℕ} (p : PairWritten (Stands line f.logged (fields 31)) (Stands line f.context (fields 31)) fields_tables fields_word names names₁ file mid b n x-next x-first x-second) where
+    records-added : Adds file mid b n records x-next
     unfolding records_add
     records-added = p.adds d.what.logged d.what.context value-fields.logged value-fields.context
 
-    records-numbers : numbers x.next ≡ past (numbers n) records
+    records-numbers : numbers x-next ≡ past (numbers n) records
     records-numbers = ap numbers (adds-next records-ready records-added) ∙ numbers-beyond n records
 
-    parties-ready : length mid ≡ length file → Ready mid b x.next (parties_add d.what (numbers x.next))
-    parties-ready l = subst (λ (k : Next-as_Trace). Ready mid b x.next (parties_add d.what k)) (sym records-numbers) (ready-second records parties (shaped-records d.what (numbers n)) all-ready records-added l)
+    parties-ready : length mid ≡ length file → Ready mid b x-next (parties_add d.what (numbers x-next))
+    parties-ready l = subst (λ (k : Next-as_Trace). Ready mid b x-next (parties_add d.what k)) (sym records-numbers) (ready-second records parties (shaped-records d.what (numbers n)) all-ready records-added l)
 
-    pub values-parties : length mid ≡ length file → PairDue (MayStand line f.principal) (MayStand line f.resource) maybe_tables line names₁ mid b x.next
+    pub values-parties : length mid ≡ length file → PairDue (MayStand line f.principal) (MayStand line f.resource) maybe_tables line names₁ mid b x-next
     values-parties l = record {
       first = d.what.principal;
       second = d.what.resource;
@@ -107,34 +104,34 @@ module _ {line : List ℕ} {f : Fields} {names file : List ℕ} {b : Bodies} {n 
       cells = let e : length names₁ ≡ length names = p.long in omega (arith, d.cells, e);
     }
 
-    module _ {names₂ last : List ℕ} {y : Pair} (q : PairWritten (MayStand line f.principal) (MayStand line f.resource) maybe_tables maybe_word names₁ names₂ mid last b x.next y) where
-      parties-added : Adds mid last b x.next parties y.next
+    module _ {names₂ last : List ℕ} {y-next : Next} {y-first : ℕ} {y-second : ℕ} (q : PairWritten (MayStand line f.principal) (MayStand line f.resource) maybe_tables maybe_word names₁ names₂ mid last b x-next y-next y-first y-second) where
+      parties-added : Adds mid last b x-next parties y-next
       parties-added =
-          subst (λ (k : Next-as_Trace). Adds mid last b x.next (parties_add d.what k) y.next) records-numbers
+          subst (λ (k : Next-as_Trace). Adds mid last b x-next (parties_add d.what k) y-next) records-numbers
           (unfold parties_add in q.adds d.what.principal d.what.resource value-fields.principal value-fields.resource)
 
-      values-added : Adds file last b n (values_add d.what (numbers n)) y.next
+      values-added : Adds file last b n (values_add d.what (numbers n)) y-next
       unfolding values_add
       values-added = adds_then records parties (shaped-records d.what (numbers n)) (shaped-parties d.what _) records-added parties-added
 
-      abbrev four : Four
-      four = record { next = y.next; logged = x.first; context = x.second; principal = y.first; resource = y.second }
+      abbrev four : Values
+      four = record { logged = x-first; context = x-second; principal = y-first; resource = y-second }
 
-      four_is : FourIs d.what (numbers n) four
+      four_is : ValuesAre d.what (numbers n) four
       four_is = record {
         logged = p.first-is d.what.logged value-fields.logged;
         context = p.second_is d.what.logged d.what.context value-fields.logged value-fields.context;
-        principal = subst (λ (k : Next-as_Trace). y.first ≡ maybe_word d.what.principal k) records-numbers (q.first-is d.what.principal value-fields.principal);
-        resource = subst (λ (k : Next-as_Trace). y.second ≡ maybe_word d.what.resource (past k (maybe_tables d.what.principal k))) records-numbers (q.second_is d.what.principal d.what.resource value-fields.principal value-fields.resource);
+        principal = subst (λ (k : Next-as_Trace). y-first ≡ maybe_word d.what.principal k) records-numbers (q.first-is d.what.principal value-fields.principal);
+        resource = subst (λ (k : Next-as_Trace). y-second ≡ maybe_word d.what.resource (past k (maybe_tables d.what.principal k))) records-numbers (q.second_is d.what.principal d.what.resource value-fields.principal value-fields.resource);
       }
 
-      pub values-wrote : ValuesWritten line names names₂ file last b n (record { next = y.next; logged = x.first; context = x.second; principal = y.first; resource = y.second })
+      pub values-wrote : ValuesWritten line names names₂ file last b n y-next (record { logged = x-first; context = x-second; principal = y-first; resource = y-second })
       values-wrote = record {
         long = q.long ∙ p.long;
         small = record { logged = p.first_small; context = p.second-small; principal = q.first_small; resource = q.second-small };
-        adds = λ e rest s. subst (λ (v : Event). Adds file last b n (values_add v (numbers n)) y.next) (same-got d.is s) values-added;
-        is = λ e rest s. subst (λ (v : Event). FourIs v (numbers n) four) (same-got d.is s) four_is;
-        numbers-are = λ e rest s. subst (λ (v : Event). numbers y.next ≡ past (numbers n) (values_add v (numbers n))) (same-got d.is s) (ap numbers (adds-next d.ready values-added) ∙ numbers-beyond n (values_add d.what (numbers n)));
+        adds = λ e rest s. subst (λ (v : Event). Adds file last b n (values_add v (numbers n)) y-next) (same-got d.is s) values-added;
+        is = λ e rest s. subst (λ (v : Event). ValuesAre v (numbers n) four) (same-got d.is s) four_is;
+        numbers-are = λ e rest s. subst (λ (v : Event). numbers y-next ≡ past (numbers n) (values_add v (numbers n))) (same-got d.is s) (ap numbers (adds-next d.ready values-added) ∙ numbers-beyond n (values_add d.what (numbers n)));
       }
 
 -- ---- names, then values
@@ -178,7 +175,7 @@ module _ {line : List ℕ} {f : Fields} {names file marks : List ℕ} {b : Bodie
     }
 
 -- the numbers are known where it is known what was read
-module _ {line names names' file mid last marks marks' : List ℕ} {b : Bodies} {n next : Next} (p : NamesWritten line file mid marks marks' b n next) {r : Four} (q : ValuesWritten line names names' mid last b next r) where
+module _ {line names names' file mid last marks marks' : List ℕ} {b : Bodies} {n next : Next} (p : NamesWritten line file mid marks marks' b n next) {m : Next} {r : Values} (q : ValuesWritten line names names' mid last b next m r) where
   pub front-from : n.list ≤ next.list
   front-from = p.from
 
@@ -192,21 +189,21 @@ module _ {line names names' file mid last marks marks' : List ℕ} {b : Bodies} 
     after-names : numbers next ≡ past (numbers n) named_of
     after-names = p.numbers-are e rest s
 
-    valued-added : Adds mid last b next valued_of r.next
-    valued-added = subst (λ (k : Next-as_Trace). Adds mid last b next (values_add e k) r.next) after-names (q.adds e rest s)
+    valued-added : Adds mid last b next valued_of m
+    valued-added = subst (λ (k : Next-as_Trace). Adds mid last b next (values_add e k) m) after-names (q.adds e rest s)
 
-    front-added : MarkAdds file last marks marks' b n (front_add e (numbers n)) r.next
+    front-added : MarkAdds file last marks marks' b n (front_add e (numbers n)) m
     unfolding front_add
     front-added = mark-then named_of valued_of (shaped-names e (numbers n)) (shaped-values e _) (p.adds e rest s) (mark-none valued_of (no-lists-values e _) valued-added)
 
-    front-numbers : numbers r.next ≡ past (numbers n) (front_add e (numbers n))
+    front-numbers : numbers m ≡ past (numbers n) (front_add e (numbers n))
     unfolding front_add
     front-numbers = q.numbers-are e rest s ∙ ap (λ (k : Next-as_Trace). past k (values_add e k)) after-names ∙ past-past (numbers n) named_of valued_of
 
-    front-is : FrontIs e (numbers n) (record { four = r; spaces = next.list - n.list })
-    front-is = record { spaces = p.spaces e rest s; four = subst (λ (k : Next-as_Trace). FourIs e k r) after-names (q.is e rest s) }
+    front-is : FrontIs e (numbers n) (next.list - n.list) r
+    front-is = record { many = p.spaces e rest s; four = subst (λ (k : Next-as_Trace). ValuesAre e k r) after-names (q.is e rest s) }
 
-  pub front-wrote : FrontWritten line names names' file last marks marks' b n (record { four = r; spaces = next.list - n.list })
+  pub front-wrote : FrontWritten line names names' file last marks marks' b n m (next.list - n.list) r
   front-wrote = record { long = q.long; small = record { names = p.small; four = q.small }; numbers-are = front-numbers; adds = front-added; is = front-is }
 
 -- ---- then entities
@@ -275,15 +272,15 @@ module _ {line : List ℕ} {f : Fields} {names file marks : List ℕ} {b : Bodie
   pub last-entities : EntitiesDue line (f.entities + 1) (array entity_read (drop (f.entities + 1) line)) names file marks b n
   last-entities = record { what = d.what.entities; rest = inside.rest; within = inside.within; is = inside.is; ready = last-ready; spare = cells-listed d.cells last-fields.entities }
 
-  module _ {names' after marks' : List ℕ} {r : Several} (q : EntitiesWritten (array entity_read (drop (f.entities + 1) line)) names names' file after marks marks' b n r) where
-    many-are : r.count ≡ length d.what.entities
+  module _ {names' after marks' : List ℕ} {r-next : Next} {r-count : ℕ} (q : EntitiesWritten (array entity_read (drop (f.entities + 1) line)) names names' file after marks marks' b n r-next r-count) where
+    many-are : r-count ≡ length d.what.entities
     many-are = q.many d.what.entities inside.rest inside.is
 
-    last-added : MarkAdds file after marks marks' b n (last_add d.what (numbers n)) r.next
+    last-added : MarkAdds file after marks marks' b n (last_add d.what (numbers n)) r-next
     unfolding last_add
     last-added = q.adds d.what.entities inside.rest inside.is
 
-    pub last-wrote : LastWritten line names names' file after marks marks' b n r
+    pub last-wrote : LastWritten line names names' file after marks marks' b n r-next r-count
     last-wrote =
         let h = ready-lists last-ready.ready in
         let w = last-ready.ready.words in
@@ -291,8 +288,8 @@ module _ {line : List ℕ} {f : Fields} {names file marks : List ℕ} {b : Bodie
           long = q.long;
           list = omega (arith, h, w);
           small = omega (arith, h, w, many-are, ordered-long d.what.entities, entities-lists (ordered_entities d.what.entities) (numbers n));
-          adds = λ e rest s. subst (λ (v : Event). MarkAdds file after marks marks' b n (last_add v (numbers n)) r.next) (same-got d.is s) last-added;
-          count-is = λ e rest s. subst (λ (v : Event). r.count ≡ length v.entities) (same-got d.is s) many-are;
+          adds = λ e rest s. subst (λ (v : Event). MarkAdds file after marks marks' b n (last_add v (numbers n)) r-next) (same-got d.is s) last-added;
+          count-is = λ e rest s. subst (λ (v : Event). r-count ≡ length v.entities) (same-got d.is s) many-are;
         }
 
 -- ---- all of them
@@ -311,35 +308,35 @@ module _ {line : List ℕ} {f : Fields} {names file marks : List ℕ} {b : Bodie
   pub body-front : PieceDue front_add line f names file marks b n
   body-front = record { what = d.what; rest = d.rest; is = d.is; fields = d.fields; ready = mark-ready-first fronted (ended (past (numbers n) fronted)) body-ready; cells = d.cells }
 
-  module _ {names₁ mid marks₁ : List ℕ} {r : Front} (p : FrontWritten line names names₁ file mid marks marks₁ b n r) where
-    pub body-last : length mid ≡ length file → PieceDue last_add line f names₁ mid marks₁ b r.four.next
+  module _ {names₁ mid marks₁ : List ℕ} {m : Next} {spaces : ℕ} {r : Values} (p : FrontWritten line names names₁ file mid marks marks₁ b n m spaces r) where
+    pub body-last : length mid ≡ length file → PieceDue last_add line f names₁ mid marks₁ b m
     body-last l = record {
       what = d.what;
       rest = d.rest;
       is = d.is;
       fields = d.fields;
       ready =
-          subst (λ (k : Next-as_Trace). MarkReady mid marks₁ b r.four.next (ended k)) (sym (p.numbers-are d.what d.rest d.is))
+          subst (λ (k : Next-as_Trace). MarkReady mid marks₁ b m (ended k)) (sym (p.numbers-are d.what d.rest d.is))
           (mark-ready-second fronted (ended (past (numbers n) fronted)) (shaped-front d.what (numbers n)) body-ready (p.adds d.what d.rest d.is) l);
       cells = let e : length names₁ ≡ length names = p.long in omega (arith, d.cells, e);
     }
 
-module _ {line names names₁ names₂ file mid last marks marks₁ marks₂ : List ℕ} {b : Bodies} {n : Next} {r : Front} (p : FrontWritten line names names₁ file mid marks marks₁ b n r) {s : Several} (q : LastWritten line names₁ names₂ mid last marks₁ marks₂ b r.four.next s) where
+module _ {line names names₁ names₂ file mid last marks marks₁ marks₂ : List ℕ} {b : Bodies} {n : Next} {m : Next} {spaces : ℕ} {r : Values} (p : FrontWritten line names names₁ file mid marks marks₁ b n m spaces r) {s-next : Next} {s-count : ℕ} (q : LastWritten line names₁ names₂ mid last marks₁ marks₂ b m s-next s-count) where
   module _ (e : Event) (rest : List ℕ) (t : line_of line ≡ got e rest) where
-    after_front : numbers r.four.next ≡ past (numbers n) (front_add e (numbers n))
+    after_front : numbers m ≡ past (numbers n) (front_add e (numbers n))
     after_front = p.numbers-are e rest t
 
-    body-added : MarkAdds file last marks marks₂ b n (body_add e (numbers n)) s.next
+    body-added : MarkAdds file last marks marks₂ b n (body_add e (numbers n)) s-next
     unfolding body_add
     body-added =
         mark-then (front_add e (numbers n)) (last_add e (past (numbers n) (front_add e (numbers n)))) (shaped-front e (numbers n)) (shaped-last e _) (p.adds e rest t)
-        (subst (λ (k : Next-as_Trace). MarkAdds mid last marks₁ marks₂ b r.four.next (last_add e k) s.next) after_front (q.adds e rest t))
+        (subst (λ (k : Next-as_Trace). MarkAdds mid last marks₁ marks₂ b m (last_add e k) s-next) after_front (q.adds e rest t))
 
-    body_is : BodyIs e (numbers n) (record { front = r; several = s })
+    body_is : BodyIs e (numbers n) (record { spaces = spaces; values = r; list = m.list; count = s-count })
     unfolding numbers
     body_is = record { front = p.is e rest t; list = ap (λ (k : Next-as_Trace). k.list) after_front; count = q.count-is e rest t }
 
-  pub body-wrote : BodyWritten line names names₂ file last marks marks₂ b n (record { front = r; several = s })
+  pub body-wrote : BodyWritten line names names₂ file last marks marks₂ b n s-next (record { spaces = spaces; values = r; list = m.list; count = s-count })
   body-wrote = record {
     long = q.long ∙ p.long;
     small = record { names = p.small.names; values = record { four = p.small.four; list = q.list; many = q.small } };

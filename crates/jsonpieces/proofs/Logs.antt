@@ -109,8 +109,11 @@ module _ {text names file marks : List ℕ} {b : Bodies} (d : LogDue text names 
     marks-long = refl;
   }
 
-  pub log-starts : Logging text names names file file marks marks b (record { string = 0; byte = 0; value = 0; member = 0; list = 0; point = 0 }) 0
-  log-starts = subst (λ (n : Next). Logging text names names file file marks marks b n 0) (sym begun) starts
+  -- of numbers that are all 0
+  pub log-starts : {k : Next} → (k.string ≡ 0) × ((k.byte ≡ 0) × ((k.value ≡ 0) × ((k.member ≡ 0) × ((k.list ≡ 0) × (k.point ≡ 0))))) → Logging text names names file file marks marks b k 0
+  log-starts {k} h =
+      let z : k ≡ unwritten = unfold unwritten in same_next h.0 h.1.0 h.1.1.0 h.1.1.1.0 h.1.1.1.1.0 h.1.1.1.1.1 in
+      subst (λ (n : Next). Logging text names names file file marks marks b n 0) (sym z) starts
 
 module _ {text names₀ names before file marks₀ marks : List ℕ} {b : Bodies} {next : Next} {at : ℕ} (g : Logging text names₀ names before file marks₀ marks b next at) where
   pub log-names : length names ≡ length names₀

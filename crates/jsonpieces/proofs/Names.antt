@@ -8,6 +8,7 @@ use lib.ListN.{length, drop, length-append, length-map}
 use mir.Val.{Fits}
 use mir.Syntax.{w64}
 use borrow.Author.Tests.{eq-eqb, ne_eqb}
+use Rattle.std.proofs.Common.{Option, Some, None}
 use Rattle.meaning.specs.Case.{places}
 use Rattle.encode.proofs.Laws.Unsorted.{places-long}
 use Rattle.jsontext.specs.declared.Fault.TheVariants.{BadField}
@@ -19,9 +20,8 @@ use Rattle.jsontrace.specs.Trace.{Tables, empty, ◌⊕◌, texts, lists, Next a
 use Rattle.jsontrace.proofs.Laws.Trace.{Shaped, shaped-texts, shaped-lists, ◌then◌}
 use Rattle.jsonroom.specs.declared.Bodies.{Bodies}
 use Rattle.jsonroom.specs.declared.Next.{Next}
-use Rattle.jsonruns.specs.declared.Part.{Part as Position}
-use Rattle.jsonruns.specs.declared.Part.TheVariants.{Next as Goes, Closed}
 use Rattle.jsonruns.specs.Good.{Signed, BeginTold, PartTold}
+use Rattle.jsonruns.proofs.Signs.{ahead, ahead-less}
 use Rattle.jsonruns.specs.Run.{Run, Listed, Item}
 use Rattle.jsonruns.specs.Forms.{Says}
 use Rattle.jsonruns.proofs.Runs.{then_of, due_of, wanted, same-got, text-string, Turn, turn, array-listed}
@@ -37,8 +37,7 @@ use Rattle.jsonentry.specs.Marks.{MarkReady, MarkAdds}
 use Rattle.jsonentry.specs.Marking.{mark-none, mark-then, mark-ready-first, mark-ready-second}
 use Rattle.jsonentities.specs.Put.{named_tables, MarkDue, MarkWrote}
 use Rattle.jsonentities.specs.Lists.{ready-lists, mark-numbers}
-use Rattle.jsonpieces.specs.declared.Spaced.{Spaced}
-use Rattle.jsonpieces.specs.Parts.{space_tables, SpaceDue, FirstSpace, SpaceWritten, SpacesWritten, names_add, NamesDue, NamesWritten}
+use Rattle.jsonpieces.specs.Parts.{space_tables, SpacesWritten, names_add, NamesDue, NamesWritten}
 
 -- ---- tables of a namespace
 
@@ -62,58 +61,21 @@ pub adds-nothing : (file marks : List ℕ) (b : Bodies) (n : Next) → MarkAdds 
 unfolding empty
 adds-nothing file marks b n = mark-none empty refl (adds_none file b n)
 
--- ---- one string
-
-module _ {line : List ℕ} {at : ℕ} {file marks : List ℕ} {b : Bodies} {n : Next} (d : SpaceDue line at file marks b n) where
-  pub space-named : MarkDue line at (string (drop at line)) file marks b n named_tables
-  space-named = d.due
-
-  module _ {after marks' : List ℕ} {w-next : Next} {w-end : ℕ} (p : MarkWrote line at (string (drop at line)) file after marks marks' b n named_tables w-next w-end) where
-    pub space-signed : Signed line w-end
-    space-signed = record { within = p.within; sign = d.sign; rest = d.others; is = ap blanks (sym (p.is d.due.what d.due.rest d.due.is)) ∙ d.follows }
-
-    module _ {x : Position} (t : PartTold line w-end 93 x) where
-      pub space-last : {e : ℕ} → x ≡ Closed e → SpaceWritten line at file after marks marks' b n (record { next = w-next; more = 0 })
-      space-last {e} y = record { end = w-end; wrote = p; closed = λ z. record { end = e; is = t.closed e y }; goes = λ z. absurd (omega arith) }
-
-      pub space-goes : {i : ℕ} → x ≡ Goes i → SpaceWritten line at file after marks marks' b n (record { next = w-next; more = i })
-      space-goes {i} y = record { end = w-end; wrote = p; closed = λ z. absurd (let c = t.next i y in omega (arith, c.from, z)); goes = λ z. t.next i y }
-
--- ---- the first string
-
-module _ {line : List ℕ} {at : ℕ} {x : Position} (t : BeginTold line at 93 x) where
-  pub first-none : {e : ℕ} → x ≡ Closed e → FirstSpace line at 0
-  first-none {e} y = record { closed = λ z. record { end = e; is = t.closed e y }; goes = λ z. absurd (omega arith) }
-
-  pub first_goes : {i : ℕ} → 0 < at → x ≡ Goes i → FirstSpace line at i
-  first_goes {i} h y = record { closed = λ z. absurd (let c = t.next i y in omega (arith, c.from, h, z)); goes = λ z. t.next i y }
-
 -- ---- the loop
 
--- what is written from here on is written of the whole; 0 where nothing is left
-pub record Spacing (line : List ℕ) (at : ℕ) (before file marks₀ marks : List ℕ) (b : Bodies) (n next : Next) (i : ℕ) : Type 0 where
+-- what is written from here on is written of the whole
+pub record Spacing (line : List ℕ) (at : ℕ) (before file marks₀ marks : List ℕ) (b : Bodies) (n next : Next) (part : Option ℕ) : Type 0 where
   what : List (List ℕ)
   rest : List ℕ
   is : array text (drop at line) ≡ got what rest
-  within : i ≤ length line
   left : List (List ℕ)
-  none : i ≡ 0 → left ≡ []
-  run : 0 < i → Run 93 (Item text) (drop i line) left rest
+  none : part ≡ None → left ≡ []
+  within : (i : ℕ) → part ≡ Some i → i ≤ length line
+  run : (i : ℕ) → part ≡ Some i → Run 93 (Item text) (drop i line) left rest
   ready : MarkReady file marks b next (space_tables left (numbers next))
   adds : (after marks' : List ℕ) (m : Next) → MarkAdds file after marks marks' b next (space_tables left (numbers next)) m → MarkAdds before after marks₀ marks' b n (space_tables what (numbers n)) m
   out-long : length file ≡ length before
   marks-long : length marks ≡ length marks₀
-
--- so many turns at most
-unfoldable pub togo : ℕ → ℕ → ℕ
-togo zero long = 0
-togo (suc i) long = suc (long - suc i)
-
-togo-less : (i j long : ℕ) → 0 < i → i ≤ long → (0 < j → i < j) → (0 < j → j ≤ long) → togo j long < togo i long
-unfolding togo
-togo-less zero j long h k l m = absurd (omega arith)
-togo-less (suc i) zero long h k l m = omega arith
-togo-less (suc i) (suc j) long h k l m = let a : suc i < suc j = l (omega arith) in let c : suc j ≤ long = m (omega arith) in omega (arith, a, c)
 
 module _ {line : List ℕ} {at : ℕ} {file marks : List ℕ} {b : Bodies} {n : Next} (d : MarkDue line at (array text (drop at line)) file marks b n space_tables) where
   all_listed : Listed 93 (Item text) (drop at line) d.what d.rest
@@ -122,45 +84,40 @@ module _ {line : List ℕ} {at : ℕ} {file marks : List ℕ} {b : Bodies} {n : 
   pub spaces-signed : Signed line at
   spaces-signed = record { within = d.within; sign = all_listed.first; rest = all_listed.others; is = all_listed.byte }
 
-  pub spaces-start : {i : ℕ} → FirstSpace line at i → Spacing line at file file marks marks b n n i
-  spaces-start {i} t = record {
+  pub spaces-start : {x : Option ℕ} → BeginTold line at 93 x → Spacing line at file file marks marks b n n x
+  spaces-start t = record {
     what = d.what;
     rest = d.rest;
     is = d.is;
-    within = go i refl;
     left = d.what;
-    none = λ y. let c = (t.closed y).is in let same = sym all_listed.byte ∙ c.is in all_listed.none (eq-eqb all_listed.first 93 cc);
-    run = λ y. let c = t.goes y in subst (λ (u : List ℕ). Run 93 (Item text) u d.what d.rest) (sym c.is) (all_listed.run (ne_eqb all_listed.first 93 (c.other all_listed.first all_listed.others all_listed.byte)));
+    none = λ y. let same = sym all_listed.byte ∙ (t.closed y).is in all_listed.none (eq-eqb all_listed.first 93 cc);
+    within = λ i y. (t.next i y).within;
+    run = λ i y. let c = t.next i y in subst (λ (u : List ℕ). Run 93 (Item text) u d.what d.rest) (sym c.is) (all_listed.run (ne_eqb all_listed.first 93 (c.other all_listed.first all_listed.others all_listed.byte)));
     ready = d.ready;
     adds = λ after marks' m p. p;
     out-long = refl;
     marks-long = refl;
   }
-    where
-      go : (k : ℕ) → i ≡ k → i ≤ length line
-      go zero e = omega arith
-      go (suc k) e = (t.goes (omega arith)).within
 
-module _ {line : List ℕ} {at : ℕ} {before file marks₀ marks : List ℕ} {b : Bodies} {n next : Next} {i : ℕ} (g : Spacing line at before file marks₀ marks b n next i) where
+module _ {line : List ℕ} {at : ℕ} {before file marks₀ marks : List ℕ} {b : Bodies} {n next : Next} {part : Option ℕ} (g : Spacing line at before file marks₀ marks b n next part) where
   pub spaces-long : length file ≡ length before
   spaces-long = g.out-long
 
   pub spaces-marks : length marks ≡ length marks₀
   spaces-marks = g.marks-long
 
-  pub spaces-end : i ≤ 0 → SpacesWritten (array text (drop at line)) before file marks₀ marks b n next
+  pub spaces-end : part ≡ None → SpacesWritten (array text (drop at line)) before file marks₀ marks b n next
   spaces-end y = record {
     adds =
         λ what rest f.
-        let z : i ≡ 0 = omega arith in
-        let u : space_tables g.left (numbers next) ≡ empty = ap (λ (ts : List (List ℕ)). space_tables ts (numbers next)) (g.none z) ∙ space-none (numbers next) in
+        let u : space_tables g.left (numbers next) ≡ empty = ap (λ (ts : List (List ℕ)). space_tables ts (numbers next)) (g.none y) ∙ space-none (numbers next) in
         subst (λ (ts : List (List ℕ)). MarkAdds before file marks₀ marks b n (space_tables ts (numbers n)) next) (same-got g.is f)
         (g.adds file marks next (subst (λ (v : Tables). MarkAdds file file marks marks b next v next) (sym u) (adds-nothing file marks b next)));
   }
 
-  module _ (y : 0 < i) where
+  module _ {i : ℕ} (y : part ≡ Some i) where
     here : Turn 93 (Item text) (drop i line) g.left g.rest
-    here = turn 93 (Item text) (g.run y)
+    here = turn 93 (Item text) (g.run i y)
 
     more : Others here.what g.left
     more = others_of_lem 93 (Item text) here
@@ -183,66 +140,61 @@ module _ {line : List ℕ} {at : ℕ} {before file marks₀ marks : List ℕ} {b
     now-ready : MarkReady file marks b next now
     now-ready = mark-ready-first now (later (past (numbers next) now)) left-ready
 
-    pub spaces-due : SpaceDue line i file marks b next
-    spaces-due = record { due = record { what = here.what; rest = here.after; within = g.within; is = here-string; ready = now-ready }; sign = here.sign; others = here.others; follows = here.byte }
+    pub spaces-due : MarkDue line i (string (drop i line)) file marks b next named_tables
+    spaces-due = record { what = here.what; rest = here.after; within = g.within i y; is = here-string; ready = now-ready }
 
-    module _ {after marks' : List ℕ} {w : Spaced} (q : SpaceWritten line i file after marks marks' b next w) where
-      sign-here : blanks (drop q.end line) ≡ here.sign ∷ here.others
-      sign-here = ap blanks (sym (q.wrote.is here.what here.after here-string)) ∙ here.byte
+    module _ {after marks' : List ℕ} {m : Next} {e : ℕ} (q : MarkWrote line i (string (drop i line)) file after marks marks' b next named_tables m e) where
+      sign-here : blanks (drop e line) ≡ here.sign ∷ here.others
+      sign-here = ap blanks (sym (q.is here.what here.after here-string)) ∙ here.byte
 
-      named-adds : MarkAdds file after marks marks' b next now w.next
-      named-adds = q.wrote.adds here.what here.after here-string
+      pub spaces-after : Signed line e
+      spaces-after = record { within = q.within; sign = here.sign; rest = here.others; is = sign-here }
 
-      next-numbers : numbers w.next ≡ past (numbers next) now
+      named-adds : MarkAdds file after marks marks' b next now m
+      named-adds = q.adds here.what here.after here-string
+
+      next-numbers : numbers m ≡ past (numbers next) now
       next-numbers = mark-numbers now now-ready named-adds
 
-      goes_on : (last marks'' : List ℕ) (m : Next) → MarkAdds after last marks' marks'' b w.next (later (numbers w.next)) m → MarkAdds before last marks₀ marks'' b n (space_tables g.what (numbers n)) m
-      goes_on last marks'' m p =
-          g.adds last marks'' m
-          (subst (λ (t : Tables). MarkAdds file last marks marks'' b next t m) (sym left_is)
+      goes_on : (last marks'' : List ℕ) (k : Next) → MarkAdds after last marks' marks'' b m (later (numbers m)) k → MarkAdds before last marks₀ marks'' b n (space_tables g.what (numbers n)) k
+      goes_on last marks'' k p =
+          g.adds last marks'' k
+          (subst (λ (t : Tables). MarkAdds file last marks marks'' b next t k) (sym left_is)
           (mark-then now (later (past (numbers next) now)) (shaped-name here.what (numbers next)) (shaped-spaces more.others _) named-adds
-          (subst (λ (k : Next-as_Trace). MarkAdds after last marks' marks'' b w.next (later k) m) next-numbers p)))
+          (subst (λ (c : Next-as_Trace). MarkAdds after last marks' marks'' b m (later c) k) next-numbers p)))
 
-      over : w.more ≡ 0 → more.others ≡ []
-      over e =
-          let c = (q.closed e).is in
-          let same = sym sign-here ∙ c.is in
-          let z : here.sign ≡ 93 = cc in
-          let a = sym more.is ∙ here.alone z in
-          cc
+      module _ {x : Option ℕ} (t : PartTold line e 93 x) where
+        over : x ≡ None → more.others ≡ []
+        over z =
+            let same = sym sign-here ∙ (t.closed z).is in
+            let c : here.sign ≡ 93 = cc in
+            let a = sym more.is ∙ here.alone c in
+            cc
 
-      goes-run : 0 < w.more → Run 93 (Item text) (drop w.more line) more.others g.rest
-      goes-run h =
-          let c = q.goes h in
-          let o = here.next (c.other here.sign here.others sign-here) in
-          let a : more.others ≡ o.parts = let a = sym more.is ∙ o.all-is in cc in
-          subst (λ (u : List ℕ). Run 93 (Item text) u more.others g.rest) (sym (c.is here.sign here.others sign-here)) (subst (λ (ts : List (List ℕ)). Run 93 (Item text) (blanks here.others) ts g.rest) (sym a) o.run)
+        goes-run : (j : ℕ) → x ≡ Some j → Run 93 (Item text) (drop j line) more.others g.rest
+        goes-run j h =
+            let c = t.next j h in
+            let o = here.next (c.other here.sign here.others sign-here) in
+            let a : more.others ≡ o.parts = let a = sym more.is ∙ o.all-is in cc in
+            subst (λ (u : List ℕ). Run 93 (Item text) u more.others g.rest) (sym (c.is here.sign here.others sign-here)) (subst (λ (ts : List (List ℕ)). Run 93 (Item text) (blanks here.others) ts g.rest) (sym a) o.run)
 
-      inside-line : w.more ≤ length line
-      inside-line =
-          go w.more refl
-        where
-          go : (k : ℕ) → w.more ≡ k → w.more ≤ length line
-          go zero e = omega arith
-          go (suc k) e = (q.goes (omega arith)).within
+        pub spaces-again : length after ≡ length file → length marks' ≡ length marks → Spacing line at before after marks₀ marks' b n m x
+        spaces-again l k = record {
+          what = g.what;
+          rest = g.rest;
+          is = g.is;
+          left = more.others;
+          none = over;
+          within = λ j h. (t.next j h).within;
+          run = goes-run;
+          ready = subst (λ (c : Next-as_Trace). MarkReady after marks' b m (later c)) (sym next-numbers) (mark-ready-second now (later (past (numbers next) now)) (shaped-name here.what (numbers next)) left-ready named-adds l);
+          adds = goes_on;
+          out-long = l ∙ g.out-long;
+          marks-long = k ∙ g.marks-long;
+        }
 
-      pub spaces-again : length after ≡ length file → length marks' ≡ length marks → Spacing line at before after marks₀ marks' b n w.next w.more
-      spaces-again l k = record {
-        what = g.what;
-        rest = g.rest;
-        is = g.is;
-        within = inside-line;
-        left = more.others;
-        none = over;
-        run = goes-run;
-        ready = subst (λ (q : Next-as_Trace). MarkReady after marks' b w.next (later q)) (sym next-numbers) (mark-ready-second now (later (past (numbers next) now)) (shaped-name here.what (numbers next)) left-ready named-adds l);
-        adds = goes_on;
-        out-long = l ∙ g.out-long;
-        marks-long = k ∙ g.marks-long;
-      }
-
-      pub spaces-less : togo w.more (length line) < togo i (length line)
-      spaces-less = togo-less i w.more (length line) y g.within (λ h. let c = q.goes h in omega (arith, q.wrote.from, c.from)) (λ h. (q.goes h).within)
+        pub spaces-less : ahead line x < ahead line part
+        spaces-less = ahead-less line y t q.from
 
 -- ---- after an array's bracket
 

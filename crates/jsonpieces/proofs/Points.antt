@@ -33,7 +33,7 @@ use Rattle.jsonentry.specs.Fields.{FieldsTold, FieldsStand}
 use Rattle.jsonentry.specs.Entries.{LineDue, LineWritten}
 use Rattle.jsonentry.specs.Marks.{MarkReady, MarkAdds}
 use Rattle.jsonentry.specs.Marking.{mark-none, mark-then, mark-ready-first, mark-ready-second}
-use Rattle.jsonpieces.specs.declared.Four.{Four}
+use Rattle.jsonpieces.specs.declared.Values.{Values}
 use Rattle.jsonpieces.specs.declared.Body.{Body}
 use Rattle.jsonpieces.specs.Parts.{names_add, fields_tables, fields_word, maybe_tables, maybe_word, both_tables, records_add, parties_add, values_add, front_add, last_add, body_add, PieceDue, BodyIs, BodyWritten, name_words, value_words, point_words, with_point, PointRoom, PointPut, words_of}
 use Rattle.jsonpieces.proofs.Fronts.{past-past, shaped-body, ordered-long}
@@ -50,23 +50,20 @@ heading_written {d} {w} {w'} {at} {x} {y} time n spaces h ex ey f g =
     (subst (λ (u : ℕ). Writing d w' at (packed (x ∷ u ∷ n.list ∷ spaces ∷ (n.string + spaces) ∷ (n.string + spaces + 1) ∷ []))) ey
     (words_more (at + 16) (x ∷ y ∷ n.list ∷ spaces ∷ []) ((n.string + spaces) ∷ (n.string + spaces + 1) ∷ []) (omega arith) (omega arith) f g))
 
-pub ending-written : {d w w' : List ℕ} {at : ℕ} (r : Four) (count : ℕ) → at + 24 ≤ length d → Writing d w at (packed (r.logged ∷ r.context ∷ r.principal ∷ r.resource ∷ [])) → Writing w w' (at + 16) (packed (r.next.list ∷ count ∷ [])) → Writing d w' at (packed (value_words r count))
+pub ending-written : {d w w' : List ℕ} {at : ℕ} (r : Values) (list count : ℕ) → at + 24 ≤ length d → Writing d w at (packed (r.logged ∷ r.context ∷ r.principal ∷ r.resource ∷ [])) → Writing w w' (at + 16) (packed (list ∷ count ∷ [])) → Writing d w' at (packed (value_words r list count))
 unfolding value_words
-ending-written {at = at} r count h f g = words_more (at + 16) (r.logged ∷ r.context ∷ r.principal ∷ r.resource ∷ []) (r.next.list ∷ count ∷ []) (omega arith) (omega arith) f g
+ending-written {at = at} r list count h f g = words_more (at + 16) (r.logged ∷ r.context ∷ r.principal ∷ r.resource ∷ []) (list ∷ count ∷ []) (omega arith) (omega arith) f g
 
-pub point-put : {d w w' : List ℕ} {b : Bodies} (time : ℕ) (n : Next) (r : Body) → PointRoom d b n r → Writing d w (b.points + 48 * r.several.next.point) (packed (name_words time n r.front.spaces)) → Writing w w' (b.points + 48 * r.several.next.point + 24) (packed (value_words r.front.four r.several.count)) → PointPut d w' b time n r (record { string = r.several.next.string; byte = r.several.next.byte; value = r.several.next.value; member = r.several.next.member; list = r.several.next.list; point = r.several.next.point + 1 })
+pub point-put : {d w w' : List ℕ} {b : Bodies} {next : Next} (time : ℕ) (n : Next) (r : Body) → PointRoom d b next n r → Writing d w (b.points + 48 * next.point) (packed (name_words time n r.spaces)) → Writing w w' (b.points + 48 * next.point + 24) (packed (value_words r.values r.list r.count)) → PointPut d w' b next time n r (record { string = next.string; byte = next.byte; value = next.value; member = next.member; list = next.list; point = next.point + 1 })
 unfolding point_words with_point name_words
-point-put {b = b} time n r h f g = record {
-  is = words_more (b.points + 48 * r.several.next.point + 24) (name_words time n r.front.spaces) (value_words r.front.four r.several.count) (omega (arith, h.fits)) (omega arith) f g;
-  next = refl;
+point-put {b = b} {next = next} time n r h f g = record {
+  is = words_more (b.points + 48 * next.point + 24) (name_words time n r.spaces) (value_words r.values r.list r.count) (omega (arith, h.fits)) (omega arith) f g;
+  more = refl;
 }
 
 -- ---- a point
 
-module _ {file after : List ℕ} {b : Bodies} {time : ℕ} {n m : Next} (r : Body) (p : PointPut file after b time n r m) where
-  abbrev next : Next
-  next = r.several.next
-
+module _ {file after : List ℕ} {b : Bodies} {time : ℕ} {next n m : Next} (r : Body) (p : PointPut file after b next time n r m) where
   words_long : length (point_words time n r) ≡ 12
   unfolding point_words name_words value_words
   words_long = refl
@@ -81,7 +78,7 @@ module _ {file after : List ℕ} {b : Bodies} {time : ℕ} {n m : Next} (r : Bod
             subst (λ (q : Room). Shows after b q)
             (same-room (with_none room.strings (8 * next.string)) (with_none room.values (16 * next.value)) (with_none room.members (8 * next.member)) (ap (λ (l : List ℕ). write room.points (48 * next.point) l) all) (with_none room.lists (4 * next.list)) (sym (write-nothing room.text next.byte)))
             (in_points s (48 * next.point) p.is z);
-        next = p.next ∙ same_next (omega arith) (omega arith) (omega arith) (omega arith) (omega arith) refl;
+        next = p.more ∙ same_next (omega arith) (omega arith) (omega arith) (omega arith) (omega arith) refl;
       }
 
   point-adds : Adds file after b next (point (point_words time n r)) m
@@ -154,7 +151,7 @@ same_twelve p q r s t u v w x y z o = cc
 words_are : (e : Event) (n : Next) (r : Body) {z : ℕ} → z ≡ of_z w64 e.time → BodyIs e (numbers n) r → point_words z n r ≡ words_of e (numbers n)
 unfolding point_words name_words value_words words_of numbers low high
 words_are e n r t i =
-    let s = i.front.spaces in
+    let s = i.front.many in
     let four = i.front.four in
     same_twelve (ap (λ (v : ℕ). v % 4294967296) t) (ap (λ (v : ℕ). v / 4294967296) t) refl s (ap (λ (v : ℕ). n.string + v) s) (ap (λ (v : ℕ). n.string + v + 1) s) four.logged four.context four.principal four.resource i.list i.count
 
@@ -186,11 +183,11 @@ module _ {line names file marks : List ℕ} {b : Bodies} {n : Next} (d : LineDue
     pub line-body : PieceDue body_add line f names file marks b n
     line-body = record { what = d.what; rest = d.rest; is = d.is; fields = t; ready = mark-ready-first body words event-ready; cells = d.cells }
 
-    module _ {names' mid marks' : List ℕ} {r : Body} (p : BodyWritten line names names' file mid marks marks' b n r) where
-      body-adds : MarkAdds file mid marks marks' b n body r.several.next
+    module _ {names' mid marks' : List ℕ} {m : Next} {r : Body} (p : BodyWritten line names names' file mid marks marks' b n m r) where
+      body-adds : MarkAdds file mid marks marks' b n body m
       body-adds = p.adds d.what d.rest d.is
 
-      pub line-room : length mid ≡ length file → PointRoom mid b n r
+      pub line-room : length mid ≡ length file → PointRoom mid b m n r
       unfolding point
       line-room l =
           let g = (mark-ready-second body words (shaped-body d.what (numbers n)) event-ready body-adds l).ready in
@@ -200,7 +197,7 @@ shaped-words : (e : Event) (k : Next-as_Trace) → Shaped (point (words_of e k))
 unfolding words_of
 shaped-words e k = shaped-point _ _ _ _ _ _ _ _ _ _ _ _
 
-module _ {line : List ℕ} {f : Fields} (t : FieldsTold line f) {z : ℕ} (i : IntegerTold line f.time z) {names names' file mid last marks marks' : List ℕ} {b : Bodies} {n m : Next} {r : Body} (p : BodyWritten line names names' file mid marks marks' b n r) (q : PointPut mid last b z n r m) where
+module _ {line : List ℕ} {f : Fields} (t : FieldsTold line f) {z : ℕ} (i : IntegerTold line f.time z) {names names' file mid last marks marks' : List ℕ} {b : Bodies} {n next m : Next} {r : Body} (p : BodyWritten line names names' file mid marks marks' b n next r) (q : PointPut mid last b next z n r m) where
   module _ (e : Event) (rest : List ℕ) (s : line_of line ≡ got e rest) where
     stand : FieldsStand line f e
     stand = t.is e rest s
@@ -211,8 +208,8 @@ module _ {line : List ℕ} {f : Fields} (t : FieldsTold line f) {z : ℕ} (i : I
     event-words : point_words z n r ≡ words_of e (numbers n)
     event-words = words_are e n r (i.is e.time stand.time.rest read-time) (p.is e rest s)
 
-    words-added : MarkAdds mid last marks' marks' b r.several.next (point (words_of e (numbers n))) m
-    words-added = subst (λ (ws : List ℕ). MarkAdds mid last marks' marks' b r.several.next (point ws) m) event-words (unfold point in mark-none (point (point_words z n r)) refl (point-adds r q))
+    words-added : MarkAdds mid last marks' marks' b next (point (words_of e (numbers n))) m
+    words-added = subst (λ (ws : List ℕ). MarkAdds mid last marks' marks' b next (point ws) m) event-words (unfold point in mark-none (point (point_words z n r)) refl (point-adds r q))
 
     event-added : MarkAdds file last marks marks' b n (event_adds (arranged e) (numbers n)) m
     event-added =

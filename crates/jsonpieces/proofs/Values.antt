@@ -24,7 +24,6 @@ use Rattle.jsonview.proofs.Rows.{adds-next, value-words}
 use Rattle.jsonadds.specs.Place.{PlaceDue, Placed, object_value, value_tables, named, named_members}
 use Rattle.jsonadds.proofs.Items.{value-one}
 use Rattle.jsonentry.specs.Fields.{Stands, StandsThere, MayStand}
-use Rattle.jsonpieces.specs.declared.Numbered.{Numbered}
 use Rattle.jsonfields.specs.Few.{cells-value, cells-fields}
 use Rattle.jsonpieces.specs.Parts.{fields_tables, fields_word, maybe_tables, maybe_word, OneDue, OneWritten, both_tables, PairDue, PairWritten}
 
@@ -114,7 +113,7 @@ module _ {line : List ℕ} {at : ℕ} {names file : List ℕ} {b : Bodies} {n : 
     pub fields-some : 1 ≤ w-next.value
     fields-some = value-some (Object (ordered_members d.what)) its-ready its-adds
 
-    pub fields-wrote : OneWritten (Stands line at (fields 31)) fields_tables fields_word names names' file after b n (record { next = w-next; number = w-next.value - 1 })
+    pub fields-wrote : OneWritten (Stands line at (fields 31)) fields_tables fields_word names names' file after b n w-next (w-next.value - 1)
     fields-wrote = record {
       long = p.stays.long;
       small = value-small (Object (ordered_members d.what)) its-ready its-adds;
@@ -144,7 +143,7 @@ unfolding maybe_word ordered_maybe maybe_number
 some_word j k = refl
 
 module _ {line : List ℕ} {at : ℕ} {names file : List ℕ} {b : Bodies} {n : Next} (d : OneDue (MayStand line at) maybe_tables line names file b n) where
-  pub maybe-none : at ≡ 0 → OneWritten (MayStand line at) maybe_tables maybe_word names names file file b n (record { next = n; number = 4294967295 })
+  pub maybe-none : at ≡ 0 → OneWritten (MayStand line at) maybe_tables maybe_word names names file file b n n 4294967295
   maybe-none e = record {
     long = refl;
     small = omega arith;
@@ -191,7 +190,7 @@ module _ {line : List ℕ} {at : ℕ} {names file : List ℕ} {b : Bodies} {n : 
       what-word : w-next.value - 1 ≡ maybe_word d.what (numbers n)
       what-word = value-last (ordered one.value) one-ready one-adds ∙ sym (ap (λ (o : Option J). maybe_word o (numbers n)) one.there ∙ some_word one.value (numbers n))
 
-      pub maybe-wrote : OneWritten (MayStand line at) maybe_tables maybe_word names names' file after b n (record { next = w-next; number = w-next.value - 1 })
+      pub maybe-wrote : OneWritten (MayStand line at) maybe_tables maybe_word names names' file after b n w-next (w-next.value - 1)
       maybe-wrote = record {
         long = p.stays.long;
         small = value-small (ordered one.value) one-ready one-adds;
@@ -212,28 +211,28 @@ module _ {A : Type 0} {S T : A → Type 0} {tables : A → Next-as_Trace → Tab
   pair-first : OneDue S tables line names file b n
   pair-first = record { what = d.first; stands = d.first-is; ready = first-ready; cells = d.cells }
 
-  module _ {word : A → Next-as_Trace → ℕ} {names₁ mid : List ℕ} {x : Numbered} (p : OneWritten S tables word names names₁ file mid b n x) where
-    first_next : x.next ≡ beyond n (tables d.first (numbers n))
+  module _ {word : A → Next-as_Trace → ℕ} {names₁ mid : List ℕ} {x-next : Next} {x-number : ℕ} (p : OneWritten S tables word names names₁ file mid b n x-next x-number) where
+    first_next : x-next ≡ beyond n (tables d.first (numbers n))
     first_next = adds-next first-ready (p.adds d.first d.first-is)
 
-    first-numbers : numbers x.next ≡ past (numbers n) (tables d.first (numbers n))
+    first-numbers : numbers x-next ≡ past (numbers n) (tables d.first (numbers n))
     first-numbers = ap numbers first_next ∙ numbers-beyond n (tables d.first (numbers n))
 
-    pair-second : length mid ≡ length file → OneDue T tables line names₁ mid b x.next
+    pair-second : length mid ≡ length file → OneDue T tables line names₁ mid b x-next
     pair-second l = record {
       what = d.second;
       stands = d.second_is;
       ready =
-          subst (λ (k : Next-as_Trace). Ready mid b x.next (tables d.second k)) (sym first-numbers)
+          subst (λ (k : Next-as_Trace). Ready mid b x-next (tables d.second k)) (sym first-numbers)
           (ready-second (tables d.first (numbers n)) _ (Shaped_of d.first (numbers n)) both-ready (p.adds d.first d.first-is) l);
       cells = let e : length names₁ ≡ length names = p.long in omega (arith, d.cells, e);
     }
 
-    module _ {names₂ last : List ℕ} {y : Numbered} (q : OneWritten T tables word names₁ names₂ mid last b x.next y) where
-      same_numbers : (a : A) → S a → numbers x.next ≡ past (numbers n) (tables a (numbers n))
-      same_numbers a s = subst (λ (c : A). numbers x.next ≡ past (numbers n) (tables c (numbers n))) (only d.first a d.first-is s) first-numbers
+    module _ {names₂ last : List ℕ} {y-next : Next} {y-number : ℕ} (q : OneWritten T tables word names₁ names₂ mid last b x-next y-next y-number) where
+      same_numbers : (a : A) → S a → numbers x-next ≡ past (numbers n) (tables a (numbers n))
+      same_numbers a s = subst (λ (c : A). numbers x-next ≡ past (numbers n) (tables c (numbers n))) (only d.first a d.first-is s) first-numbers
 
-      pair-wrote : PairWritten S T tables word names names₂ file last b n (record { next = y.next; first = x.number; second = y.number })
+      pair-wrote : PairWritten S T tables word names names₂ file last b n y-next x-number y-number
       pair-wrote = record {
         long = q.long ∙ p.long;
         first_small = p.small;
@@ -242,9 +241,9 @@ module _ {A : Type 0} {S T : A → Type 0} {tables : A → Next-as_Trace → Tab
             λ a c s t.
             unfold both_tables in
             adds_then (tables a (numbers n)) (tables c (past (numbers n) (tables a (numbers n)))) (Shaped_of a (numbers n)) (Shaped_of c _) (p.adds a s)
-            (subst (λ (k : Next-as_Trace). Adds mid last b x.next (tables c k) y.next) (same_numbers a s) (q.adds c t));
+            (subst (λ (k : Next-as_Trace). Adds mid last b x-next (tables c k) y-next) (same_numbers a s) (q.adds c t));
         first-is = p.is;
-        second_is = λ a c s t. subst (λ (k : Next-as_Trace). y.number ≡ word c k) (same_numbers a s) (q.is c t);
+        second_is = λ a c s t. subst (λ (k : Next-as_Trace). y-number ≡ word c k) (same_numbers a s) (q.is c t);
       }
 
 pub shaped-fields : (ps : Parts) (k : Next-as_Trace) → Shaped (fields_tables ps k)
@@ -260,11 +259,11 @@ module _ {line : List ℕ} {one other : ℕ} {names file : List ℕ} {b : Bodies
   pub records-first : OneDue (Stands line one (fields 31)) fields_tables line names file b n
   records-first = pair-first shaped-fields stands_one d
 
-  module _ {names₁ mid : List ℕ} {x : Numbered} (p : OneWritten (Stands line one (fields 31)) fields_tables fields_word names names₁ file mid b n x) where
-    pub records-second : length mid ≡ length file → OneDue (Stands line other (fields 31)) fields_tables line names₁ mid b x.next
+  module _ {names₁ mid : List ℕ} {x-next : Next} {x-number : ℕ} (p : OneWritten (Stands line one (fields 31)) fields_tables fields_word names names₁ file mid b n x-next x-number) where
+    pub records-second : length mid ≡ length file → OneDue (Stands line other (fields 31)) fields_tables line names₁ mid b x-next
     records-second l = pair-second shaped-fields stands_one d p l
 
-    pub records-wrote : {names₂ last : List ℕ} {y : Numbered} → OneWritten (Stands line other (fields 31)) fields_tables fields_word names₁ names₂ mid last b x.next y → PairWritten (Stands line one (fields 31)) (Stands line other (fields 31)) fields_tables fields_word names names₂ file last b n (record { next = y.next; first = x.number; second = y.number })
+    pub records-wrote : {names₂ last : List ℕ} {y-next : Next} {y-number : ℕ} → OneWritten (Stands line other (fields 31)) fields_tables fields_word names₁ names₂ mid last b x-next y-next y-number → PairWritten (Stands line one (fields 31)) (Stands line other (fields 31)) fields_tables fields_word names names₂ file last b n y-next x-number y-number
     records-wrote q = pair-wrote shaped-fields stands_one d p q
 
 -- principal and resource
@@ -272,9 +271,9 @@ module _ {line : List ℕ} {one other : ℕ} {names file : List ℕ} {b : Bodies
   pub parties-first : OneDue (MayStand line one) maybe_tables line names file b n
   parties-first = pair-first shaped_might may_one d
 
-  module _ {names₁ mid : List ℕ} {x : Numbered} (p : OneWritten (MayStand line one) maybe_tables maybe_word names names₁ file mid b n x) where
-    pub parties-second : length mid ≡ length file → OneDue (MayStand line other) maybe_tables line names₁ mid b x.next
+  module _ {names₁ mid : List ℕ} {x-next : Next} {x-number : ℕ} (p : OneWritten (MayStand line one) maybe_tables maybe_word names names₁ file mid b n x-next x-number) where
+    pub parties-second : length mid ≡ length file → OneDue (MayStand line other) maybe_tables line names₁ mid b x-next
     parties-second l = pair-second shaped_might may_one d p l
 
-    pub parties-wrote : {names₂ last : List ℕ} {y : Numbered} → OneWritten (MayStand line other) maybe_tables maybe_word names₁ names₂ mid last b x.next y → PairWritten (MayStand line one) (MayStand line other) maybe_tables maybe_word names names₂ file last b n (record { next = y.next; first = x.number; second = y.number })
+    pub parties-wrote : {names₂ last : List ℕ} {y-next : Next} {y-number : ℕ} → OneWritten (MayStand line other) maybe_tables maybe_word names₁ names₂ mid last b x-next y-next y-number → PairWritten (MayStand line one) (MayStand line other) maybe_tables maybe_word names names₂ file last b n y-next x-number y-number
     parties-wrote q = pair-wrote shaped_might may_one d p q

@@ -11,49 +11,18 @@ use Rattle.jsontrace.specs.Order.{ordered_members, ordered_maybe, ordered_entiti
 use Rattle.jsontrace.specs.Trace.{Tables, ◌⊕◌, texts, lists, Next as Next-as_Trace, past, last_value, low, high, value_adds, maybe_adds, maybe_number, naming, entities_add}
 use Rattle.jsonroom.specs.declared.Bodies.{Bodies}
 use Rattle.jsonroom.specs.declared.Next.{Next}
-use Rattle.jsonruns.specs.Good.{ClosedAt, BeginAt, NextAt}
 use Rattle.jsonview.specs.Room.{Ready, Adds, numbers}
 use Rattle.jsonentry.specs.declared.Fields.{Fields}
-use Rattle.jsonentry.specs.declared.Several.{Several}
+use Rattle.jsonpieces.specs.declared.Values.{Values}
+use Rattle.jsonpieces.specs.declared.Body.{Body}
 use Rattle.jsonentry.specs.Fields.{FieldsTold}
 use Rattle.jsonentry.specs.Marks.{MarkReady, MarkAdds}
-use Rattle.jsonentities.specs.Put.{named_tables, MarkDue, MarkWrote}
-use Rattle.jsonpieces.specs.declared.Spaced.{Spaced}
-use Rattle.jsonpieces.specs.declared.Numbered.{Numbered}
-use Rattle.jsonpieces.specs.declared.Pair.{Pair}
-use Rattle.jsonpieces.specs.declared.Four.{Four}
-use Rattle.jsonpieces.specs.declared.Front.{Front}
-use Rattle.jsonpieces.specs.declared.Body.{Body}
 
 -- ---- strings of a namespace
 
 -- each is named by a list word
 unfoldable pub space_tables : List (List ℕ) → Next-as_Trace → Tables
 space_tables ts k = texts ts ⊕ lists (naming k.string (length ts))
-
--- a string stands here, with its word fits, and something follows
-pub record SpaceDue (line : List ℕ) (at : ℕ) (file marks : List ℕ) (b : Bodies) (n : Next) : Type 0 where
-  pub due : MarkDue line at (string (drop at line)) file marks b n named_tables
-  pub sign : ℕ
-  pub others : List ℕ
-  pub follows : blanks due.rest ≡ sign ∷ others
-
--- the bracket closes
-pub record Closes (line : List ℕ) (at : ℕ) : Type 0 where
-  pub end : ℕ
-  pub is : ClosedAt line at 93 end
-
--- where the first string begins, or 0
-pub record FirstSpace (line : List ℕ) (at i : ℕ) : Type 0 where
-  pub closed : i ≡ 0 → Closes line at
-  pub goes : 0 < i → BeginAt line at 93 i
-
--- it is written, and what follows is told
-pub record SpaceWritten (line : List ℕ) (at : ℕ) (before after marks marks' : List ℕ) (b : Bodies) (n : Next) (r : Spaced) : Type 0 where
-  pub end : ℕ
-  pub wrote : MarkWrote line at (string (drop at line)) before after marks marks' b n named_tables (record { next = r.next; end = end })
-  pub closed : r.more ≡ 0 → Closes line end
-  pub goes : 0 < r.more → NextAt line end 93 r.more
 
 pub record SpacesWritten (m : Read (List (List ℕ))) (before after marks marks' : List ℕ) (b : Bodies) (n r : Next) : Type 0 where
   pub adds : (what : List (List ℕ)) (rest : List ℕ) → m ≡ got what rest → MarkAdds before after marks marks' b n (space_tables what (numbers n)) r
@@ -103,11 +72,11 @@ pub record OneDue {A : Type 0} (S : A → Type 0) (tables : A → Next-as_Trace 
   pub ready : Ready file b n (tables what (numbers n))
   pub cells : length line ≤ 4 * length names
 
-pub record OneWritten {A : Type 0} (S : A → Type 0) (tables : A → Next-as_Trace → Tables) (word : A → Next-as_Trace → ℕ) (names names' before after : List ℕ) (b : Bodies) (n : Next) (r : Numbered) : Type 0 where
+pub record OneWritten {A : Type 0} (S : A → Type 0) (tables : A → Next-as_Trace → Tables) (word : A → Next-as_Trace → ℕ) (names names' before after : List ℕ) (b : Bodies) (n next : Next) (number : ℕ) : Type 0 where
   pub long : length names' ≡ length names
-  pub small : r.number ≤ 4294967295
-  pub adds : (what : A) → S what → Adds before after b n (tables what (numbers n)) r.next
-  pub is : (what : A) → S what → r.number ≡ word what (numbers n)
+  pub small : number ≤ 4294967295
+  pub adds : (what : A) → S what → Adds before after b n (tables what (numbers n)) next
+  pub is : (what : A) → S what → number ≡ word what (numbers n)
 
 -- two of them
 unfoldable pub both_tables : {A : Type 0} → (A → Next-as_Trace → Tables) → A → A → Next-as_Trace → Tables
@@ -121,13 +90,13 @@ pub record PairDue {A : Type 0} (S T : A → Type 0) (tables : A → Next-as_Tra
   pub ready : Ready file b n (both_tables tables first second (numbers n))
   pub cells : length line ≤ 4 * length names
 
-pub record PairWritten {A : Type 0} (S T : A → Type 0) (tables : A → Next-as_Trace → Tables) (word : A → Next-as_Trace → ℕ) (names names' before after : List ℕ) (b : Bodies) (n : Next) (r : Pair) : Type 0 where
+pub record PairWritten {A : Type 0} (S T : A → Type 0) (tables : A → Next-as_Trace → Tables) (word : A → Next-as_Trace → ℕ) (names names' before after : List ℕ) (b : Bodies) (n next : Next) (one other : ℕ) : Type 0 where
   pub long : length names' ≡ length names
-  pub first_small : r.first ≤ 4294967295
-  pub second-small : r.second ≤ 4294967295
-  pub adds : (x y : A) → S x → T y → Adds before after b n (both_tables tables x y (numbers n)) r.next
-  pub first-is : (x : A) → S x → r.first ≡ word x (numbers n)
-  pub second_is : (x y : A) → S x → T y → r.second ≡ word y (past (numbers n) (tables x (numbers n)))
+  pub first_small : one ≤ 4294967295
+  pub second-small : other ≤ 4294967295
+  pub adds : (x y : A) → S x → T y → Adds before after b n (both_tables tables x y (numbers n)) next
+  pub first-is : (x : A) → S x → one ≡ word x (numbers n)
+  pub second_is : (x y : A) → S x → T y → other ≡ word y (past (numbers n) (tables x (numbers n)))
 
 -- ---- logged and context, principal and resource
 
@@ -140,13 +109,13 @@ parties_add e k = both_tables maybe_tables e.principal e.resource k
 unfoldable pub values_add : Event → Next-as_Trace → Tables
 values_add e k = records_add e k ⊕ parties_add e (past k (records_add e k))
 
-pub record FourIs (e : Event) (k : Next-as_Trace) (r : Four) : Type 0 where
+pub record ValuesAre (e : Event) (k : Next-as_Trace) (r : Values) : Type 0 where
   pub logged : r.logged ≡ fields_word e.logged k
   pub context : r.context ≡ fields_word e.context (past k (fields_tables e.logged k))
   pub principal : r.principal ≡ maybe_word e.principal (past k (records_add e k))
   pub resource : r.resource ≡ maybe_word e.resource (past (past k (records_add e k)) (maybe_tables e.principal (past k (records_add e k))))
 
-pub record FourSmall (r : Four) : Type 0 where
+pub record AllSmall (r : Values) : Type 0 where
   pub logged : r.logged ≤ 4294967295
   pub context : r.context ≤ 4294967295
   pub principal : r.principal ≤ 4294967295
@@ -160,12 +129,12 @@ pub record ValuesDue (line : List ℕ) (f : Fields) (names file : List ℕ) (b :
   pub ready : Ready file b n (values_add what (numbers n))
   pub cells : length line ≤ 4 * length names
 
-pub record ValuesWritten (line names names' before after : List ℕ) (b : Bodies) (n : Next) (r : Four) : Type 0 where
+pub record ValuesWritten (line names names' before after : List ℕ) (b : Bodies) (n next : Next) (r : Values) : Type 0 where
   pub long : length names' ≡ length names
-  pub small : FourSmall r
-  pub numbers-are : (e : Event) (rest : List ℕ) → line_of line ≡ got e rest → numbers r.next ≡ past (numbers n) (values_add e (numbers n))
-  pub adds : (e : Event) (rest : List ℕ) → line_of line ≡ got e rest → Adds before after b n (values_add e (numbers n)) r.next
-  pub is : (e : Event) (rest : List ℕ) → line_of line ≡ got e rest → FourIs e (numbers n) r
+  pub small : AllSmall r
+  pub numbers-are : (e : Event) (rest : List ℕ) → line_of line ≡ got e rest → numbers next ≡ past (numbers n) (values_add e (numbers n))
+  pub adds : (e : Event) (rest : List ℕ) → line_of line ≡ got e rest → Adds before after b n (values_add e (numbers n)) next
+  pub is : (e : Event) (rest : List ℕ) → line_of line ≡ got e rest → ValuesAre e (numbers n) r
 
 -- ---- numbers that are words
 
@@ -175,9 +144,9 @@ pub record QuadSmall (p q r s : ℕ) : Type 0 where
   pub three : r ≤ 4294967295
   pub four : s ≤ 4294967295
 
-pub record ValuesSmall (r : Four) (count : ℕ) : Type 0 where
-  pub four : FourSmall r
-  pub list : r.next.list ≤ 4294967295
+pub record ValuesSmall (r : Values) (lists count : ℕ) : Type 0 where
+  pub four : AllSmall r
+  pub list : lists ≤ 4294967295
   pub many : count ≤ 4294967295
 
 -- ---- names and values, then entities
@@ -201,41 +170,41 @@ pub record PieceDue (piece : Event → Next-as_Trace → Tables) (line : List �
   pub ready : MarkReady file marks b n (piece what (numbers n))
   pub cells : length line ≤ 4 * length names
 
-pub record FrontIs (e : Event) (k : Next-as_Trace) (r : Front) : Type 0 where
-  pub spaces : r.spaces ≡ length e.namespace
-  pub four : FourIs e (past k (names_add e k)) r.four
+pub record FrontIs (e : Event) (k : Next-as_Trace) (spaces : ℕ) (r : Values) : Type 0 where
+  pub many : spaces ≡ length e.namespace
+  pub four : ValuesAre e (past k (names_add e k)) r
 
-pub record FrontSmall (n : Next) (r : Front) : Type 0 where
-  pub names : NamesSmall n r.spaces
-  pub four : FourSmall r.four
+pub record FrontSmall (n : Next) (spaces : ℕ) (r : Values) : Type 0 where
+  pub names : NamesSmall n spaces
+  pub four : AllSmall r
 
-pub record FrontWritten (line names names' before after marks marks' : List ℕ) (b : Bodies) (n : Next) (r : Front) : Type 0 where
+pub record FrontWritten (line names names' before after marks marks' : List ℕ) (b : Bodies) (n next : Next) (spaces : ℕ) (r : Values) : Type 0 where
   pub long : length names' ≡ length names
-  pub small : FrontSmall n r
-  pub numbers-are : (e : Event) (rest : List ℕ) → line_of line ≡ got e rest → numbers r.four.next ≡ past (numbers n) (front_add e (numbers n))
-  pub adds : (e : Event) (rest : List ℕ) → line_of line ≡ got e rest → MarkAdds before after marks marks' b n (front_add e (numbers n)) r.four.next
-  pub is : (e : Event) (rest : List ℕ) → line_of line ≡ got e rest → FrontIs e (numbers n) r
+  pub small : FrontSmall n spaces r
+  pub numbers-are : (e : Event) (rest : List ℕ) → line_of line ≡ got e rest → numbers next ≡ past (numbers n) (front_add e (numbers n))
+  pub adds : (e : Event) (rest : List ℕ) → line_of line ≡ got e rest → MarkAdds before after marks marks' b n (front_add e (numbers n)) next
+  pub is : (e : Event) (rest : List ℕ) → line_of line ≡ got e rest → FrontIs e (numbers n) spaces r
 
-pub record LastWritten (line names names' before after marks marks' : List ℕ) (b : Bodies) (n : Next) (r : Several) : Type 0 where
+pub record LastWritten (line names names' before after marks marks' : List ℕ) (b : Bodies) (n next : Next) (count : ℕ) : Type 0 where
   pub long : length names' ≡ length names
   pub list : n.list ≤ 4294967295
-  pub small : r.count ≤ 4294967295
-  pub adds : (e : Event) (rest : List ℕ) → line_of line ≡ got e rest → MarkAdds before after marks marks' b n (last_add e (numbers n)) r.next
-  pub count-is : (e : Event) (rest : List ℕ) → line_of line ≡ got e rest → r.count ≡ length e.entities
+  pub small : count ≤ 4294967295
+  pub adds : (e : Event) (rest : List ℕ) → line_of line ≡ got e rest → MarkAdds before after marks marks' b n (last_add e (numbers n)) next
+  pub count-is : (e : Event) (rest : List ℕ) → line_of line ≡ got e rest → count ≡ length e.entities
 
 pub record BodyIs (e : Event) (k : Next-as_Trace) (r : Body) : Type 0 where
-  pub front : FrontIs e k r.front
-  pub list : r.front.four.next.list ≡ (past k (front_add e k)).list
-  pub count : r.several.count ≡ length e.entities
+  pub front : FrontIs e k r.spaces r.values
+  pub list : r.list ≡ (past k (front_add e k)).list
+  pub count : r.count ≡ length e.entities
 
 pub record BodySmall (n : Next) (r : Body) : Type 0 where
-  pub names : NamesSmall n r.front.spaces
-  pub values : ValuesSmall r.front.four r.several.count
+  pub names : NamesSmall n r.spaces
+  pub values : ValuesSmall r.values r.list r.count
 
-pub record BodyWritten (line names names' before after marks marks' : List ℕ) (b : Bodies) (n : Next) (r : Body) : Type 0 where
+pub record BodyWritten (line names names' before after marks marks' : List ℕ) (b : Bodies) (n next : Next) (r : Body) : Type 0 where
   pub long : length names' ≡ length names
   pub small : BodySmall n r
-  pub adds : (e : Event) (rest : List ℕ) → line_of line ≡ got e rest → MarkAdds before after marks marks' b n (body_add e (numbers n)) r.several.next
+  pub adds : (e : Event) (rest : List ℕ) → line_of line ≡ got e rest → MarkAdds before after marks marks' b n (body_add e (numbers n)) next
   pub is : (e : Event) (rest : List ℕ) → line_of line ≡ got e rest → BodyIs e (numbers n) r
 
 -- ---- the point's record
@@ -244,23 +213,23 @@ pub record BodyWritten (line names names' before after marks marks' : List ℕ) 
 unfoldable pub name_words : ℕ → Next → ℕ → List ℕ
 name_words time n spaces = time % 4294967296 ∷ time / 4294967296 ∷ n.list ∷ spaces ∷ (n.string + spaces) ∷ (n.string + spaces + 1) ∷ []
 
-unfoldable pub value_words : Four → ℕ → List ℕ
-value_words r count = r.logged ∷ r.context ∷ r.principal ∷ r.resource ∷ r.next.list ∷ count ∷ []
+unfoldable pub value_words : Values → ℕ → ℕ → List ℕ
+value_words r list count = r.logged ∷ r.context ∷ r.principal ∷ r.resource ∷ list ∷ count ∷ []
 
 unfoldable pub point_words : ℕ → Next → Body → List ℕ
-point_words time n r = name_words time n r.front.spaces ++ value_words r.front.four r.several.count
+point_words time n r = name_words time n r.spaces ++ value_words r.values r.list r.count
 
 -- one point more
 unfoldable pub with_point : Next → Next
 with_point n = record { string = n.string; byte = n.byte; value = n.value; member = n.member; list = n.list; point = n.point + 1 }
 
-pub record PointRoom (out : List ℕ) (b : Bodies) (n : Next) (r : Body) : Type 0 where
-  pub fits : b.points + 48 * r.several.next.point + 48 ≤ length out
+pub record PointRoom (out : List ℕ) (b : Bodies) (next n : Next) (r : Body) : Type 0 where
+  pub fits : b.points + 48 * next.point + 48 ≤ length out
   pub small : BodySmall n r
 
-pub record PointPut (before after : List ℕ) (b : Bodies) (time : ℕ) (n : Next) (r : Body) (last : Next) : Type 0 where
-  pub is : Writing before after (b.points + 48 * r.several.next.point) (packed (point_words time n r))
-  pub next : last ≡ with_point r.several.next
+pub record PointPut (before after : List ℕ) (b : Bodies) (next : Next) (time : ℕ) (n : Next) (r : Body) (last : Next) : Type 0 where
+  pub is : Writing before after (b.points + 48 * next.point) (packed (point_words time n r))
+  pub more : last ≡ with_point next
 
 -- the words of an event's point
 unfoldable pub words_of : Event → Next-as_Trace → List ℕ

@@ -67,7 +67,7 @@ pub put_members-overflow_add-first : goal.put_members-overflow_add-first
 put_members-overflow_add-first t c = search (part-fits, rules)
 
 pub put_members-put_part-requires : goal.put_members-put_part-requires
-put_members-put_part-requires t c = search (part_room, rules)
+put_members-put_part-requires t c = part_room c.loop-i.invariant (search rules) c.put_name-begin.ensures c.write_value.ensures (search rules) (search rules)
 
 pub put_members-loop-i-preserved : goal.put_members-loop-i-preserved
 put_members-loop-i-preserved t c = search (part-again, rules)

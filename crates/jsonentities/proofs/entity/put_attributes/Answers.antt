@@ -2,11 +2,11 @@ use Rattle.std.proofs.Common.{rules}
 use Rattle.jsonentities.proofs.Holding.{attributes-due, attributes-some, attributes-room, attributes-wrote}
 use Rattle.jsonentities.proofs.entity.put_attributes.Goals as goal
 
-pub write_object-w-requires : goal.write_object-w-requires
-write_object-w-requires c = search (attributes-due, rules)
+pub write_object-requires : goal.write_object-requires
+write_object-requires c = search (attributes-due, rules)
 
-pub overflow_sub-w : goal.overflow_sub-w
-overflow_sub-w c = search (attributes-some, rules)
+pub overflow_sub-value : goal.overflow_sub-value
+overflow_sub-value c = search (attributes-some, rules)
 
 pub put_list-requires : goal.put_list-requires
 put_list-requires c = search (attributes-room, rules)

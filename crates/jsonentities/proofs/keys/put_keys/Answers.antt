@@ -5,8 +5,8 @@ use Rattle.jsonentities.proofs.keys.put_keys.Goals as goal
 pub skip_blanks-requires : goal.skip_blanks-requires
 skip_blanks-requires c = search (keys-past, rules)
 
-pub put_signed-kind-requires : goal.put_signed-kind-requires
-put_signed-kind-requires c = search (type-due, rules)
+pub put_signed-id-requires : goal.put_signed-id-requires
+put_signed-id-requires c = search (type-due, rules)
 
 pub put_signed-requires : goal.put_signed-requires
 put_signed-requires c = search (id-due, rules)

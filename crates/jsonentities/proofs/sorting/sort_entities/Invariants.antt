@@ -1,10 +1,9 @@
-use Prim.Native.Nat.{◌-◌}
-use lib.ListN.{length}
-use Rattle.jsonentities.proofs.Keeping.{Sorting}
+use Rattle.jsonruns.proofs.Signs.{ahead}
+use Rattle.jsonentities.proofs.Keeping.{Collecting}
 use Rattle.jsonentities.proofs.sorting.sort_entities.Given as goal
 
-abbrev pub invariant-loop-next : goal.invariant-loop-next
-invariant-loop-next l = Sorting l.line l.at l.initial.names l.names l.count l.i
+abbrev pub invariant-loop-part : goal.invariant-loop-part
+invariant-loop-part l = Collecting l.line l.at l.initial.names l.names l.count l.part
 
-abbrev pub decreases-loop-next : goal.decreases-loop-next
-decreases-loop-next l = length l.line - l.i
+abbrev pub decreases-loop-part : goal.decreases-loop-part
+decreases-loop-part l = ahead l.line l.part

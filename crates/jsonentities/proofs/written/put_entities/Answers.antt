@@ -5,8 +5,8 @@ use Rattle.jsonentities.proofs.written.put_entities.Goals as goal
 pub sort_entities-count-requires : goal.sort_entities-count-requires
 sort_entities-count-requires c = search (entities_sort, rules)
 
-pub put_sorted-next-requires : goal.put_sorted-next-requires
-put_sorted-next-requires c = search (entities-sorted, rules)
+pub put_sorted-requires : goal.put_sorted-requires
+put_sorted-requires c = search (entities-sorted, rules)
 
 pub returns : goal.returns
 returns c = search (entities-wrote, rules)

@@ -1,5 +1,5 @@
 use Rattle.std.proofs.Common.{rules}
-use Rattle.jsonentities.proofs.Entering.{enter-start, entity-due, enter-cell, enter-more, enter-again, enter-names, enter-out, enter-marks, enter-end}
+use Rattle.jsonentities.proofs.Entering.{enter-start, entity-due, enter-cell, enter-again, enter-names, enter-out, enter-marks, enter-end}
 use Rattle.jsonentities.proofs.written.put_sorted.Goals as goal
 
 pub loop-i-init : goal.loop-i-init
@@ -8,11 +8,8 @@ loop-i-init c = search (enter-start, rules)
 pub bounds-names-i : goal.bounds-names-i
 bounds-names-i c = search (enter-cell, rules)
 
-pub put_entity-next-requires : goal.put_entity-next-requires
-put_entity-next-requires c = search (entity-due, rules)
-
-pub overflow_add-i : goal.overflow_add-i
-overflow_add-i c = search (enter-more, rules)
+pub put_entity-requires : goal.put_entity-requires
+put_entity-requires c = search (entity-due, rules)
 
 pub loop-i-preserved : goal.loop-i-preserved
 loop-i-preserved c = search (enter-again, rules)

@@ -15,8 +15,8 @@ slice_bounds-put_line-start c = search (end-from, rules)
 pub slice_bounds-put_line-end : goal.slice_bounds-put_line-end
 slice_bounds-put_line-end c = search (end-within, rules)
 
-pub put_line-next-requires : goal.put_line-next-requires
-put_line-next-requires c = search (log-line, rules)
+pub put_line-requires : goal.put_line-requires
+put_line-requires c = search (log-line, rules)
 
 pub overflow_add-at : goal.overflow_add-at
 overflow_add-at c = search (log-fit, rules)

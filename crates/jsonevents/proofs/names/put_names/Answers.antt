@@ -5,8 +5,8 @@ use Rattle.jsonevents.proofs.names.put_names.Goals as goal
 pub overflow_add-f : goal.overflow_add-f
 overflow_add-f c = search (names-fit, rules)
 
-pub put_spaces-next-requires : goal.put_spaces-next-requires
-put_spaces-next-requires c = record { at_nonzero = search rules; mark_due = search (names-spaces, rules) }
+pub put_spaces-requires : goal.put_spaces-requires
+put_spaces-requires c = search (names-spaces, rules)
 
 pub put_two-requires : goal.put_two-requires
 put_two-requires c = search (names-two, rules)

@@ -7,6 +7,7 @@ use Prim.Native.Nat.{ℕ, zero, suc, ◌+◌, ◌-◌, ◌<◌, ◌≤◌}
 use native.Mathlib.Omega.{arith}
 use lib.Dec.{eqb}
 use lib.ListN.{length, drop, get_or, set, length-set, length-drop}
+use Rattle.std.proofs.Common.{Option as Maybe, Some, None}
 use Rattle.jsontext.specs.declared.Fault.TheVariants.{BadField}
 use Rattle.jsontext.specs.Reading.{got, blanks, want}
 use Rattle.jsontext.specs.Numbers.{number}
@@ -15,9 +16,8 @@ use Rattle.jsontext.specs.Events.{Event, Field, Time, Namespace, Action, Kind, L
 use Rattle.jsonread.specs.Told.{Blanks}
 use Rattle.jsonread.proofs.Places.{byte_at}
 use Rattle.jsonread.proofs.Spelling.{never}
-use Rattle.jsonruns.specs.declared.Part.{Part as Position}
-use Rattle.jsonruns.specs.declared.Part.TheVariants.{Next, Closed}
-use Rattle.jsonruns.specs.Good.{Good, Signed, PartTold}
+use Rattle.jsonruns.specs.Good.{Good, Signed, Closes, BeginTold, PartTold}
+use Rattle.jsonruns.proofs.Signs.{ahead, ahead-less}
 use Rattle.jsonruns.specs.Run.{Run}
 use Rattle.jsonruns.proofs.Runs.{then_of, due_of, wanted, same-got, object-listed, Turn, turn}
 use Rattle.jsoncount.specs.Sizes.{entity_read}
@@ -116,6 +116,12 @@ pub record Placing (line : List ℕ) (at i : ℕ) (places : List ℕ) : Type 0 w
   pub long : length places ≡ 9
   pub kept : (k : ℕ) → SlotKept line (get_or places k 0) k all left
 
+-- a member stands at the part, or the bracket closes and all are placed
+pub record PlacingAt (line : List ℕ) (at : ℕ) (part : Maybe ℕ) (places : List ℕ) : Type 0 where
+  pub next : (i : ℕ) → part ≡ Some i → Placing line at i places
+  pub nine : length places ≡ 9
+  pub told : part ≡ None → EventTold line at (fields_from places)
+
 zeros : (k : ℕ) → ◌≡◌ {A = ℕ} (get_or (0 ∷ 0 ∷ 0 ∷ 0 ∷ 0 ∷ 0 ∷ 0 ∷ 0 ∷ 0 ∷ []) k 0) 0
 zeros zero = refl
 zeros (suc zero) = refl
@@ -132,7 +138,7 @@ no-event : {e : Event} → whole (found []) ≡ some e → ⊥
 unfolding whole found have
 no-event q = let x : ◌≡◌ {A = ℕ} 0 1 = cc in omega arith
 
-pub place-start : {line : List ℕ} {at i : ℕ} → Good line at (event_of (drop at line)) → Blanks line at i → Placing line at i (0 ∷ 0 ∷ 0 ∷ 0 ∷ 0 ∷ 0 ∷ 0 ∷ 0 ∷ 0 ∷ [])
+place-start : {line : List ℕ} {at i : ℕ} → Good line at (event_of (drop at line)) → Blanks line at i → Placing line at i (0 ∷ 0 ∷ 0 ∷ 0 ∷ 0 ∷ 0 ∷ 0 ∷ 0 ∷ 0 ∷ [])
 unfolding event_of
 place-start {line} {at} {i} g b =
     let o = then_of (object (is_field field_readers) (field_by field_readers) (drop at line)) g.is in
@@ -156,7 +162,36 @@ place-start {line} {at} {i} g b =
     go all true q n f = absurd (no-event (sym (ap (λ (ms : List (List ℕ × Field)). whole (found ms)) (n q)) ∙ f))
     go all false q n f = q
 
-module _ {line : List ℕ} {at i : ℕ} {places : List ℕ} (g : Placing line at i places) where
+module _ {line : List ℕ} {at : ℕ} (g : Good line at (event_of (drop at line))) where
+  pub place-signed : Signed line at
+  unfolding event_of
+  place-signed =
+      let o = then_of (object (is_field field_readers) (field_by field_readers) (drop at line)) g.is in
+      let l = object-listed (is_field field_readers) (field_by field_readers) (drop at line) o.is in
+      record { within = g.within; sign = l.first; rest = l.others; is = l.byte }
+
+  -- an event has members
+  place-some : Closes line at 125 → ⊥
+  unfolding event_of
+  place-some c =
+      let o = then_of (object (is_field field_readers) (field_by field_readers) (drop at line)) g.is in
+      let l = object-listed (is_field field_readers) (field_by field_readers) (drop at line) o.is in
+      let m : whole (found o.what) ≡ some g.what = complete_of (whole (found o.what)) o.left o.next in
+      let y = sym l.byte ∙ c.is in
+      let n : o.what ≡ [] = l.none (eq-eqb l.first 125 cc) in
+      no-event (sym (ap (λ (ms : List (List ℕ × Field)). whole (found ms)) n) ∙ m)
+
+  pub place-begun : {x : Maybe ℕ} → BeginTold line at 125 x → PlacingAt line at x (0 ∷ 0 ∷ 0 ∷ 0 ∷ 0 ∷ 0 ∷ 0 ∷ 0 ∷ 0 ∷ [])
+  place-begun b = record {
+    next = λ i z. let c = b.next i z in place-start g (record { from = c.from; within = c.within; is = c.is });
+    nine = refl;
+    told = λ z. absurd (place-some (b.closed z));
+  }
+
+module _ {line : List ℕ} {at i : ℕ} {places : List ℕ} {y : Maybe ℕ} (start : PlacingAt line at y places) (z₀ : y ≡ Some i) where
+  abbrev g : Placing line at i places
+  g = start.next i z₀
+
   now : Turn 125 EntryOf (drop i line) g.left g.rest
   now = turn 125 EntryOf g.run
 
@@ -180,17 +215,16 @@ module _ {line : List ℕ} {at i : ℕ} {places : List ℕ} (g : Placing line at
           (keep_all {all = g.all} {others = others} t entry places g.long
           (λ n. subst (λ (ms : List (List ℕ × Field)). SlotKept line (get_or places n 0) n g.all ms) z (g.kept n)) k)
 
-      module _ {x : Position} (b : PartTold line r.end 125 x) where
-        pub place-closed : {f : Fields} {k : ℕ} → x ≡ Closed k → f ≡ fields_from (set places r.field p) → EventTold line at f
-        place-closed {f} {k} y z =
-            let c = b.closed k y in
-            let same = sym sign-here ∙ c.is in
+      module _ {x : Maybe ℕ} (b : PartTold line r.end 125 x) where
+        place-closed : {f : Fields} → x ≡ None → f ≡ fields_from (set places r.field p) → EventTold line at f
+        place-closed {f} u z =
+            let same = sym sign-here ∙ (b.closed u).is in
             let last : now.sign ≡ 125 = cc in
             record { is = λ v rest h. subst (λ (u : Event). FieldsStand line f u) (same-got g.is h) (rw z (fields-stand (set places r.field p) g.made (kept-now (now.alone last)))) }
 
-        pub place-again : {j : ℕ} → x ≡ Next j → Placing line at j (set places r.field p)
-        place-again {j} y =
-            let c = b.next j y in
+        place-next : {j : ℕ} → x ≡ Some j → Placing line at j (set places r.field p)
+        place-next {j} u =
+            let c = b.next j u in
             let o = now.next (c.other now.sign now.others sign-here) in
             record {
               what = g.what;
@@ -206,8 +240,17 @@ module _ {line : List ℕ} {at i : ℕ} {places : List ℕ} (g : Placing line at
               kept = kept-now o.all-is;
             }
 
-        pub place-less : {j : ℕ} → x ≡ Next j → length line - j < length line - i
-        place-less {j} y = let c = b.next j y in omega (arith, t.far, t.from, c.from, c.within)
+        pub place-again : PlacingAt line at x (set places r.field p)
+        place-again = record { next = λ j u. place-next u; nine = length-set places r.field p ∙ g.long; told = λ u. place-closed u refl }
+
+        pub place-less : ahead line x < ahead line y
+        place-less = ahead-less line z₀ b (omega (arith, t.far, t.from))
+
+pub place-told : {line places : List ℕ} {at : ℕ} {x : Maybe ℕ} {f : Fields} → PlacingAt line at x places → x ≡ None → f ≡ fields_from places → EventTold line at f
+place-told g z e = rw e (g.told z)
+
+pub place-nine : {line places : List ℕ} {at : ℕ} {x : Maybe ℕ} → PlacingAt line at x places → length places ≡ 9
+place-nine g = g.nine
 
 -- ---- a line
 

@@ -10,10 +10,7 @@ use jsonends::value_end;
 fn levels_of(field: usize) -> u32
     ensures { result ≡ levels_of field }
 {
-    if field < 8 {
-        return 32;
-    }
-    34
+    if field < 8 { 32 } else { 34 }
 }
 
 // after a field's value

@@ -10,7 +10,7 @@ use super::ends::field_end;
 use jsonentry::Fields;
 use jsonlines::fields::field_of;
 use jsonread::bytes::skip_blanks;
-use jsonruns::{Part, after_sign, part_after, string_end};
+use jsonruns::{after_sign, first_part, part_after, string_end};
 
 // a member of an event: which field it is, where its value begins, and where it ends
 #[derive(Clone, Copy)]
@@ -25,9 +25,10 @@ fn first_place(old: usize, new: usize) -> usize
     ensures { result ≡ first_place old new }
 {
     if old == 0 {
-        return new;
+        new
+    } else {
+        old
     }
-    old
 }
 
 // the places of the nine fields, each under its name
@@ -67,18 +68,13 @@ fn event_fields(line: &[u8], at: usize) -> Fields
     ensures { EventTold line.now at result }
 {
     let mut places = [0; 9];
-    let mut i = skip_blanks(line, at);
-    loop {
+    let mut part = first_part(line, at, b'}');
+    while let Some(i) = part {
         let m = entry_of(line, i);
-        let field = m.field;
-        places[field] = first_place(places[field], m.value);
-        match part_after(line, m.end, 125) {
-            Part::Closed(_) => return fields_from(places),
-            Part::Next(next) => {
-                i = next;
-            }
-        }
+        places[m.field] = first_place(places[m.field], m.value);
+        part = part_after(line, m.end, b'}');
     }
+    fields_from(places)
 }
 
 // the fields of a line
@@ -86,6 +82,5 @@ pub fn fields_of(line: &[u8]) -> Fields
     requires { Good line.now 0 (line_of line.now) }
     ensures { FieldsTold line.now result }
 {
-    let brace = skip_blanks(line, 0);
-    event_fields(line, brace + 1)
+    event_fields(line, skip_blanks(line, 0) + 1)
 }

@@ -90,9 +90,6 @@ whole_is : (es : List Event) → tables_of es ≡ all_add es (numbers unwritten)
 unfolding tables_of
 whole_is es = ap (λ (k : Next-as_Trace). all_add es k) (sym first-numbers)
 
-begun : record { string = 0; byte = 0; value = 0; member = 0; list = 0; point = 0 } ≡ unwritten
-unfolding unwritten
-begun = refl
 
 module _ {text names file marks : List ℕ} {b : Bodies} (d : LogDue text names file marks b) where
   starts : Logging text names names file file marks marks b unwritten 0

@@ -5,5 +5,5 @@ use Rattle.jsonfields.proofs.ends.levels_of.Goals as goal
 pub returns-then-field-lt8 : goal.returns-then-field-lt8
 returns-then-field-lt8 c = search (levels-few, rules)
 
-pub returns : goal.returns
-returns c = search (levels-more, rules)
+pub returns-else-field-lt8 : goal.returns-else-field-lt8
+returns-else-field-lt8 c = search (levels-more, rules)

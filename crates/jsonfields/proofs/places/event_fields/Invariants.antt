@@ -1,10 +1,9 @@
-use Prim.Native.Nat.{◌-◌}
-use lib.ListN.{length}
-use Rattle.jsonfields.proofs.Events.{Placing}
+use Rattle.jsonruns.proofs.Signs.{ahead}
+use Rattle.jsonfields.proofs.Events.{PlacingAt}
 use Rattle.jsonfields.proofs.places.event_fields.Given as goal
 
-abbrev pub invariant-loop-places : goal.invariant-loop-places
-invariant-loop-places l = Placing l.line l.at l.i l.places
+abbrev pub invariant-loop-part : goal.invariant-loop-part
+invariant-loop-part l = PlacingAt l.line l.at l.part l.places
 
-abbrev pub decreases-loop-places : goal.decreases-loop-places
-decreases-loop-places l = length l.line - l.i
+abbrev pub decreases-loop-part : goal.decreases-loop-part
+decreases-loop-part l = ahead l.line l.part

@@ -8,23 +8,18 @@ use lib.ListN.{length, drop, get_or, length-append}
 use mir.Val.{Fits}
 use mir.Syntax.{w32}
 use Rattle.encode.specs.Encode.{flat}
-use Rattle.jsontext.specs.declared.Fault.{Fault}
-use Rattle.jsontext.specs.declared.Step.{Step}
-use Rattle.jsontext.specs.declared.Step.TheVariants.{At, Bad}
 use Rattle.jsontext.specs.Reading.{got, mapped, blanks}
 use Rattle.jsontext.specs.Strings.{string}
 use Rattle.jsontext.specs.Values.{J, Text}
 use Rattle.jsontrace.specs.Order.{ordered}
 use Rattle.jsontrace.specs.Trace.{Tables, ◌⊕◌, texts, value as value·Trace, Next as Next-as_Trace, value_adds}
 use Rattle.jsontrace.proofs.Laws.Trace.{shaped-texts, shaped-value}
-use Rattle.jsonread.specs.Told.{Told}
-use Rattle.jsonread.proofs.Spelling.{never}
 use Rattle.jsonroom.specs.declared.Bodies.{Bodies}
 use Rattle.jsonroom.specs.declared.Next.{Next}
 use Rattle.jsonroom.specs.Put.{ValuePut, StringRoom, StringPut}
 use Rattle.jsonparts.specs.Flat.{scalar}
 use Rattle.jsonruns.specs.declared.Two.{Two}
-use Rattle.jsonruns.specs.Good.{Good, Signed, Past}
+use Rattle.jsonruns.specs.Good.{Good, Ends, Signed, Past}
 use Rattle.jsonruns.specs.Forms.{form_read, form_of, TwoIs, TwoTold}
 use Rattle.jsoncount.proofs.Flat.{flat-below, text-is}
 use Rattle.jsonview.specs.Room.{Ready, Adds, numbers}
@@ -227,7 +222,7 @@ module _ (x : Bool) {line : List ℕ} {at : ℕ} {file : List ℕ} {b : Bodies} 
 -- ---- a value that holds no other
 
 module _ {line : List ℕ} {at : ℕ} {file : List ℕ} {b : Bodies} {n : Next} (d : Due line at (scalar (drop at line)) file b n value_tables) where
-  flat_good : Good line at (scalar (drop at line))
+  pub flat_good : Good line at (scalar (drop at line))
   flat_good = record { what = d.what; rest = d.rest; within = d.within; is = d.is }
 
   pub flat-here : at < length line
@@ -248,16 +243,10 @@ module _ {line : List ℕ} {at : ℕ} {file : List ℕ} {b : Bodies} {n : Next} 
     unfolding value·Trace
     flat-room = omega (arith, ready-values (subst (λ (u : Tables). Ready file b n u) (t.is d.what d.rest (numbers n) d.is) d.ready))
 
-    module _ {x : Step} (p : Told line at x (scalar (drop at line))) where
-      pub flat-wrote : {e : ℕ} {last : List ℕ} {k : Next} → x ≡ At e → ValuePut file last b n f.kind f.x f.y k → WroteTo line at (scalar (drop at line)) file last b n value_tables k e
-      flat-wrote {e} {last} {k} z v =
-          let s = p.stands e z in
-          record {
-            from = s.from;
-            within = s.within;
-            is = λ what rest g. let y = s.is in cc;
-            adds = λ what rest g. subst (λ (u : Tables). Adds file last b n u k) (sym (t.is what rest (numbers n) g)) (value-adds f.kind f.x f.y v);
-          }
-
-  pub flat-never : {x : Step} {w : Fault} {p q e : ℕ} {last : List ℕ} {k : Next} → Told line at x (scalar (drop at line)) → x ≡ Bad w p q → WroteTo line at (scalar (drop at line)) file last b n value_tables k e
-  flat-never t z = absurd (never (sym (t.faulty _ _ _ z).is ∙ d.is))
+    pub flat-wrote : {e : ℕ} {last : List ℕ} {k : Next} → Ends line at e (scalar (drop at line)) → ValuePut file last b n f.kind f.x f.y k → WroteTo line at (scalar (drop at line)) file last b n value_tables k e
+    flat-wrote {e} {last} {k} s v = record {
+      from = s.from;
+      within = s.within;
+      is = s.is;
+      adds = λ what rest g. subst (λ (u : Tables). Adds file last b n u k) (sym (t.is what rest (numbers n) g)) (value-adds f.kind f.x f.y v);
+    }

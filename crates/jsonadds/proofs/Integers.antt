@@ -16,8 +16,8 @@ use Rattle.jsontext.specs.Reading.{got, fault}
 use Rattle.jsontext.specs.Numbers.{int, frac, exp, fits, signed, integer, parts, magnitude, number}
 use Rattle.jsonread.specs.Told.{cap, WholeTold}
 use Rattle.jsonread.specs.declared.integers.Digits.{Digits}
-use Rattle.jsonread.specs.declared.integers.Whole.{Whole}
-use Rattle.jsonread.specs.declared.integers.Whole.TheVariants.{Counted, NoDigit}
+use Rattle.std.specs.Prelude.{Result, Ok, Err}
+use Rattle.jsontext.specs.declared.Bad.{Bad}
 use Rattle.jsonread.proofs.Places.{byte_at}
 use Rattle.jsonread.proofs.Spelling.{never}
 use Rattle.jsonruns.specs.Good.{Good}
@@ -116,9 +116,9 @@ module _ {line : List ℕ} {at : ℕ} (g : Good line at (number (drop at line)))
           t.is i.m i.left i.is ∙ capped i.m i.small ∙ sym (plain-bits i.m) ∙ ap (of_z w64) (sym i.z-is);
     }
 
-module _ {line : List ℕ} {at : ℕ} {w : Whole} (t : WholeTold line at w) where
-  pub magnitude-told : {d : Digits} → w ≡ Counted d → MagnitudeTold line at d.value
+module _ {line : List ℕ} {at : ℕ} {w : Result Digits Bad} (t : WholeTold line at w) where
+  pub magnitude-told : {d : Digits} → w ≡ Ok d → MagnitudeTold line at d.value
   magnitude-told {d} e = record { is = λ m rest f. let i = t.counted d e in i.value ∙ ap cap (same-got i.is f) }
 
-  pub magnitude-none : {p r : ℕ} → w ≡ NoDigit p → MagnitudeTold line at r
-  magnitude-none {p} e = record { is = λ m rest f. absurd (never (sym (t.missing p e).is ∙ f)) }
+  pub magnitude-none : {p : Bad} {r : ℕ} → w ≡ Err p → MagnitudeTold line at r
+  magnitude-none {p} e = record { is = λ m rest f. absurd (never (sym (t.missing p e).faulty.is ∙ f)) }

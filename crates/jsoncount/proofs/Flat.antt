@@ -9,20 +9,16 @@ use lib.ListN.{length, drop, get_or, length-drop}
 use borrow.Author.Tests.{eq-eqb, ne_eqb}
 use Rattle.meaning.specs.Tests.{choose}
 use Rattle.laws.specs.Tests.{yes, no as otherwise}
-use Rattle.jsontext.specs.declared.Fault.{Fault}
 use Rattle.jsontext.specs.declared.Fault.TheVariants.{NotJson}
-use Rattle.jsontext.specs.declared.Step.{Step}
-use Rattle.jsontext.specs.declared.Step.TheVariants.{At, Bad}
 use Rattle.jsontext.specs.Reading.{got, no, mapped, want}
 use Rattle.jsontext.specs.Numbers.{number}
 use Rattle.jsontext.specs.Strings.{string}
 use Rattle.jsontext.specs.Values.{J, Null, Truth, Int, Text, numeral, spelt}
-use Rattle.jsonread.specs.Told.{Told}
 use Rattle.jsonread.proofs.Places.{byte_at}
 use Rattle.jsonread.proofs.Spelling.{never, came}
 use Rattle.jsonparts.specs.Flat.{scalar}
 use Rattle.jsontrace.specs.Count.{a_string, a_value, counted}
-use Rattle.jsonruns.specs.Good.{Good}
+use Rattle.jsonruns.specs.Good.{Good, Ends}
 use Rattle.jsonruns.proofs.Runs.{then_of}
 use Rattle.jsoncount.specs.declared.tallies.Tally.{Tally}
 use Rattle.jsoncount.specs.Tally.{Adds, CountedTo}
@@ -69,16 +65,10 @@ module _ {line : List ℕ} {at : ℕ} (g : Good line at (scalar (drop at line)))
     unfolding counted
     text-counted p l = counted-from Text text-is (omega arith) (λ a. refl) (counted-more p l)
 
-  module _ (n : get_or line at 0 ≡ 34 → ⊥) {x : Step} (p : Told line at x (scalar (drop at line))) where
-    pub flat-counted : {e : ℕ} {t v : Tally} → x ≡ At e → Adds t a_value v → CountedTo line at t v e (scalar (drop at line)) counted
-    flat-counted {e} q l =
-        let k = p.stands e q in
-        record {
-          from = k.from;
-          within = k.within;
-          is = λ what rest f. let z = k.is in cc;
-          adds = λ what rest f. adds-as (flat-counts (drop (at + 1) line) (get_or line at 0) n (sym (ap scalar (byte_at line at flat-below)) ∙ f)) l;
-        }
-
-    pub flat_good : {w : Fault} {a b e : ℕ} {t v : Tally} → x ≡ Bad w a b → CountedTo line at t v e (scalar (drop at line)) counted
-    flat_good q = absurd (never (sym (p.faulty _ _ _ q).is ∙ g.is))
+  pub flat-counted : (get_or line at 0 ≡ 34 → ⊥) → {e : ℕ} {t v : Tally} → Ends line at e (scalar (drop at line)) → Adds t a_value v → CountedTo line at t v e (scalar (drop at line)) counted
+  flat-counted n p l = record {
+    from = p.from;
+    within = p.within;
+    is = p.is;
+    adds = λ what rest f. adds-as (flat-counts (drop (at + 1) line) (get_or line at 0) n (sym (ap scalar (byte_at line at flat-below)) ∙ f)) l;
+  }

@@ -7,7 +7,6 @@ ghost use Rattle.jsoncount.specs.Tally.{CountedTo};
 
 use super::tallies::Tally;
 use jsonparts::scalars::scalar_at;
-use jsontext::Step;
 
 // a string, a number or a word
 pub fn count_scalar(line: &[u8], at: usize, tally: &mut Tally) -> usize
@@ -20,8 +19,5 @@ pub fn count_scalar(line: &[u8], at: usize, tally: &mut Tally) -> usize
         return end;
     }
     tally.add_value();
-    match scalar_at(line, at) {
-        Step::Bad(_, _, _) => at,
-        Step::At(end) => end,
-    }
+    scalar_at(line, at).unwrap_or(at)
 }

@@ -10,19 +10,13 @@ use borrow.Author.Tests.{ne_eqb}
 use Rattle.std.proofs.Common.{◌⊎◌, inl, inr}
 use Rattle.meaning.specs.Tests.{◌or◌, choose}
 use Rattle.laws.specs.Tests.{yes, no as otherwise}
-use Rattle.jsontext.specs.declared.Fault.{Fault}
-use Rattle.jsontext.specs.declared.Step.{Step}
-use Rattle.jsontext.specs.declared.Step.TheVariants.{At, Bad}
 use Rattle.jsontext.specs.Reading.{got}
 use Rattle.jsontext.specs.Strings.{string}
 use Rattle.jsontext.specs.Values.{J, value}
-use Rattle.jsonread.specs.Told.{Told}
 use Rattle.jsonread.proofs.Places.{byte_at}
-use Rattle.jsonread.proofs.Spelling.{never}
 use Rattle.jsonread.proofs.Takes.{string-takes}
 use Rattle.jsonparts.specs.Flat.{scalar}
 use Rattle.jsonruns.specs.Good.{Good, Ends}
-use Rattle.jsonruns.proofs.Runs.{same_rest}
 use Rattle.jsonends.specs.Nest.{opens, closes, stepped, Nest, Opened, Shut}
 use Rattle.jsonends.proofs.Nests.{Said, value_there, value-text, value-closes, value-scalar, nest-there, nest-byte, nest-quote, nest-done}
 
@@ -132,14 +126,6 @@ module _ {line : List ℕ} {at depth i : ℕ} (g : Nesting line at depth i) wher
           go {left} n =
               let q = nest-quote (get_or line i 0) h m (here n) in
               subst (λ (s : List ℕ). Nest left depth s) (p.is q.text q.after (ap string (byte_at line i nest-below) ∙ q.is)) q.nest
-
--- ---- a value that holds no other
-
-pub scalar-end : {line : List ℕ} {at e : ℕ} {r : Step} → Told line at r (scalar (drop at line)) → r ≡ At e → Ends line at e (scalar (drop at line))
-scalar-end t q = let s = t.stands _ q in record { from = s.from; within = s.within; is = λ what rest f. same_rest f s.is }
-
-pub scalar-good : {line : List ℕ} {at p q : ℕ} {w : Fault} {r : Step} → Good line at (scalar (drop at line)) → Told line at r (scalar (drop at line)) → r ≡ Bad w p q → Ends line at at (scalar (drop at line))
-scalar-good g t q = absurd (never (sym (t.faulty _ _ _ q).is ∙ g.is))
 
 -- ---- a value
 

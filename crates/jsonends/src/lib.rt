@@ -10,7 +10,6 @@ ghost use Rattle.jsonends.specs.Nest.{stepped, Opened, Shut};
 
 use jsonparts::scalars::scalar_at;
 use jsonruns::string_end;
-use jsontext::Step;
 
 // how many brackets are open after a byte outside strings
 fn depth_after(c: u8, depth: usize) -> usize
@@ -50,10 +49,7 @@ fn scalar_end(line: &[u8], at: usize) -> usize
     requires { Good line.now at (scalar (drop at line.now)) }
     ensures { Ends line.now at result (scalar (drop at line.now)) }
 {
-    match scalar_at(line, at) {
-        Step::Bad(_, _, _) => at,
-        Step::At(end) => end,
-    }
+    scalar_at(line, at).unwrap_or(at)
 }
 
 // after a value

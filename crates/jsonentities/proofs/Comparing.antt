@@ -11,8 +11,8 @@ use Rattle.jsontext.specs.Reading.{got, blanks}
 use Rattle.jsontext.specs.Strings.{string}
 use Rattle.jsontext.specs.Events.{Item}
 use Rattle.jsontrace.specs.Order.{item_before}
-use Rattle.jsonread.specs.declared.names.Order.{Order}
-use Rattle.jsonread.specs.declared.names.Order.TheVariants.{Less, Same, More}
+use Rattle.std.specs.declared.cmp.Ordering.{Ordering}
+use Rattle.std.specs.declared.cmp.Ordering.TheVariants.{Less, Equal, Greater}
 use Rattle.jsonread.specs.Spelling.{order_of, OrderTold}
 use Rattle.jsonread.specs.Told.{Blanks}
 use Rattle.jsonruns.specs.Good.{Good, Ends, Signed, Past}
@@ -65,17 +65,17 @@ module _ {line : List ℕ} {y x : ℕ} {a b : Pair} (p : PairTold line y a) (q :
   keys-b : {i : Item} → Stands line x i → Keys line b i
   keys-b {i} s = q.is i s.rest s.is
 
-  module _ {o : Order} (t : OrderTold line a.kind b.kind o) where
+  module _ {o : Ordering} (t : OrderTold line a.kind b.kind o) where
     types : {i j : Item} → Stands line y i → Stands line x j → o ≡ order_of i.type j.type
     types {i} {j} s u = t i.type j.type (keys-a s).after-type (keys-b u).after-type (keys-a s).type-is (keys-b u).type-is
 
     pub type-less : o ≡ Less → BeforeTold line y x true
     type-less e = record { is = λ i j s u. sym (before-type i j (less-before i.type j.type (sym (types s u) ∙ e))) }
 
-    pub type-more : o ≡ More → BeforeTold line y x false
+    pub type-more : o ≡ Greater → BeforeTold line y x false
     type-more e = record { is = λ i j s u. sym (behind-type i j (less-before j.type i.type (order_flip i.type j.type (sym (types s u) ∙ e)))) }
 
-    module _ (e : o ≡ Same) {r : Order} (v : OrderTold line a.id b.id r) where
+    module _ (e : o ≡ Equal) {r : Ordering} (v : OrderTold line a.id b.id r) where
       same-type : {i j : Item} → Stands line y i → Stands line x j → i.type ≡ j.type
       same-type {i} {j} s u = order-equal i.type j.type (sym (types s u) ∙ e)
 
@@ -85,10 +85,10 @@ module _ {line : List ℕ} {y x : ℕ} {a b : Pair} (p : PairTold line y a) (q :
       pub id-less : r ≡ Less → BeforeTold line y x true
       id-less f = record { is = λ i j s u. sym (before-id i j (same-type s u) (less-before i.id j.id (sym (ids s u) ∙ f))) }
 
-      pub id_same : r ≡ Same → BeforeTold line y x false
+      pub id_same : r ≡ Equal → BeforeTold line y x false
       id_same f = record { is = λ i j s u. sym (behind-equal i j (same-type s u) (order-equal i.id j.id (sym (ids s u) ∙ f))) }
 
-      pub id-more : r ≡ More → BeforeTold line y x false
+      pub id-more : r ≡ Greater → BeforeTold line y x false
       id-more f = record { is = λ i j s u. sym (behind-id i j (same-type s u) (less-before j.id i.id (order_flip i.id j.id (sym (ids s u) ∙ f)))) }
 
 -- ---- halving

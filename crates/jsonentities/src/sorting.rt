@@ -9,8 +9,9 @@ use jsoncount::entities::count_entity;
 use jsoncount::tallies::Tally;
 use jsonnames::insert;
 use jsonread::bytes::skip_blanks;
-use jsonread::names::{Order, compare};
+use jsonread::names::compare;
 use jsonruns::{after_sign, first_part, part_after, string_end};
+use std::cmp::Ordering;
 
 // an entity's type and id, at their quotation marks
 #[derive(Clone, Copy)]
@@ -40,12 +41,12 @@ fn is_before(line: &[u8], y: usize, x: usize) -> bool
     let a = pair_of(line, y);
     let b = pair_of(line, x);
     match compare(line, a.kind, b.kind) {
-        Order::Less => true,
-        Order::More => false,
-        Order::Same => match compare(line, a.id, b.id) {
-            Order::Less => true,
-            Order::Same => false,
-            Order::More => false,
+        Ordering::Less => true,
+        Ordering::Greater => false,
+        Ordering::Equal => match compare(line, a.id, b.id) {
+            Ordering::Less => true,
+            Ordering::Equal => false,
+            Ordering::Greater => false,
         },
     }
 }
@@ -58,6 +59,7 @@ fn cell_of(line: &[u8], names: &[u64], end: usize, at: usize) -> usize
 {
     let mut low = 0;
     let mut high = end;
+    // a while: two bounds draw together
     while low < high {
         let middle = low + (high - low) / 2;
         let other = names[middle] as usize;

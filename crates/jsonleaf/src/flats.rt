@@ -15,10 +15,9 @@ ghost use Rattle.jsonadds.specs.Place.{Due, WroteTo, MemberRoom, HeldRoom, value
 use joining::narrow;
 use jsonadds::Flat;
 use jsonparts::scalars::scalar_at;
-use jsonread::integers::{Whole, int_at};
+use jsonread::integers::int_at;
 use jsonroom::{Bodies, Next, put_member, put_string, put_value};
 use jsonruns::{after_sign, two_of};
-use jsontext::Step;
 
 // a string, as one more of its table, and where it ends
 pub fn put_text(line: &[u8], at: usize, out: &mut [u8], b: Bodies, next: &mut Next) -> usize
@@ -93,8 +92,8 @@ fn magnitude_of(line: &[u8], at: usize) -> u64
     ensures { MagnitudeTold line.now at result }
 {
     match int_at(line, at) {
-        Whole::NoDigit(_) => 0,
-        Whole::Counted(d) => d.value,
+        Ok(digits) => digits.value,
+        Err(_) => 0,
     }
 }
 
@@ -174,8 +173,5 @@ pub fn write_scalar(line: &[u8], at: usize, out: &mut [u8], b: Bodies, next: &mu
     }
     let f = flat_of(line, at);
     put_value(out, b, next, f.kind, f.x, f.y);
-    match scalar_at(line, at) {
-        Step::Bad(_, _, _) => at,
-        Step::At(end) => end,
-    }
+    scalar_at(line, at).unwrap_or(at)
 }

@@ -5,10 +5,14 @@ use Prim.Native.Nat.{ℕ, suc, ◌+◌, ◌-◌, ◌<◌, ◌≤◌}
 use native.Mathlib.Omega.{arith}
 use lib.ListN.{length, drop, get_or, length-drop}
 use Rattle.std.proofs.Common.{Option, Some, None}
-use Rattle.jsontext.specs.Reading.{blanks}
-use Rattle.jsonread.specs.Told.{Blanks}
+use Rattle.std.specs.Prelude.{Result, Ok, Err}
+use Rattle.std.specs.Result.{result_unwrap_or}
+use Rattle.jsontext.specs.declared.Bad.{Bad}
+use Rattle.jsontext.specs.Reading.{Read, blanks}
+use Rattle.jsonread.specs.Told.{Told, Blanks}
+use Rattle.jsonread.proofs.Spelling.{never}
 use Rattle.jsonread.proofs.Places.{byte_at}
-use Rattle.jsonruns.specs.Good.{Signed, Past, Behind, Closes, BeginAt, NextAt, BeginTold, PartTold}
+use Rattle.jsonruns.specs.Good.{Good, Ends, Signed, Past, Behind, Closes, BeginAt, NextAt, BeginTold, PartTold}
 
 -- the byte that stands after blanks, and what is left behind it
 pub sign_below : {line : List ℕ} {at i c : ℕ} {rest : List ℕ} → Blanks line at i → blanks (drop at line) ≡ c ∷ rest → i < length line
@@ -85,3 +89,9 @@ pub ahead-less : (line : List ℕ) {close i e : ℕ} {x y : Option ℕ} → y �
 unfolding ahead
 ahead-less line {x = None} z b h = rw z (omega arith)
 ahead-less line {i = i} {x = Some j} z b h = let c = b.next j refl in rw z (omega (arith, c.from, c.within))
+
+-- ---- where a good part ends, told by its reader
+
+pub good-end : {A : Type 0} {line : List ℕ} {at e : ℕ} {x : Result ℕ Bad} {m : Read A} → Good line at m → Told line at x m → e ≡ result_unwrap_or x at → Ends line at e m
+good-end {at = at} {x = Ok k} g t q = let s = t.stands k refl in rw q (record { from = s.from; within = s.within; is = λ what rest f. let z = s.is in cc })
+good-end {at = at} {x = Err b} g t q = absurd (never (sym (t.faulty b refl).is ∙ g.is))

@@ -11,8 +11,8 @@ use Rattle.meaning.specs.Tests.{◌and◌, ◌or◌, choose}
 use Rattle.meaning.specs.Text.{before}
 use Rattle.jsontext.specs.Values.{J, Parts, end, part}
 use Rattle.jsontrace.specs.Order.{insert_part}
-use Rattle.jsonread.specs.declared.names.Order.{Order}
-use Rattle.jsonread.specs.declared.names.Order.TheVariants.{Less, Same, More}
+use Rattle.std.specs.declared.cmp.Ordering.{Ordering}
+use Rattle.std.specs.declared.cmp.Ordering.TheVariants.{Less, Equal, Greater}
 use Rattle.jsonread.specs.Spelling.{order_of}
 use Rattle.jsonnames.specs.Sorted.{Spells, Rises, Lacks}
 use Rattle.jsonnames.specs.Merges.{Merged}
@@ -23,7 +23,7 @@ use Rattle.jsonsort.specs.Order.{false-true, not-both, From, new, old, among_ins
 
 -- ---- one order
 
-other : {A : Type 0} {o : Order} → o ≡ Less → (o ≡ Same → A) × (o ≡ More → A)
+other : {A : Type 0} {o : Ordering} → o ≡ Less → (o ≡ Equal → A) × (o ≡ Greater → A)
 other {A} {o} e = (λ f. absurd (let z : ◌≡◌ {A = ℕ} 0 1 = cc in omega arith), λ f. absurd (let z : ◌≡◌ {A = ℕ} 0 1 = cc in omega arith))
 
 pub less-before : (s t : List ℕ) → order_of s t ≡ Less → before s t ≡ true
@@ -34,7 +34,7 @@ less-before (a ∷ s) [] e = (other e).1 refl
 less-before (a ∷ s) (b ∷ t) e =
     go (less-before s t) (ltb a b) (ltb b a) refl refl e
   where
-    go : (order_of s t ≡ Less → before s t ≡ true) → (x y : Bool) → ltb a b ≡ x → ltb b a ≡ y → choose x Less (choose y More (order_of s t)) ≡ Less → (x or (eqb a b and before s t)) ≡ true
+    go : (order_of s t ≡ Less → before s t ≡ true) → (x y : Bool) → ltb a b ≡ x → ltb b a ≡ y → choose x Less (choose y Greater (order_of s t)) ≡ Less → (x or (eqb a b and before s t)) ≡ true
     go r true y p q f = refl
     go r false true p q f = (other f).1 refl
     go r false false p q f =

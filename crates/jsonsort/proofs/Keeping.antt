@@ -3,8 +3,7 @@ use mathlib.Core.Path.{◌≡◌, refl, sym, subst}
 use mathlib.Core.List.{List}
 use Prim.Native.Nat.{ℕ}
 use native.Mathlib.Omega.{arith}
-use Rattle.jsonnames.specs.declared.runs.Known.{Known}
-use Rattle.jsonnames.specs.declared.runs.Known.TheVariants.{There, New}
+use Rattle.std.specs.Prelude.{Option, Some, None}
 use Rattle.jsonnames.specs.Sorted.{Spells, edge}
 use Rattle.jsonnames.specs.Runs.{PutDue, Grown, Stored}
 use Rattle.jsonsort.specs.Sort.{KeepDue}
@@ -13,11 +12,9 @@ module _ {line names : List ℕ} {first stop at : ℕ} (d : KeepDue line names f
   pub keep-due : PutDue line names first (edge first stop) stop at
   keep-due = record { sorted = d.sorted; last-is = refl; room = d.room; named = d.named; lacks = λ n s k f h u. d.lacks n s k f (omega arith) u }
 
-  module _ {after : List ℕ} {y : Known} (s : Stored line names after first stop at y) where
-    pub keep-there : {p : ℕ} → y ≡ There p → Grown line names after first stop at
-    keep-there e =
-        let h = s.there _ e d.named.name d.named.spells in
-        absurd (d.lacks d.named.name d.named.spells h.cell h.from h.below (subst (λ (q : ℕ). Spells line q d.named.name) (sym h.is) h.spells))
-
-    pub keep-new : y ≡ New → Grown line names after first stop at
-    keep-new e = s.new e
+  -- a name that stands already is not put
+  pub keep-grown : {after : List ℕ} {y : Option ℕ} → Stored line names after first stop at y → Grown line names after first stop at
+  keep-grown {y = None} s = s.new refl
+  keep-grown {y = Some p} s =
+      let h = s.there p refl d.named.name d.named.spells in
+      absurd (d.lacks d.named.name d.named.spells h.cell h.from h.below (subst (λ (q : ℕ). Spells line q d.named.name) (sym h.is) h.spells))

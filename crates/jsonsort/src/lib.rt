@@ -5,15 +5,12 @@
 ghost use Rattle.jsonnames.specs.Runs.{Grown};
 ghost use Rattle.jsonsort.specs.Sort.{KeepDue};
 
-use jsonnames::runs::{Known, put_last};
+use jsonnames::runs::put_last;
 
 // a name that is not among them yet, put into the last run
 pub fn keep(line: &[u8], names: &mut [u64], first: usize, end: usize, at: usize)
     requires { KeepDue line.now names.old first end at }
     ensures { Grown line.now names.old names.new first end at }
 {
-    match put_last(line, names, first, end - (end - first) % 16, end, at) {
-        Known::There(_) => {}
-        Known::New => {}
-    }
+    put_last(line, names, first, end - (end - first) % 16, end, at);
 }

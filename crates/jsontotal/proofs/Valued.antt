@@ -5,18 +5,13 @@ use Prim.Native.Nat.{ℕ, ◌+◌, ◌<◌}
 use native.Mathlib.Omega.{arith}
 use lib.Dec.{eqb}
 use lib.ListN.{length, drop, length-drop}
-use Rattle.jsontext.specs.declared.Fault.{Fault}
 use Rattle.jsontext.specs.declared.Fault.TheVariants.{BadField}
-use Rattle.jsontext.specs.declared.Step.{Step}
-use Rattle.jsontext.specs.declared.Step.TheVariants.{At, Bad}
 use Rattle.jsontext.specs.Reading.{Read, got, then, want}
 use Rattle.jsontext.specs.Numbers.{number}
 use Rattle.jsontext.specs.Strings.{string}
 use Rattle.jsontext.specs.Values.{numeral, due, text, array, value, fields}
 use Rattle.jsontext.specs.Events.{Time, Namespace, Action, Kind, Logged, Context, Principal, Resource, Entities, listed}
-use Rattle.jsonread.specs.Told.{Told}
 use Rattle.jsonread.proofs.Places.{byte_at}
-use Rattle.jsonread.proofs.Spelling.{never}
 use Rattle.jsontrace.specs.Count.{Count, a_string, counted, counted_entities}
 use Rattle.jsonlines.specs.Entities.{entity_of}
 use Rattle.jsonlines.specs.Fields.{reader_at}
@@ -31,15 +26,6 @@ use Rattle.jsoncount.proofs.Looping.{good-from, counted-from}
 use Rattle.jsontotal.specs.Fields.{time_size, field_size}
 
 -- ---- a time
-
-module _ {line : List ℕ} {at : ℕ} (g : Good line at (due BadField numeral number (drop at line))) {x : Step} (p : Told line at x (due BadField numeral number (drop at line))) where
-  pub time-read : {e : ℕ} → x ≡ At e → Ends line at e (due BadField numeral number (drop at line))
-  time-read {e} q =
-      let k = p.stands e q in
-      record { from = k.from; within = k.within; is = λ what rest f. let z = k.is in cc }
-
-  pub time-good : {w : Fault} {a b e : ℕ} → x ≡ Bad w a b → Ends line at e (due BadField numeral number (drop at line))
-  time-good q = absurd (never (sym (p.faulty _ _ _ q).is ∙ g.is))
 
 none-counted : {line : List ℕ} {at e : ℕ} {t : Tally} → Ends line at e (due BadField numeral number (drop at line)) → CountedTo line at t t e (due BadField numeral number (drop at line)) time_size
 unfolding time_size

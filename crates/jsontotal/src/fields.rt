@@ -14,17 +14,14 @@ use jsoncount::values::count_value;
 use jsonlines::fields::field_of;
 use jsonread::begins::time_at;
 use jsonruns::{after_sign, first_part, part_after, sign_end, string_end};
-use jsontext::{Fault, Step};
+use jsontext::Fault;
 
 // a time adds nothing
 fn time_end(line: &[u8], at: usize) -> usize
     requires { Good line.now at (due Fault.BadField numeral number (drop at line.now)) }
     ensures { Ends line.now at result (due Fault.BadField numeral number (drop at line.now)) }
 {
-    match time_at(line, at) {
-        Step::Bad(_, _, _) => at,
-        Step::At(end) => end,
-    }
+    time_at(line, at).unwrap_or(at)
 }
 
 // the value of a field, by its place in a point's record

@@ -13,14 +13,12 @@ use Rattle.meaning.specs.Tests.{◌and◌, choose}
 use Rattle.meaning.specs.Calls.{cleared}
 use Rattle.laws.specs.Tests.{pass, stop, yes, no}
 use Rattle.encode.specs.Write.{over}
-use Rattle.jsontext.specs.declared.Fault.{Fault}
-use Rattle.jsontext.specs.declared.Step.{Step}
-use Rattle.jsontext.specs.declared.Step.TheVariants.{At, Bad}
+use Rattle.std.specs.Prelude.{Result, Ok, Err}
+use Rattle.jsontext.specs.declared.Bad.{Bad}
 use Rattle.jsontext.specs.Events.{Event, events, log}
-use Rattle.jsontrace.specs.declared.Imported.{Imported}
-use Rattle.jsontrace.specs.declared.Imported.TheVariants.{Written, Faulty, Refused}
+use Rattle.jsontrace.specs.declared.ImportError.TheVariants.{Faulty, Refused}
 use Rattle.jsontrace.specs.Trace.{trace, trace_marks}
-use Rattle.jsontrace.specs.Import.{cells_for, given_events, given_log, imported, workspace_after, events_of, filled_if, ImportResult, import_call}
+use Rattle.jsontrace.specs.Import.{Imported, cells_for, given_events, given_log, imported, workspace_after, events_of, filled_if, ImportResult, import_call}
 use Rattle.jsontrace.proofs.Laws.Trace.{trace-long, marks-long}
 use Rattle.jsonroom.specs.declared.Bodies.{Bodies}
 use Rattle.jsoncount.specs.declared.tallies.Tally.{Tally}
@@ -51,7 +49,7 @@ module _ {text : List ℕ} {c : Tally} {b : Bodies} (n : LogCounted text c) (l :
   }
 
   module _ {names file marks : List ℕ} where
-    pub good-large : 4294967295 < b.end → GoodTold text names names file file marks marks (Refused TooLarge)
+    pub good-large : 4294967295 < b.end → GoodTold text names names file file marks marks (Err (Refused TooLarge))
     unfolding given_events filled_if
     good-large h = record {
       long = refl;
@@ -62,7 +60,7 @@ module _ {text : List ℕ} {c : Tally} {b : Bodies} (n : LogCounted text c) (l :
       };
     }
 
-    pub good-short : b.end ≤ 4294967295 → length file < b.end → GoodTold text names names file file marks marks (Refused OutputTooShort)
+    pub good-short : b.end ≤ 4294967295 → length file < b.end → GoodTold text names names file file marks marks (Err (Refused OutputTooShort))
     unfolding given_events filled_if
     good-short h k = record {
       long = refl;
@@ -73,7 +71,7 @@ module _ {text : List ℕ} {c : Tally} {b : Bodies} (n : LogCounted text c) (l :
       };
     }
 
-    pub good-unmarked : b.end ≤ 4294967295 → b.end ≤ length file → length marks < c.lists → GoodTold text names names file file marks marks (Refused OutputTooShort)
+    pub good-unmarked : b.end ≤ 4294967295 → b.end ≤ length file → length marks < c.lists → GoodTold text names names file file marks marks (Err (Refused OutputTooShort))
     unfolding given_events filled_if
     good-unmarked h k m = record {
       long = refl;
@@ -89,7 +87,7 @@ module _ {text : List ℕ} {c : Tally} {b : Bodies} (n : LogCounted text c) (l :
             rw (le-leb (length (trace es)) (length file) (omega (arith, trace-end h es q)))
             (unfold ◌and◌ in lt-leb (length (trace_marks es)) (length marks) (omega (arith, marks-end h es q)))
 
-    pub good-written : {names' part marks' : List ℕ} → TraceWritten text names names' part marks marks' → b.end ≤ 4294967295 → b.end ≤ length file → c.lists ≤ length marks → GoodTold text names names' file (part ++ drop b.end file) marks marks' (Written b.end c.lists)
+    pub good-written : {names' part marks' : List ℕ} → TraceWritten text names names' part marks marks' → b.end ≤ 4294967295 → b.end ≤ length file → c.lists ≤ length marks → GoodTold text names names' file (part ++ drop b.end file) marks marks' (Ok (b.end, c.lists))
     unfolding given_events filled_if over
     good-written {part = part} t h k m = record {
       long = t.long;
@@ -100,20 +98,20 @@ module _ {text : List ℕ} {c : Tally} {b : Bodies} (n : LogCounted text c) (l :
       };
     }
       where
-        sizes : (es : List Event) → log text ≡ events es → Written b.end c.lists ≡ Written (length (trace es)) (length (trace_marks es))
+        sizes : (es : List Event) → log text ≡ events es → ◌≡◌ {A = Imported} (Ok (b.end, c.lists)) (Ok (length (trace es), length (trace_marks es)))
         sizes es q = rw (trace-end h es q, marks-end h es q) refl
 
 -- ---- any text
 
-module _ {text names names' : List ℕ} {step : Step} (t : LogTold text names names' step) where
-  pub read-faulty : {file marks : List ℕ} {w : Fault} {p q : ℕ} → step ≡ Bad w p q → ReadTold text names names' file file marks marks (Faulty w p q)
+module _ {text names names' : List ℕ} {step : Result ℕ Bad} (t : LogTold text names names' step) where
+  pub read-faulty : {file marks : List ℕ} {bad : Bad} → step ≡ Err bad → ReadTold text names names' file file marks marks (Err (Faulty bad))
   unfolding given_log filled_if
-  read-faulty {w = w} {p} {q} e = record { long = t.long; said = rw (t.wrong w p q e) refl; trace = refl; marked = refl }
+  read-faulty {bad = bad} e = record { long = t.long; said = rw (t.wrong bad e) refl; trace = refl; marked = refl }
 
-  pub read_is : {e : ℕ} → step ≡ At e → LogIs text
+  pub read_is : {e : ℕ} → step ≡ Ok e → LogIs text
   read_is {e} q = t.good e q
 
-  pub read-good : {names'' file file' marks marks' : List ℕ} {e : ℕ} {r : Imported} → step ≡ At e → GoodTold text names' names'' file file' marks marks' r → ReadTold text names names'' file file' marks marks' r
+  pub read-good : {names'' file file' marks marks' : List ℕ} {e : ℕ} {r : Imported} → step ≡ Ok e → GoodTold text names' names'' file file' marks marks' r → ReadTold text names names'' file file' marks marks' r
   unfolding given_log events_of
   read-good {e = e} q g =
       let w = t.good e q in
@@ -129,7 +127,7 @@ module _ (text workspace : List ℕ) {n : ℕ} (e : n ≡ (length text + 3) / 4)
   pub import_cells_lem : n ≤ length workspace → length text ≤ 4 * length (take n workspace)
   import_cells_lem h = omega (arith, length-take-le n workspace h)
 
-  pub import_limited : {file marks : List ℕ} → length workspace < n → Imports text workspace workspace file file marks marks (Refused BadLimits)
+  pub import_limited : {file marks : List ℕ} → length workspace < n → Imports text workspace workspace file file marks marks (Err (Refused BadLimits))
   unfolding import_call imported workspace_after cells_for filled_if
   import_limited h = record { is = rw (lt-leb ((length text + 3) / 4) (length workspace) (omega arith)) (unfold choose filled_if in refl) }
 

@@ -2,10 +2,9 @@
 use Rattle.std.specs.Prelude.{◌≡◌, List, ℕ, ◌*◌, ◌≤◌, length}
 use Rattle.encode.specs.Write.{over}
 use Rattle.jsontext.specs.Events.{Event, events, log}
-use Rattle.jsontrace.specs.declared.Imported.{Imported}
 use Rattle.jsontrace.specs.Trace.{trace as trace_of, trace_marks}
 use Rattle.jsontrace.specs.Count.{counted_events}
-use Rattle.jsontrace.specs.Import.{given_events, given_log, events_of, filled_if, import_call}
+use Rattle.jsontrace.specs.Import.{Imported, given_events, given_log, events_of, filled_if, import_call}
 use Rattle.jsonroom.specs.declared.Bodies.{Bodies}
 use Rattle.jsonwrite.specs.Bodies.{Laid}
 

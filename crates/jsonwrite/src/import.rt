@@ -9,11 +9,13 @@ use jsoncount::tallies::Tally;
 use jsonevents::log::put_log;
 use jsonlines::events::log_at;
 use jsonroom::{Bodies, put_contents};
-use jsontext::Step;
 use jsontotal::lines::count_log;
-use jsontrace::Imported;
+use jsontrace::ImportError;
 use meaning::Refusal;
 use workspace::clear;
+
+// the most bytes that a file has: its places are words
+const LONGEST: usize = u32::MAX as usize;
 
 // where the bodies of so many records begin, one after another past the contents
 fn bodies_of(c: Tally) -> Bodies
@@ -46,7 +48,12 @@ fn put_trace(text: &[u8], names: &mut [u64], file: &mut [u8], marks: &mut [u8], 
 }
 
 // a good text: 2 where no file can hold its trace, 14 where what is lent does not, else its trace and marks
-fn write_good(text: &[u8], names: &mut [u64], file: &mut [u8], marks: &mut [u8]) -> Imported
+fn write_good(
+    text: &[u8],
+    names: &mut [u64],
+    file: &mut [u8],
+    marks: &mut [u8],
+) -> Result<(usize, usize), ImportError>
     requires log_is { LogIs text.now }
     requires text_len_bound { length text.now ≤ 4 * length names.old }
     ensures { GoodTold text.now names.old names.new file.old file.new marks.old marks.new result }
@@ -54,37 +61,47 @@ fn write_good(text: &[u8], names: &mut [u64], file: &mut [u8], marks: &mut [u8])
     let c = count_log(text);
     let b = bodies_of(c);
     let total = b.end;
-    if 4294967295 < total {
-        return Imported::Refused(Refusal::TooLarge);
+    if LONGEST < total {
+        return Err(ImportError::Refused(Refusal::TooLarge));
     }
     if file.len() < total {
-        return Imported::Refused(Refusal::OutputTooShort);
+        return Err(ImportError::Refused(Refusal::OutputTooShort));
     }
     if marks.len() < c.lists {
-        return Imported::Refused(Refusal::OutputTooShort);
+        return Err(ImportError::Refused(Refusal::OutputTooShort));
     }
     put_trace(text, names, &mut file[..total], marks, b);
-    Imported::Written(total, c.lists)
+    Ok((total, c.lists))
 }
 
 // any text, with enough cells for its names: its first fault, or what a good text gives
-fn read_text(text: &[u8], names: &mut [u64], file: &mut [u8], marks: &mut [u8]) -> Imported
+fn read_text(
+    text: &[u8],
+    names: &mut [u64],
+    file: &mut [u8],
+    marks: &mut [u8],
+) -> Result<(usize, usize), ImportError>
     requires { length text.now ≤ 4 * length names.old }
     ensures { ReadTold text.now names.old names.new file.old file.new marks.old marks.new result }
 {
     match log_at(text, names) {
-        Step::Bad(w, p, q) => Imported::Faulty(w, p, q),
-        Step::At(_) => write_good(text, names, file, marks),
+        Ok(_) => write_good(text, names, file, marks),
+        Err(bad) => Err(ImportError::Faulty(bad)),
     }
 }
 
 // a text's trace and marks, with a workspace for the names of open objects: 10 first, and then nothing is touched; after all else the cells for names are 0
-pub fn import(text: &[u8], workspace: &mut [u64], file: &mut [u8], marks: &mut [u8]) -> Imported
+pub fn import(
+    text: &[u8],
+    workspace: &mut [u64],
+    file: &mut [u8],
+    marks: &mut [u8],
+) -> Result<(usize, usize), ImportError>
     ensures { Imports text.now workspace.old workspace.new file.old file.new marks.old marks.new result }
 {
     let n = cells_for(text.len());
     if workspace.len() < n {
-        return Imported::Refused(Refusal::BadLimits);
+        return Err(ImportError::Refused(Refusal::BadLimits));
     }
     let r = read_text(text, &mut workspace[..n], file, marks);
     clear(workspace, n);

@@ -1,5 +1,6 @@
 use Rattle.std.proofs.Common.{rules}
-use Rattle.jsoncount.proofs.Flat.{flat-below, text-good, text-counted, flat_good, flat-counted}
+use Rattle.jsoncount.proofs.Flat.{flat-below, text-good, text-counted, flat-counted}
+use Rattle.jsonruns.proofs.Signs.{good-end}
 use Rattle.jsoncount.proofs.scalars.count_scalar.Goals as goal
 
 pub bounds-line-at : goal.bounds-line-at
@@ -11,8 +12,5 @@ add_string-end-requires c = search (text-good, rules)
 pub returns-then-line-at-eq34 : goal.returns-then-line-at-eq34
 returns-then-line-at-eq34 c = search (text-counted, rules)
 
-pub returns-in-Bad : goal.returns-in-Bad
-returns-in-Bad c = search (flat_good, rules)
-
-pub returns-in-At : goal.returns-in-At
-returns-in-At c = search (flat-counted, rules)
+pub returns : goal.returns
+returns c = search (flat-counted, good-end, rules)

@@ -5,14 +5,14 @@ use Rattle.jsonentities.proofs.sorting.is_before.Goals as goal
 pub returns-in-Less : goal.returns-in-Less
 returns-in-Less c = search (type-less, rules)
 
-pub returns-in-More : goal.returns-in-More
-returns-in-More c = search (type-more, rules)
+pub returns-in-Greater : goal.returns-in-Greater
+returns-in-Greater c = search (type-more, rules)
 
 pub returns-in-Less-compare : goal.returns-in-Less-compare
 returns-in-Less-compare c = search (id-less, rules)
 
-pub returns-in-Same-compare : goal.returns-in-Same-compare
-returns-in-Same-compare c = search (id_same, rules)
+pub returns-in-Equal-compare : goal.returns-in-Equal-compare
+returns-in-Equal-compare c = search (id_same, rules)
 
-pub returns-in-More-compare : goal.returns-in-More-compare
-returns-in-More-compare c = search (id-more, rules)
+pub returns-in-Greater-compare : goal.returns-in-Greater-compare
+returns-in-Greater-compare c = search (id-more, rules)

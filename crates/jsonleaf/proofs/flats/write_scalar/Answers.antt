@@ -1,5 +1,6 @@
 use Rattle.std.proofs.Common.{rules}
-use Rattle.jsonadds.proofs.Flats.{flat-here, flat-text, flat-text-wrote, flat-other, flat-room, flat-never, flat-wrote}
+use Rattle.jsonadds.proofs.Flats.{flat-here, flat-text, flat-text-wrote, flat-other, flat-room, flat_good, flat-wrote}
+use Rattle.jsonruns.proofs.Signs.{good-end}
 use Rattle.jsonleaf.proofs.flats.write_scalar.Goals as goal
 
 pub bounds-line-at : goal.bounds-line-at
@@ -17,8 +18,5 @@ flat_of-f-requires c = search (flat-other, rules)
 pub put_value-requires : goal.put_value-requires
 put_value-requires c = search (flat-room, rules)
 
-pub returns-in-Bad : goal.returns-in-Bad
-returns-in-Bad c = search (flat-never, rules)
-
-pub returns-in-At : goal.returns-in-At
-returns-in-At c = search (flat-wrote, rules)
+pub returns : goal.returns
+returns c = flat-wrote c.requires c.flat_of-f.ensures (good-end (flat_good c.requires) c.scalar_at.ensures (search rules)) c.put_value.ensures

@@ -13,7 +13,7 @@ use Rattle.meaning.specs.declared.Node.{Node}
 use Rattle.meaning.specs.declared.Node.TheVariants.{And, Or, Not, Formerly, Previous, Since, Predicate, Comparison, Exists, Tp, Literal, Context, Scope, Variable, Wildcard, Aggregate, Arithmetic, Sum, Count, Broken}
 use Rattle.meaning.specs.Tests.{◌and◌, all_below}
 use Rattle.meaning.specs.Case.{size, string_word, point_word, list, node_at}
-use Rattle.laws.specs.Tests.{stop, after, and2}
+use Rattle.laws.specs.Tests.{stop, after}
 use Rattle.encode.specs.Unsorted.{marked, in_text}
 use Rattle.encode.specs.Write.{all_marked, none_marked, entity_marks, point_marks, argument_marks, marks_of, node_marks}
 use Rattle.marking.specs.Runs.{word, own_words, word_of, item, item_of}
@@ -30,9 +30,21 @@ other-as marks i n e = rw n (ap not e)
 
 -- ---- entities and arguments
 
-pub own-as : {x y z u q : Bool} (marks : List ℕ) (names : Bool) (i : ℕ) → u ≡ (x and y) → q ≡ (u and z) → x ≡ word marks names i → y ≡ word marks names (i + 1) → z ≡ word marks false (i + 2) → q ≡ own_words marks names i
-unfolding own_words
-own-as marks names i d e a b c = and2 e (and2 d a b) c
+-- a test, and another one where it holds
+pub and-then : {u z a b : Bool} → u ≡ true → u ≡ a → z ≡ b → z ≡ (a and b)
+and-then h e f = f ∙ sym (after (sym e ∙ h))
+
+pub and-else : {u a : Bool} (b : Bool) → u ≡ false → u ≡ a → u ≡ (a and b)
+and-else b h e = h ∙ sym (stop b (sym e ∙ h))
+
+module _ (marks : List ℕ) (names : Bool) (i : ℕ) {u : Bool} (e : u ≡ (word marks names i and word marks names (i + 1))) where
+  pub own-then : {z : Bool} → u ≡ true → z ≡ word marks false (i + 2) → z ≡ own_words marks names i
+  unfolding own_words
+  own-then h f = and-then h e f
+
+  pub own-else : u ≡ false → u ≡ own_words marks names i
+  unfolding own_words
+  own-else h = and-else _ h e
 
 module _ (f marks : List ℕ) (argument : Bool) (i : ℕ) {own : Bool} where
   pub entity-as : not argument ≡ true → own ≡ own_words marks (not argument) i → own ≡ item f marks argument i
@@ -49,18 +61,25 @@ module _ (f marks : List ℕ) (argument : Bool) (i : ℕ) {own : Bool} where
       let z : i + 0 ≡ i = omega arith in
       rw (y, z, rw y at e) refl
 
-  pub argument-stops : not argument ≡ false → own ≡ own_words marks (not argument) i → not own ≡ true → false ≡ item f marks argument i
-  argument-stops n e h = sym (own-argument n e ∙ stop _ (not-true own h))
+  pub argument-stops : not argument ≡ false → own ≡ own_words marks (not argument) i → own ≡ false → own ≡ item f marks argument i
+  argument-stops n e h = h ∙ sym (own-argument n e ∙ stop _ h)
 
-  pub argument-as : {a b : ℕ} {p : Bool} → not argument ≡ false → own ≡ own_words marks (not argument) i → not own ≡ false → a ≡ list f i → b ≡ list f (i + 1) → p ≡ all_below b (word_of marks true a) → p ≡ item f marks argument i
+  pub argument-as : {a b : ℕ} {p : Bool} → not argument ≡ false → own ≡ own_words marks (not argument) i → own ≡ true → a ≡ list f i → b ≡ list f (i + 1) → p ≡ all_below b (word_of marks true a) → p ≡ item f marks argument i
   unfolding word_of word all_marked
-  argument-as n e h la lb ep = ep ∙ rw (la, lb) (sym (own-argument n e ∙ after (not-false own h)))
+  argument-as n e h la lb ep = ep ∙ rw (la, lb) (sym (own-argument n e ∙ after h))
 
 -- ---- points and nodes
 
-pub point-as : {w a b d e : ℕ} {n m q : Bool} (f marks : List ℕ) (p : ℕ) → w ≡ p → a ≡ point_word f w 2 → b ≡ point_word f w 3 → n ≡ all_below b (word_of marks true a) → d ≡ point_word f w 10 → e ≡ point_word f w 11 → m ≡ all_below e (item_of f marks false d) → q ≡ (n and m) → q ≡ point_marks f marks p
+point-as : {w a b d e : ℕ} {n m q : Bool} (f marks : List ℕ) (p : ℕ) → w ≡ p → a ≡ point_word f w 2 → b ≡ point_word f w 3 → n ≡ all_below b (word_of marks true a) → d ≡ point_word f w 10 → e ≡ point_word f w 11 → m ≡ all_below e (item_of f marks false d) → q ≡ (n and m) → q ≡ point_marks f marks p
 unfolding point_marks all_marked word_of word item_of item
 point-as f marks p w ea eb en ed ee em eq = eq ∙ rw (en, em, ea, eb, ed, ee, w) refl
+
+module _ {w a b d e : ℕ} {n : Bool} (f marks : List ℕ) (p : ℕ) (ew : w ≡ p) (ea : a ≡ point_word f w 2) (eb : b ≡ point_word f w 3) (en : n ≡ all_below b (word_of marks true a)) (ed : d ≡ point_word f w 10) (ee : e ≡ point_word f w 11) where
+  pub point-then : {m : Bool} → m ≡ all_below e (item_of f marks false d) → n ≡ true → m ≡ point_marks f marks p
+  point-then em h = point-as f marks p ew ea eb en ed ee em (sym (after h))
+
+  pub point-else : n ≡ false → n ≡ point_marks f marks p
+  point-else h = point-as f marks p ew ea eb en ed ee refl (h ∙ sym (stop _ h))
 
 pub node-as : {node is : Node} {r : Bool} (f marks : List ℕ) (n : ℕ) → node ≡ node_at f n → node ≡ is → r ≡ marks_of f marks is → r ≡ node_marks f marks n
 unfolding node_marks

@@ -13,7 +13,7 @@ ghost use Rattle.marking.specs.Runs.{word, own_words, word_of, item, item_of, It
 use finish::is_marked;
 use meaning::{Node, NodeNo, StrNo};
 use stringcheck::{node_count, point_count, string_count};
-use tables::{both, list_at, node_at, point_word, size_of, string_word, wide};
+use tables::{list_at, node_at, point_word, size_of, string_word, wide};
 
 // ---- runs may overlap and are long, so stretches that pass are known ahead: at every 128th word, how many items from it on
 
@@ -54,8 +54,7 @@ fn longer(passes: bool, items: u32) -> u32
 fn table_end(marks: &[u8]) -> usize
     ensures { result ≡ min (length marks.now) 1048576 }
 {
-    let n = marks.len();
-    if n < 1048576 { n } else { 1048576 }
+    marks.len().min(1048576)
 }
 
 // ---- words
@@ -73,9 +72,7 @@ fn word_table(marks: &[u8], names: bool) -> [u32; 8192]
 {
     let mut table = [0u32; 8192];
     let mut items = 0;
-    let mut i = table_end(marks);
-    while 0 < i {
-        i -= 1;
+    for i in (0..table_end(marks)).rev() {
         items = longer(is_word(marks, names, i), items);
         keep(&mut table, i, items);
     }
@@ -87,6 +84,7 @@ fn word_run(marks: &[u8], table: &[u32; 8192], names: bool, first: u32, items: u
     ensures { ◌≡◌ {A = Bool} result (all_below items (word_of marks.now names first)) }
 {
     let mut i = 0;
+    // a while: what is known to pass is leapt over
     while i < items {
         let at = wide(first) + wide(i);
         let pass = ahead(table, at);
@@ -108,10 +106,7 @@ fn own_words(marks: &[u8], names: bool, i: usize) -> bool
     requires { i ≤ 17179869184 }
     ensures { ◌≡◌ {A = Bool} result (own_words marks.now names i) }
 {
-    both(
-        both(is_word(marks, names, i), is_word(marks, names, i + 1)),
-        is_word(marks, false, i + 2),
-    )
+    is_word(marks, names, i) && is_word(marks, names, i + 1) && is_word(marks, false, i + 2)
 }
 
 // an argument's path names strings
@@ -125,11 +120,7 @@ fn is_item(f: &[u8], marks: &[u8], names: &[u32; 8192], argument: bool, i: usize
     if !argument {
         return own;
     }
-    if !own {
-        return false;
-    }
-    let first = list_at(f, i);
-    word_run(marks, names, true, first, list_at(f, i + 1))
+    own && word_run(marks, names, true, list_at(f, i), list_at(f, i + 1))
 }
 
 fn item_table(f: &[u8], marks: &[u8], names: &[u32; 8192], argument: bool) -> [u32; 8192]
@@ -141,9 +132,7 @@ fn item_table(f: &[u8], marks: &[u8], names: &[u32; 8192], argument: bool) -> [u
     let mut here = 0;
     let mut next = 0;
     let mut last = 0;
-    let mut i = table_end(marks);
-    while 0 < i {
-        i -= 1;
+    for i in (0..table_end(marks)).rev() {
         let items = longer(is_item(f, marks, names, argument, i), last);
         last = next;
         next = here;
@@ -175,6 +164,7 @@ fn item_run(
     ensures { ◌≡◌ {A = Bool} result (all_below items (item_of f.now marks.now argument first)) }
 {
     let mut i = 0;
+    // a while: what is known to pass is leapt over
     while i < items {
         let pass = ahead(table, item_place(first, i));
         if items - i <= pass {
@@ -199,13 +189,11 @@ fn point_marks(f: &[u8], marks: &[u8], names: &[u32; 8192], entities: &[u32; 819
 {
     let at = wide(p);
     let place = point_word(f, at, 2);
-    let namespace = word_run(marks, names, true, place, point_word(f, at, 3));
+    let words = point_word(f, at, 3);
     let first = point_word(f, at, 10);
     let items = point_word(f, at, 11);
-    both(
-        namespace,
-        item_run(f, marks, names, entities, false, first, items),
-    )
+    word_run(marks, names, true, place, words)
+        && item_run(f, marks, names, entities, false, first, items)
 }
 
 pub fn points_marked(f: &[u8], marks: &[u8]) -> bool
@@ -214,13 +202,10 @@ pub fn points_marked(f: &[u8], marks: &[u8]) -> bool
 {
     let names = word_table(marks, true);
     let entities = item_table(f, marks, &names, false);
-    let many = point_count(f);
-    let mut p = 0;
-    while p < many {
+    for p in 0..point_count(f) {
         if !point_marks(f, marks, &names, &entities, p) {
             return false;
         }
-        p += 1;
     }
     true
 }
@@ -240,25 +225,23 @@ fn node_marks(
     requires known_3 { Known (item_of f.now marks.now true) items.now }
     ensures { ◌≡◌ {A = Bool} result (node_marks f.now marks.now n) }
 {
-    let node = node_at(f, NodeNo(n));
-    match node {
+    match node_at(f, NodeNo(n)) {
         Node::Predicate {
             namespace,
             action: _,
             kind: _,
             arguments,
         } => {
-            let place = word_run(marks, names, true, namespace.first, namespace.count);
-            let args = item_run(
-                f,
-                marks,
-                names,
-                items,
-                true,
-                arguments.first,
-                arguments.count,
-            );
-            both(place, args)
+            word_run(marks, names, true, namespace.first, namespace.count)
+                && item_run(
+                    f,
+                    marks,
+                    names,
+                    items,
+                    true,
+                    arguments.first,
+                    arguments.count,
+                )
         }
         Node::Context(path) => word_run(marks, names, true, path.first, path.count),
         Node::Scope(_, path) => word_run(marks, names, true, path.first, path.count),
@@ -281,13 +264,10 @@ pub fn nodes_marked(f: &[u8], marks: &[u8]) -> bool
     let names = word_table(marks, true);
     let others = word_table(marks, false);
     let items = item_table(f, marks, &names, true);
-    let many = node_count(f);
-    let mut n = 0;
-    while n < many {
+    for n in 0..node_count(f) {
         if !node_marks(f, marks, &names, &others, &items, n) {
             return false;
         }
-        n += 1;
     }
     true
 }
@@ -306,13 +286,10 @@ pub fn strings_in_text(s: &[u8]) -> bool
     requires { bodies s.now ≡ true }
     ensures { ◌≡◌ {A = Bool} result (all_below (strings s.now) (in_text s.now)) }
 {
-    let many = string_count(s);
-    let mut k = 0;
-    while k < many {
+    for k in 0..string_count(s) {
         if !in_text(s, k) {
             return false;
         }
-        k += 1;
     }
     true
 }

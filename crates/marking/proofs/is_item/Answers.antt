@@ -5,8 +5,8 @@ use Rattle.marking.proofs.is_item.Goals as goal
 pub returns-then-not-argument : goal.returns-then-not-argument
 returns-then-not-argument c = search (entity-as, rules)
 
-pub returns-then-not-own : goal.returns-then-not-own
-returns-then-not-own c = search (argument-stops, rules)
+pub returns-else-own : goal.returns-else-own
+returns-else-own c = search (argument-stops, rules)
 
-pub returns : goal.returns
-returns c = search (argument-as, rules)
+pub returns-then-own : goal.returns-then-own
+returns-then-own c = search (argument-as, rules)

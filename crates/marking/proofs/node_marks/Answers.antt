@@ -1,13 +1,16 @@
 use Rattle.std.proofs.Common.{rules}
 use Rattle.encode.specs.Write.{all_marked, none_marked, marks_of}
 use Rattle.marking.specs.Runs.{word, word_of, item, item_of}
-use Rattle.marking.proofs.Rules.{node-as, plain-as}
-use Rattle.laws.specs.Tests.{and2}
+use Rattle.marking.proofs.Rules.{and-then, and-else, node-as, plain-as}
 use Rattle.marking.proofs.node_marks.Goals as goal
 
-pub returns-in-Predicate : goal.returns-in-Predicate
+pub returns-then-word_run : goal.returns-then-word_run
 unfolding marks_of all_marked word_of word item_of item
-returns-in-Predicate c = search (and2, node-as, rules)
+returns-then-word_run c = search (and-then, node-as, rules)
+
+pub returns-else-word_run : goal.returns-else-word_run
+unfolding marks_of all_marked word_of word item_of item
+returns-else-word_run c = search (and-else, node-as, rules)
 
 pub returns-in-Context : goal.returns-in-Context
 unfolding marks_of all_marked none_marked word_of word

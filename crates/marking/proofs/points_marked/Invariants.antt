@@ -1,10 +1,6 @@
 use Rattle.laws.specs.Tests.{Passing}
 use Rattle.encode.specs.Write.{point_marks}
-use Prim.Native.Nat.{◌-◌}
 use Rattle.marking.proofs.points_marked.Given as goal
 
 abbrev pub invariant-loop-p : goal.invariant-loop-p
-invariant-loop-p l = Passing (point_marks l.f l.marks) l.many l.p
-
-abbrev pub decreases-loop-p : goal.decreases-loop-p
-decreases-loop-p l = l.many - l.p
+invariant-loop-p l = Passing (point_marks l.f l.marks) l.p-end l.p

@@ -3,6 +3,3 @@ use Rattle.marking.proofs.word_table.Given as goal
 
 abbrev pub invariant-loop-i : goal.invariant-loop-i
 invariant-loop-i l = WordsKnown l.marks l.names l.table l.items l.i
-
-abbrev pub decreases-loop-i : goal.decreases-loop-i
-decreases-loop-i l = l.i

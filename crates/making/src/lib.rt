@@ -15,7 +15,7 @@ use finish::{finish, part_size, text_bytes};
 use joining::join_strings;
 use meaning::Refusal;
 use stringcheck::{check_bodies, list_count, node_count, point_count, value_count, var_count};
-use tables::{both, wide};
+use tables::wide;
 
 // tables, and one mark a list word
 fn has_tables(s: &[u8], marks: &[u8]) -> bool
@@ -43,11 +43,11 @@ fn keeps_mosts(s: &[u8], marks: &[u8], n: usize, size: usize) -> bool
     requires finished_size { FinishedSize s.now marks.now size }
     ensures { ◌≡◌ {A = Bool} result (mosts (finished s.now marks.now)) }
 {
-    let nodes = both(node_count(s) <= 1024, var_count(s) <= 16);
-    let points = both(point_count(s) <= 16384, nodes);
-    let values = both(value_count(s) <= 16384, points);
-    let strings = both(n <= 16384, values);
-    both(size <= 4194304, strings)
+    let nodes = node_count(s) <= 1024 && var_count(s) <= 16;
+    let points = point_count(s) <= 16384 && nodes;
+    let values = value_count(s) <= 16384 && points;
+    let strings = n <= 16384 && values;
+    size <= 4194304 && strings
 }
 
 // with the strings in order

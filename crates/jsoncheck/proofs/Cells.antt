@@ -1,4 +1,5 @@
 -- The cells that a text's names may take, lent and cleared
+use Rattle.std.specs.Prelude.{Result}
 use mathlib.Core.Path.{◌≡◌, ap, ◌∙◌}
 use mathlib.Core.List.{List, ◌++◌}
 use Prim.Native.Nat.{ℕ, ◌+◌, ◌/◌, ◌≤◌}
@@ -6,7 +7,7 @@ use native.Mathlib.Omega.{arith}
 use lib.ListN.{length, take, drop, replicate, length-append, length-drop, length-replicate}
 use lib.Seq.{length-take-le, drop_at}
 use Rattle.meaning.specs.Calls.{cleared}
-use Rattle.jsontext.specs.declared.Step.{Step}
+use Rattle.jsontext.specs.declared.Bad.{Bad}
 use Rattle.jsonkeys.specs.Keys.{Room}
 use Rattle.jsonlines.specs.Events.{LogTold}
 use Rattle.jsoncheck.specs.Checked.{CheckTold}
@@ -21,7 +22,7 @@ module _ (text workspace : List ℕ) {n : ℕ} (e : n ≡ (length text + 3) / 4)
   pub part_room : Room text (take n workspace) 0 0 0
   part_room = omega (arith, part-long)
 
-  pub checked : {part after : List ℕ} {r : Step} → LogTold text (take n workspace) part r → after ≡ cleared n (part ++ drop n workspace) → CheckTold text workspace after r
+  pub checked : {part after : List ℕ} {r : Result ℕ Bad} → LogTold text (take n workspace) part r → after ≡ cleared n (part ++ drop n workspace) → CheckTold text workspace after r
   unfolding cleared
   checked {part} {after} t q =
       let z : after ≡ replicate n 0 ++ drop n workspace = q ∙ ap (λ (l : List ℕ). replicate n 0 ++ l) (drop_at part (drop n workspace) n (t.long ∙ part-long)) in

@@ -1,6 +1,6 @@
 -- UTF-8 byte by byte, letter by letter, and where all bytes are below 128
 use mathlib.Core.Path.{◌≡◌, refl, sym, ◌∙◌, ap}
-use mathlib.Core.Bool.{Bool, true, false, not}
+use mathlib.Core.Bool.{Bool, true, false}
 use mathlib.Core.List.{List, [], ◌∷◌}
 use Prim.Native.Nat.{ℕ, zero, suc, ◌+◌, ◌<◌, ◌≤◌, max}
 use native.Mathlib.Omega.{arith}
@@ -13,7 +13,7 @@ use Rattle.meaning.specs.declared.Due.{Due}
 use Rattle.meaning.specs.declared.Due.TheVariants.{Nothing, One, Two, Three, AfterE0, AfterEd, AfterF0, AfterF4, Wrong}
 use Rattle.meaning.specs.Tests.{◌and◌, choose, within, greatest}
 use Rattle.meaning.specs.Text.{utf8, first, follow, next, ended}
-use Rattle.laws.specs.Tests.{both, and_assoc, yes, said}
+use Rattle.laws.specs.Tests.{both, and_assoc, yes}
 use Rattle.stringcheck.specs.Letters.{lies_at, two_follow, three_follow, size_after, letter_size, LetterAt}
 
 peel : (t : List ℕ) (d : Due) (i : ℕ) {e : Due} → i < length t → e ≡ next d (get_or t i 0) → utf8 d (drop i t) ≡ utf8 e (drop (i + 1) t)
@@ -68,8 +68,8 @@ lies_in : (t : List ℕ) (i low high : ℕ) → lies_at t i low high ≡ true �
 unfolding lies_at
 lies_in t i low high e = ltb-true i (length t) (both _ _ e).0
 
-pub lies-before : (t : List ℕ) (i low high : ℕ) {r : Bool} → not r ≡ false → r ≡ lies_at t i low high → i + 1 ≤ length t
-lies-before t i low high n e = omega (arith, lies_in t i low high (said n e))
+pub lies-before : (t : List ℕ) (i low high : ℕ) {r : Bool} → r ≡ true → r ≡ lies_at t i low high → i + 1 ≤ length t
+lies-before t i low high n e = omega (arith, lies_in t i low high (sym e ∙ n))
 
 two_in : (t : List ℕ) (i low high : ℕ) → two_follow t i low high ≡ true → i + 1 < length t
 unfolding two_follow

@@ -2,8 +2,7 @@
 use mathlib.Core.Path.{◌≡◌, refl, sym, ◌∙◌, ap}
 use mathlib.Core.Bool.{Bool, true, false}
 use mathlib.Core.List.{List, [], ◌∷◌}
-use mathlib.Core.Logic.{⊎_elim}
-use Prim.Native.Nat.{ℕ, zero, suc, ◌≤◌, ◌<◌, ◌+◌, ◌-◌, ◌*◌}
+use Prim.Native.Nat.{ℕ, zero, suc, ◌≤◌, ◌<◌, ◌+◌, ◌-◌, ◌*◌, min}
 use native.Mathlib.Omega.{arith}
 use native.Mathlib.Numerals.{add-one}
 use lib.Dec.{ltb, eqb}
@@ -12,65 +11,53 @@ use lib.Seq.{drop-cons}
 use borrow.Author.Tests.{lt-ltb, le-ltb, eq-eqb, ne_eqb, ltb-true, ltb-false, eqb-true, eqb-false}
 use Rattle.meaning.specs.Text.{before}
 use Rattle.meaning.specs.Tests.{◌and◌, ◌or◌}
-use Rattle.stringcheck.specs.Eight.{Lesser, eight_at, Eight}
+use Rattle.stringcheck.specs.Eight.{eight_at, Eight}
 
 both-more : (x y : List ℕ) (i : ℕ) → i < length x → i < length y → before (drop i x) (drop i y) ≡ (ltb (get_or x i 0) (get_or y i 0) or (eqb (get_or x i 0) (get_or y i 0) and before (drop (i + 1) x) (drop (i + 1) y)))
 unfolding before
 both-more x y i h k = rw (add-one i, drop-cons x i 0 h, drop-cons y i 0 k)
 
-no_more : (x y : List ℕ) (i : ℕ) → i < length x → length y ≤ i → before (drop i x) (drop i y) ≡ false
-unfolding before
-no_more x y i h k = rw (drop-cons x i 0 h, drop_of_length-le y k)
-
-less : (x y : List ℕ) (i : ℕ) → i < length x → i < length y → get_or x i 0 < get_or y i 0 → before (drop i x) (drop i y) ≡ true
-unfolding ◌or◌
-less x y i h k l = both-more x y i h k ∙ rw (lt-ltb _ _ l)
-
-more : (x y : List ℕ) (i : ℕ) → i < length x → i < length y → get_or y i 0 ≤ get_or x i 0 → (get_or x i 0 ≡ get_or y i 0 → ⊥) → before (drop i x) (drop i y) ≡ false
+unlike : (x y : List ℕ) (i : ℕ) → i < length x → i < length y → (get_or x i 0 ≡ get_or y i 0 → ⊥) → ltb (get_or x i 0) (get_or y i 0) ≡ before (drop i x) (drop i y)
 unfolding ◌or◌ ◌and◌
-more x y i h k l n = both-more x y i h k ∙ rw (le-ltb _ _ l, ne_eqb _ _ n)
+unlike x y i h k n = sym (both-more x y i h k ∙ rw (ne_eqb _ _ n) (first (ltb (get_or x i 0) (get_or y i 0))))
+  where
+    first : (p : Bool) → (p or false) ≡ p
+    first true = refl
+    first false = refl
 
 alike : (x y : List ℕ) (i : ℕ) → i < length x → i < length y → get_or y i 0 ≤ get_or x i 0 → get_or x i 0 ≡ get_or y i 0 → before (drop i x) (drop i y) ≡ before (drop (i + 1) x) (drop (i + 1) y)
 unfolding ◌or◌ ◌and◌
 alike x y i h k l e = both-more x y i h k ∙ rw (le-ltb _ _ l, eq-eqb _ _ e)
+
+before-none : (x : List ℕ) → before x [] ≡ false
+unfolding before
+before-none [] = refl
+before-none (a ∷ x) = refl
 
 at-end : (y : List ℕ) → before [] y ≡ ltb 0 (length y)
 unfolding before
 at-end [] = refl
 at-end (b ∷ y) = sym (lt-ltb 0 (suc (length y)) (omega arith))
 
-shifted : (n i : ℕ) → ltb i n ≡ ltb 0 (n - i)
-shifted n i =
-    go (ltb i n) refl
+-- from where the shorter one ends
+pub order_ends : (x y : List ℕ) {n : ℕ} → n ≡ min (length x) (length y) → ltb (length x) (length y) ≡ before (drop n x) (drop n y)
+order_ends x y {n} e = go (ltb (length x) (length y)) refl
   where
-    go : (b : Bool) → ltb i n ≡ b → ltb i n ≡ ltb 0 (n - i)
-    go true e = e ∙ sym (lt-ltb 0 (n - i) (omega (arith, ltb-true i n e)))
-    go false e = e ∙ sym (le-ltb 0 (n - i) (omega (arith, ltb-false i n e)))
-
-measured : (y : List ℕ) (i : ℕ) → ltb i (length y) ≡ ltb 0 (length (drop i y))
-measured y i = rw (length-drop i y) (shifted (length y) i)
-
-ends : (x y : List ℕ) (i : ℕ) → length x ≤ i → ltb i (length y) ≡ before (drop i x) (drop i y)
-ends x y i h = rw (drop_of_length-le x h) (measured y i ∙ sym (at-end (drop i y)))
+    go : (t : Bool) → ltb (length x) (length y) ≡ t → ltb (length x) (length y) ≡ before (drop n x) (drop n y)
+    go true q =
+        let l : length x < length y = ltb-true _ _ q in
+        rw (drop_of_length-le x {i = n} (omega arith)) (q ∙ sym (at-end (drop n y) ∙ lt-ltb 0 (length (drop n y)) (rw (length-drop n y) (omega arith))))
+    go false q =
+        let l : length y ≤ length x = ltb-false _ _ q in
+        rw (drop_of_length-le y {i = n} (omega arith)) (q ∙ sym (before-none (drop n x)))
 
 -- of a loop that has read i bytes of both, which are the same
-module _ (x y : List ℕ) (i : ℕ) (is : before (drop i x) (drop i y) ≡ before x y) where
-  pub order-short : i < length x → length y ≤ i → false ≡ before x y
-  order-short h k = sym (no_more x y i h k) ∙ is
+module _ (x y : List ℕ) (i : ℕ) (is : before (drop i x) (drop i y) ≡ before x y) (h : i < length x) (k : i < length y) {a b : ℕ} (ea : a ≡ get_or x i 0) (eb : b ≡ get_or y i 0) where
+  pub order_unlike : (a ≡ b → ⊥) → ltb a b ≡ before x y
+  order_unlike n = rw (ea, eb) (unlike x y i h k (λ e. n (ea ∙ e ∙ sym eb)) ∙ is)
 
-  pub order-ends : length x ≤ i → ltb i (length y) ≡ before x y
-  order-ends h = ends x y i h ∙ is
-
-  module _ (h : i < length x) (k : i < length y) where
-    pub order-less : get_or x i 0 < get_or y i 0 → true ≡ before x y
-    order-less l = sym (less x y i h k l) ∙ is
-
-    module _ (l : get_or y i 0 ≤ get_or x i 0) where
-      pub order-more : (get_or x i 0 ≡ get_or y i 0 → ⊥) → false ≡ before x y
-      order-more n = sym (more x y i h k l n) ∙ is
-
-      pub order_same : get_or x i 0 ≡ get_or y i 0 → before (drop (i + 1) x) (drop (i + 1) y) ≡ before x y
-      order_same e = sym (alike x y i h k l e) ∙ is
+  pub order_same : {j : ℕ} → a ≡ b → j ≡ i + 1 → before (drop j x) (drop j y) ≡ before x y
+  order_same e q = let same : get_or x i 0 ≡ get_or y i 0 = cc in rw q (sym (alike x y i h k (omega arith) same) ∙ is)
 
 -- ---- the same bytes up to j
 
@@ -152,15 +139,15 @@ pub record Alike (x y : List ℕ) (n i : ℕ) : Type 0 where
 pub alike-none : {x y : List ℕ} {n : ℕ} → Alike x y n 0
 alike-none = record { low = omega arith; is = λ k h. absurd (omega arith) }
 
-module _ {x y : List ℕ} {n i at v w : ℕ} (few : Lesser (length x) (length y) n) (a : Alike x y n i) (here : Lesser i (n - 8) at) (h : Eight x at v) (k : Eight y at w) (l : 8 ≤ n) where
+module _ {x y : List ℕ} {n i at v w : ℕ} (few : n ≡ min (length x) (length y)) (a : Alike x y n i) (here : at ≡ min i (n - 8)) (h : Eight x at v) (k : Eight y at w) (l : 8 ≤ n) where
   compared : Numbers x y at 8 v w
-  compared = rw (h.is, k.is) (eights x y at (omega (arith, here.high, few.low)) (omega (arith, here.high, few.high)) h.small k.small)
+  compared = rw (h.is, k.is) (eights x y at (omega arith) (omega arith) h.small k.small)
 
   pub alike-more : v ≡ w → Alike x y n (at + 8)
-  alike-more e = record { low = omega (arith, here.high); is = λ j t. go j t (ltb j at) refl }
+  alike-more e = record { low = omega arith; is = λ j t. go j t (ltb j at) refl }
     where
       go : (j : ℕ) → j < at + 8 → (t : Bool) → ltb j at ≡ t → get_or x j 0 ≡ get_or y j 0
-      go j t true q = a.is j (omega (arith, ltb-true j at q, here.low))
+      go j t true q = a.is j (omega (arith, ltb-true j at q))
       go j t false q =
           let z : at + (j - at) ≡ j = omega (arith, ltb-false j at q) in
           rw z at (compared.same e (j - at) (omega (arith, ltb-false j at q)))
@@ -169,25 +156,14 @@ module _ {x y : List ℕ} {n i at v w : ℕ} (few : Lesser (length x) (length y)
   unfolding ◌or◌ ◌and◌
   alike-not e =
       sym (rw (ne_eqb v w e) at compared.tells ∙ first (ltb v w))
-      ∙ skip x y at (omega (arith, here.high, few.low)) (omega (arith, here.high, few.high)) (λ j t. a.is j (omega (arith, here.low)))
+      ∙ skip x y at (omega arith) (omega arith) (λ j t. a.is j (omega arith))
     where
       first : (p : Bool) → (p or false) ≡ p
       first true = refl
       first false = refl
 
-pub alike-less : {n i at : ℕ} → Lesser i (n - 8) at → 8 ≤ n → i < n → n - (at + 8) < n - i
-alike-less {n} {i} {at} few h l = ⊎_elim (λ e. omega (arith, e)) (λ e. omega (arith, e)) few.is
+pub alike-less : {n i at : ℕ} → at ≡ min i (n - 8) → 8 ≤ n → i < n → n - (at + 8) < n - i
+alike-less few h l = omega arith
 
-before-none : (x : List ℕ) → before x [] ≡ false
-unfolding before
-before-none [] = refl
-before-none (a ∷ x) = refl
-
-pub alike_all : {x y : List ℕ} {n i : ℕ} → Lesser (length x) (length y) n → Alike x y n i → n ≤ i → ltb (length x) (length y) ≡ before x y
-alike_all {x} {y} {n} {i} few a h = ⊎_elim first second few.is ∙ skip x y n few.low few.high (λ k l. a.is k (omega arith))
-  where
-    first : n ≡ length x → ltb (length x) (length y) ≡ before (drop n x) (drop n y)
-    first e = ap (λ (t : ℕ). ltb t (length y)) (sym e) ∙ ends x y n (omega arith)
-
-    second : n ≡ length y → ltb (length x) (length y) ≡ before (drop n x) (drop n y)
-    second e = rw (le-ltb (length x) (length y) (omega (arith, few.low)), drop_of_length-le y {i = n} (omega arith)) (sym (before-none (drop n x)))
+pub alike_all : {x y : List ℕ} {n i : ℕ} → n ≡ min (length x) (length y) → Alike x y n i → n ≤ i → ltb (length x) (length y) ≡ before x y
+alike_all {x} {y} {n} {i} few a h = order_ends x y few ∙ skip x y n (omega arith) (omega arith) (λ k l. a.is k (omega arith))

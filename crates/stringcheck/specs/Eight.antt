@@ -1,11 +1,5 @@
 -- Eight bytes as one number, by which texts are compared
-use Rattle.std.specs.Prelude.{ℕ, ◌+◌, ◌*◌, ◌≤◌, ◌<◌, List, ◌⊎◌, ◌≡◌, get_or}
-
--- the lesser of two
-pub record Lesser (a b r : ℕ) : Type 0 where
-  pub is : (r ≡ a) ⊎ (r ≡ b)
-  pub low : r ≤ a
-  pub high : r ≤ b
+use Rattle.std.specs.Prelude.{ℕ, ◌+◌, ◌*◌, ◌<◌, List, ◌≡◌, get_or}
 
 -- the first byte is the highest
 abbrev pub eight_of : ℕ → ℕ → ℕ → ℕ → ℕ → ℕ → ℕ → ℕ → ℕ

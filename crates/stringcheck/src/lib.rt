@@ -8,11 +8,11 @@ ghost use Rattle.meaning.specs.Text.{before, free, utf8, first, follow, next, en
 ghost use Rattle.meaning.specs.Case.{strings, values, members, points, nodes, lists, vars, text};
 ghost use Rattle.meaning.specs.Check.{record_bytes, bodies, mosts, end_to_end, utf8_rule, order_rule, string_rules};
 ghost use Rattle.laws.specs.Tests.{Filled};
-ghost use Rattle.stringcheck.specs.Eight.{Lesser, eight_of, Eight};
+ghost use Rattle.stringcheck.specs.Eight.{Eight};
 ghost use Rattle.stringcheck.specs.Letters.{lies_at, two_follow, three_follow, LetterAt};
 
 use meaning::{Due, StrNo};
-use tables::{both, contents_word, offset_of, size_of, string_word, text_of, wide};
+use tables::{contents_word, offset_of, size_of, string_word, text_of};
 
 // ---- 1: contents and bodies
 
@@ -33,25 +33,20 @@ fn record_bytes(k: usize) -> usize
 pub fn check_bodies(s: &[u8]) -> bool
     ensures { ◌≡◌ {A = Bool} result (bodies s.now) }
 {
-    if s.len() < 64 {
-        return false;
-    }
-    if contents_word(s, 0) != 1 {
+    if s.len() < 64 || contents_word(s, 0) != 1 {
         return false;
     }
     let mut at = 64;
-    let mut k = 0;
-    while k < 7 {
-        let start = wide(offset_of(s, k));
+    for k in 0..7 {
+        let start = offset_of(s, k) as usize;
         if start != at {
             return false;
         }
-        let size = wide(size_of(s, k));
+        let size = size_of(s, k) as usize;
         if size % record_bytes(k) != 0 {
             return false;
         }
         at += size;
-        k += 1;
     }
     at == s.len()
 }
@@ -113,22 +108,12 @@ pub fn check_mosts(s: &[u8]) -> bool
     requires { bodies s.now ≡ true }
     ensures { ◌≡◌ {A = Bool} result (mosts s.now) }
 {
-    if 4194304 < s.len() {
-        return false;
-    }
-    if 16384 < string_count(s) {
-        return false;
-    }
-    if 16384 < value_count(s) {
-        return false;
-    }
-    if 16384 < point_count(s) {
-        return false;
-    }
-    if 1024 < node_count(s) {
-        return false;
-    }
-    var_count(s) <= 16
+    s.len() <= 4194304
+        && string_count(s) <= 16384
+        && value_count(s) <= 16384
+        && point_count(s) <= 16384
+        && node_count(s) <= 1024
+        && var_count(s) <= 16
 }
 
 // ---- 3: strings
@@ -138,20 +123,16 @@ fn end_to_end(s: &[u8]) -> bool
     requires { bodies s.now ≡ true }
     ensures { ◌≡◌ {A = Bool} result (end_to_end s.now) }
 {
-    let n = string_count(s);
-    let room = wide(size_of(s, 6));
+    let room = size_of(s, 6) as usize;
     let mut at = 0;
-    let mut k = 0;
-    while k < n {
-        let begin = wide(string_word(s, StrNo(k), 0));
-        if begin != at {
+    for k in 0..string_count(s) {
+        if string_word(s, StrNo(k), 0) as usize != at {
             return false;
         }
-        at += wide(string_word(s, StrNo(k), 1));
+        at += string_word(s, StrNo(k), 1) as usize;
         if room < at {
             return false;
         }
-        k += 1;
     }
     at == room
 }
@@ -159,50 +140,30 @@ fn end_to_end(s: &[u8]) -> bool
 fn first_due(b: u8) -> Due
     ensures { result ≡ first b }
 {
-    if b < 128 {
-        return Due::Nothing;
+    match b {
+        0..=127 => Due::Nothing,
+        128..=193 => Due::Wrong,
+        194..=223 => Due::One,
+        224 => Due::AfterE0,
+        225..=236 => Due::Two,
+        237 => Due::AfterEd,
+        238..=239 => Due::Two,
+        240 => Due::AfterF0,
+        241..=243 => Due::Three,
+        244 => Due::AfterF4,
+        _ => Due::Wrong,
     }
-    if b < 194 {
-        return Due::Wrong;
-    }
-    if b < 224 {
-        return Due::One;
-    }
-    if b < 225 {
-        return Due::AfterE0;
-    }
-    if b < 237 {
-        return Due::Two;
-    }
-    if b < 238 {
-        return Due::AfterEd;
-    }
-    if b < 240 {
-        return Due::Two;
-    }
-    if b < 241 {
-        return Due::AfterF0;
-    }
-    if b < 244 {
-        return Due::Three;
-    }
-    if b < 245 {
-        return Due::AfterF4;
-    }
-    Due::Wrong
 }
 
 // a byte that follows lies from low to high
 fn follow_due(low: u8, high: u8, then: Due, b: u8) -> Due
     ensures { result ≡ follow low high «then» b }
 {
-    if b < low {
-        return Due::Wrong;
+    if low <= b && b <= high {
+        then
+    } else {
+        Due::Wrong
     }
-    if b <= high {
-        return then;
-    }
-    Due::Wrong
 }
 
 pub fn next_due(d: Due, b: u8) -> Due
@@ -224,27 +185,14 @@ pub fn next_due(d: Due, b: u8) -> Due
 pub fn is_ended(d: Due) -> bool
     ensures { ◌≡◌ {A = Bool} result (ended d) }
 {
-    match d {
-        Due::Nothing => true,
-        Due::One => false,
-        Due::Two => false,
-        Due::Three => false,
-        Due::AfterE0 => false,
-        Due::AfterEd => false,
-        Due::AfterF0 => false,
-        Due::AfterF4 => false,
-        Due::Wrong => false,
-    }
+    matches!(d, Due::Nothing)
 }
 
 // byte i is there and lies from low to high
 fn lies(t: &[u8], i: usize, low: u8, high: u8) -> bool
     ensures { ◌≡◌ {A = Bool} result (lies_at t.now i low high) }
 {
-    if t.len() <= i {
-        return false;
-    }
-    both(low <= t[i], t[i] <= high)
+    i < t.len() && low <= t[i] && t[i] <= high
 }
 
 // two bytes follow from i on, the first of them from low to high
@@ -252,20 +200,14 @@ fn two_follow(t: &[u8], i: usize, low: u8, high: u8) -> bool
     requires { i ≤ length t.now }
     ensures { ◌≡◌ {A = Bool} result (two_follow t.now i low high) }
 {
-    if !lies(t, i, low, high) {
-        return false;
-    }
-    lies(t, i + 1, 128, 191)
+    lies(t, i, low, high) && lies(t, i + 1, 128, 191)
 }
 
 fn three_follow(t: &[u8], i: usize, low: u8, high: u8) -> bool
     requires { i ≤ length t.now }
     ensures { ◌≡◌ {A = Bool} result (three_follow t.now i low high) }
 {
-    if !lies(t, i, low, high) {
-        return false;
-    }
-    two_follow(t, i + 1, 128, 191)
+    lies(t, i, low, high) && two_follow(t, i + 1, 128, 191)
 }
 
 // how many bytes there are of a letter that is so long; 0 where it does not go on so
@@ -312,7 +254,7 @@ fn are_letters(t: &[u8]) -> bool
 pub fn larger_byte(a: u8, b: u8) -> u8
     ensures { result ≡ max a b }
 {
-    if a < b { b } else { a }
+    a.max(b)
 }
 
 // the greatest byte, many at once
@@ -320,10 +262,8 @@ fn greatest_byte(t: &[u8]) -> u8
     ensures { result ≡ greatest (length t.now) (λ i. get_or t.now i 0) }
 {
     let mut top = 0;
-    let mut i = 0;
-    while i < t.len() {
-        top = larger_byte(top, t[i]);
-        i += 1;
+    for b in t {
+        top = top.max(*b);
     }
     top
 }
@@ -331,10 +271,7 @@ fn greatest_byte(t: &[u8]) -> u8
 fn is_utf8(t: &[u8]) -> bool
     ensures { ◌≡◌ {A = Bool} result (utf8 Due.Nothing t.now) }
 {
-    if greatest_byte(t) < 128 {
-        return true;
-    }
-    are_letters(t)
+    greatest_byte(t) < 128 || are_letters(t)
 }
 
 fn check_utf8(s: &[u8]) -> bool
@@ -342,51 +279,27 @@ fn check_utf8(s: &[u8]) -> bool
     requires s_value_2 { end_to_end s.now ≡ true }
     ensures { ◌≡◌ {A = Bool} result (all_below (strings s.now) (utf8_rule s.now)) }
 {
-    let n = string_count(s);
-    let mut k = 0;
-    while k < n {
-        if !is_utf8(text_of(s, StrNo(k))) {
-            return false;
-        }
-        k += 1;
-    }
-    true
+    (0..string_count(s)).all(|k| is_utf8(text_of(s, StrNo(k))))
 }
 
 // byte by byte
 fn bytes_before(x: &[u8], y: &[u8]) -> bool
     ensures { ◌≡◌ {A = Bool} result (before x.now y.now) }
 {
-    let mut i = 0;
-    while i < x.len() {
-        if y.len() <= i {
-            return false;
+    for (p, q) in x.iter().zip(y) {
+        if p != q {
+            return p < q;
         }
-        if x[i] < y[i] {
-            return true;
-        }
-        if x[i] != y[i] {
-            return false;
-        }
-        i += 1;
     }
-    i < y.len()
+    x.len() < y.len()
 }
 
 // eight bytes as one number, the first the highest
-fn eight(a: u8, b: u8, c: u8, d: u8, e: u8, f: u8, g: u8, h: u8) -> u64
-    ensures { result ≡ eight_of a b c d e f g h }
-{
-    let high = (d as u64) + 256 * ((c as u64) + 256 * ((b as u64) + 256 * (a as u64)));
-    let low = (h as u64) + 256 * ((g as u64) + 256 * ((f as u64) + 256 * (e as u64)));
-    low + 4294967296 * high
-}
-
 fn eight_at(s: &[u8], i: usize) -> u64
     requires { i + 8 ≤ length s.now }
     ensures { Eight s.now i result }
 {
-    eight(
+    u64::from_be_bytes([
         s[i],
         s[i + 1],
         s[i + 2],
@@ -395,26 +308,21 @@ fn eight_at(s: &[u8], i: usize) -> u64
         s[i + 5],
         s[i + 6],
         s[i + 7],
-    )
-}
-
-fn lesser(a: usize, b: usize) -> usize
-    ensures { Lesser a b result }
-{
-    if a < b { a } else { b }
+    ])
 }
 
 // in byte order? eight bytes at a time: the last eight may have been compared in part before
 pub fn is_before(x: &[u8], y: &[u8]) -> bool
     ensures { ◌≡◌ {A = Bool} result (before x.now y.now) }
 {
-    let n = lesser(x.len(), y.len());
+    let n = x.len().min(y.len());
     if n < 8 {
         return bytes_before(x, y);
     }
     let mut i = 0;
+    // a while: the last turn goes back to the last eight bytes, and std's order is slower on short texts
     while i < n {
-        let at = lesser(i, n - 8);
+        let at = i.min(n - 8);
         let a = eight_at(x, at);
         let b = eight_at(y, at);
         if a != b {
@@ -422,7 +330,7 @@ pub fn is_before(x: &[u8], y: &[u8]) -> bool
         }
         i = at + 8;
     }
-    x.len() < y.len()
+    x.len() < y.len() // the same up to the shorter one's end
 }
 
 // string k comes after the one before it
@@ -431,10 +339,7 @@ fn order_rule(s: &[u8], k: u32) -> bool
     requires s_value_2 { end_to_end s.now ≡ true }
     ensures { ◌≡◌ {A = Bool} result (order_rule s.now k) }
 {
-    if k == 0 {
-        return true;
-    }
-    is_before(text_of(s, StrNo(k - 1)), text_of(s, StrNo(k)))
+    k == 0 || is_before(text_of(s, StrNo(k - 1)), text_of(s, StrNo(k)))
 }
 
 fn check_order(s: &[u8]) -> bool
@@ -442,28 +347,14 @@ fn check_order(s: &[u8]) -> bool
     requires s_value_2 { end_to_end s.now ≡ true }
     ensures { ◌≡◌ {A = Bool} result (all_below (strings s.now) (order_rule s.now)) }
 {
-    let n = string_count(s);
-    let mut k = 0;
-    while k < n {
-        if !order_rule(s, k) {
-            return false;
-        }
-        k += 1;
-    }
-    true
+    (0..string_count(s)).all(|k| order_rule(s, k))
 }
 
 pub fn check_strings(s: &[u8]) -> bool
     requires { bodies s.now ≡ true }
     ensures { ◌≡◌ {A = Bool} result (string_rules s.now) }
 {
-    if !end_to_end(s) {
-        return false;
-    }
-    if !check_utf8(s) {
-        return false;
-    }
-    check_order(s)
+    end_to_end(s) && check_utf8(s) && check_order(s)
 }
 
 // ---- what later rules ask: strings in which a byte does not occur
@@ -473,10 +364,8 @@ fn is_free(b: u8, t: &[u8]) -> bool
     ensures { ◌≡◌ {A = Bool} result (free b t.now) }
 {
     let mut none = true;
-    let mut i = 0;
-    while i < t.len() {
-        none = both(none, t[i] != b);
-        i += 1;
+    for x in t {
+        none &= *x != b;
     }
     none
 }
@@ -488,13 +377,9 @@ pub fn free_strings(s: &[u8], b: u8) -> [bool; 16384]
     requires s_value_3 { end_to_end s.now ≡ true }
     ensures { Filled false (λ n. free b (text s.now n)) result (strings s.now) }
 {
-    let n = string_count(s);
     let mut out = [false; 16384];
-    let mut k = 0;
-    while k < n {
-        let at = wide(k);
-        out[at] = is_free(b, text_of(s, StrNo(k)));
-        k += 1;
+    for k in 0..string_count(s) {
+        out[k as usize] = is_free(b, text_of(s, StrNo(k)));
     }
     out
 }

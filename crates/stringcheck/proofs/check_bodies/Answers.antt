@@ -1,6 +1,7 @@
 use Rattle.std.proofs.Common.{rules}
+use Rattle.std.proofs.lemmas.Bool.Decides.{nat_tests}
 use Prim.Native.Nat.{◌%◌, ◌+◌, ◌≤◌, ℕ, ◌<◌}
-use borrow.Author.Tests.{eq-eqb, le-leb, lt-leb, ne_eqb}
+use borrow.Author.Tests.{eq-eqb, le-leb, ne_eqb}
 use lib.Dec.{eqb}
 use lib.ListN.{length}
 use mathlib.Core.Bool.{false}
@@ -14,14 +15,6 @@ use Rattle.laws.specs.Tests.{all_more, all-stop, pass, skip, stop}
 use Rattle.meaning.specs.Tests.{◌and◌, all_below}
 use Rattle.stringcheck.proofs.check_bodies.Invariants.{Right}
 use Rattle.stringcheck.proofs.check_bodies.Goals as goal
-
-short : (s : List ℕ) → length s < 64 → false ≡ bodies s
-unfolding bodies
-short s h = sym (stop _ (lt-leb _ _ h))
-
-other-edition : (s : List ℕ) {w : ℕ} → w ≡ contents s 0 → (w ≡ 1 → ⊥) → false ≡ bodies s
-unfolding bodies
-other-edition s e h = sym (skip _ (stop _ (ne_eqb _ _ (λ q. h (e ∙ q)))))
 
 right-none : {s : List ℕ} {w : ℕ} → w ≡ contents s 0 → w ≡ 1 → 64 ≤ length s → Right s 64 0
 unfolding start_of all_below
@@ -38,12 +31,12 @@ module _ {s : List ℕ} {at k : ℕ} (i : Right s at k) where
       let e : k ≡ 7 = omega (arith, i.low) in
       simp (le-leb 64 (length s) i.long, eq-eqb (contents s 0) 1 i.edition, rw e at i.passed, sym (rw e at i.start))
 
-  module _ (lt : k < 7) {o begin : ℕ} (eo : o ≡ offset s k) (eb : begin ≡ o) where
+  module _ (lt : k < 7) {begin : ℕ} (eb : begin ≡ offset s k) where
     misplaced : (begin ≡ at → ⊥) → false ≡ bodies s
     unfolding body_rule
-    misplaced h = broken lt (stop _ (ne_eqb _ _ (λ e. h (eb ∙ eo ∙ e ∙ sym i.start))))
+    misplaced h = broken lt (stop _ (ne_eqb _ _ (λ e. h (eb ∙ e ∙ sym i.start))))
 
-    module _ {z bytes each : ℕ} (ez : z ≡ size s k) (ew : bytes ≡ z) (er : each ≡ record_bytes k) where
+    module _ {bytes each : ℕ} (ez : bytes ≡ size s k) (er : each ≡ record_bytes k) where
       whole : size s k % record_bytes k ≡ bytes % each
       whole = cc
 
@@ -51,23 +44,21 @@ module _ {s : List ℕ} {at k : ℕ} (i : Right s at k) where
       unfolding body_rule
       in-part h = broken lt (skip _ (ne_eqb _ _ (λ q. h (sym whole ∙ q))))
 
-      right-more : begin ≡ at → bytes % each ≡ 0 → z < 4294967296 → Right s (at + bytes) (k + 1)
+      right-more : begin ≡ at → bytes % each ≡ 0 → bytes < 4294967296 → Right s (at + bytes) (k + 1)
       unfolding body_rule start_of
       right-more h e fits =
           record {
             low = omega arith;
             long = i.long;
             edition = i.edition;
-            start = rw (add-one k, i.start, ew, ez) refl;
+            start = rw (add-one k, i.start, ez) refl;
             near = omega (arith, i.near);
-            passed = all_more _ k i.passed (pass (eq-eqb _ _ (sym (eb ∙ eo) ∙ h ∙ i.start)) (eq-eqb _ _ (whole ∙ e)));
+            passed = all_more _ k i.passed (pass (eq-eqb _ _ (sym eb ∙ h ∙ i.start)) (eq-eqb _ _ (whole ∙ e)));
           }
 
 pub returns-then-s-lt64 : goal.returns-then-s-lt64
-returns-then-s-lt64 c = search (short, rules)
-
-pub returns-then-contents_word-ne1 : goal.returns-then-contents_word-ne1
-returns-then-contents_word-ne1 c = search (other-edition, rules)
+unfolding bodies ◌and◌
+returns-then-s-lt64 c = grind (arith, nat_tests)
 
 pub loop-k-init : goal.loop-k-init
 loop-k-init c = search (right-none, rules)

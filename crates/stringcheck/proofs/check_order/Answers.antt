@@ -1,15 +1,12 @@
-use Rattle.std.proofs.Common.{rules}
-use Rattle.laws.specs.Tests.{passing-none, passing-more, passing-no, passing-all}
+use Rattle.std.proofs.Common.{◌∙◌, rules, tests, ap, arith, refl, ℕ}
+use Rattle.std.proofs.lemmas.Iterator.{YieldsList-from_range}
+use Rattle.std.proofs.lemmas.Iterator.Search.{all_from_yields_List}
+use Rattle.meaning.specs.Check.{order_rule}
+use Rattle.meaning.specs.Tests.{all_below}
+use Rattle.stringcheck.specs.Ranges.{all-range}
 use Rattle.stringcheck.proofs.check_order.Goals as goal
 
-pub loop-k-init : goal.loop-k-init
-loop-k-init c = search (passing-none, rules)
-
-pub returns-then-not-order_rule : goal.returns-then-not-order_rule
-returns-then-not-order_rule c = search (passing-no, rules)
-
-pub loop-k-preserved : goal.loop-k-preserved
-loop-k-preserved c = search (passing-more, rules)
-
 pub returns : goal.returns
-returns c = search (passing-all, rules)
+returns c =
+    let e = all_from_yields_List (order_rule c.args.s.now) _ _ c.all.result c.all.ensures.ran (YieldsList-from_range 0 c.string_count.result c.string_count.result refl (omega arith)) (λ x b q k. search (rules, tests)) in
+    e ∙ all-range _ _ ∙ ap (λ (n : ℕ). all_below n (order_rule c.args.s.now)) c.string_count.ensures

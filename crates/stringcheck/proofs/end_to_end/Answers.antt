@@ -15,9 +15,9 @@ use Rattle.meaning.specs.Tests.{◌and◌, all_below}
 use Rattle.stringcheck.proofs.end_to_end.Invariants.{Placed}
 use Rattle.stringcheck.proofs.end_to_end.Goals as goal
 
-placed-none : {s : List ℕ} {z room n : ℕ} → z ≡ size s 6 → room ≡ z → z < 4294967296 → Placed s n room 0 0
+placed-none : {s : List ℕ} {room n : ℕ} → room ≡ size s 6 → room < 4294967296 → Placed s n room 0 0
 unfolding end_before all_below
-placed-none e f h = record { low = omega arith; text = f ∙ e; near = omega arith; inside = omega arith; last = refl; passed = refl }
+placed-none e h = record { low = omega arith; text = e; near = omega arith; inside = omega arith; last = refl; passed = refl }
 
 module _ {s : List ℕ} {n room at k : ℕ} (i : Placed s n room at k) (strs : n ≡ strings s) where
   all_placed : n ≤ k → eqb at room ≡ end_to_end s
@@ -31,35 +31,35 @@ module _ {s : List ℕ} {n room at k : ℕ} (i : Placed s n room at k) (strs : n
     unfolding end_to_end
     bad f = sym (stop _ (all-stop (place_rule s) (strings s) k (omega arith) f))
 
-    module _ {w begin : ℕ} (ew : w ≡ string_word s k 0) (eb : begin ≡ w) where
+    module _ {begin : ℕ} (eb : begin ≡ string_word s k 0) where
       misplaced : (begin ≡ at → ⊥) → false ≡ end_to_end s
       unfolding place_rule
-      misplaced f = bad (stop _ (ne_eqb _ _ (λ q. f (eb ∙ ew ∙ q ∙ sym i.last))))
+      misplaced f = bad (stop _ (ne_eqb _ _ (λ q. f (eb ∙ q ∙ sym i.last))))
 
-      past : {v bytes : ℕ} → begin ≡ at → v ≡ string_word s k 1 → bytes ≡ v → room < at + bytes → false ≡ end_to_end s
+      past : {bytes : ℕ} → begin ≡ at → bytes ≡ string_word s k 1 → room < at + bytes → false ≡ end_to_end s
       unfolding place_rule
-      past here ev el l = bad (skip _ (lt-leb (string_word s k 0 + string_word s k 1) (size s 6) (omega (arith, i.text))))
+      past here el l = bad (skip _ (lt-leb (string_word s k 0 + string_word s k 1) (size s 6) (omega (arith, i.text))))
 
-placed-more : {s : List ℕ} {n room at k begin w bytes v : ℕ} → Placed s n room at k → k < n → begin ≡ at → begin ≡ w → w ≡ string_word s k 0 → bytes ≡ v → v ≡ string_word s k 1 → at + bytes ≤ room → Placed s n room (at + bytes) (k + 1)
+placed-more : {s : List ℕ} {n room at k begin bytes : ℕ} → Placed s n room at k → k < n → begin ≡ at → begin ≡ string_word s k 0 → bytes ≡ string_word s k 1 → at + bytes ≤ room → Placed s n room (at + bytes) (k + 1)
 unfolding place_rule end_before
-placed-more {s} {k = k} i lt here eb ew el ev l =
+placed-more {s} {k = k} i lt here eb el l =
     record {
       low = omega arith;
       text = i.text;
       near = i.near;
       inside = l;
-      last = rw (add-one k, sym here, eb, ew, el, ev) refl;
-      passed = all_more _ k i.passed (pass (eq-eqb _ _ (sym (eb ∙ ew) ∙ here ∙ i.last)) (le-leb (string_word s k 0 + string_word s k 1) (size s 6) (omega (arith, i.text))));
+      last = rw (add-one k, sym here, eb, el) refl;
+      passed = all_more _ k i.passed (pass (eq-eqb _ _ (sym eb ∙ here ∙ i.last)) (le-leb (string_word s k 0 + string_word s k 1) (size s 6) (omega (arith, i.text))));
     }
 
-pub size_of-requires : goal.size_of-requires
-size_of-requires c = search (long, rules)
+pub size_of-room-requires-clause-in_bounds : goal.size_of-room-requires-clause-in_bounds
+size_of-room-requires-clause-in_bounds c = search (long, rules)
 
 pub loop-k-init : goal.loop-k-init
 loop-k-init c = search (placed-none, rules)
 
-pub returns-then-begin-at : goal.returns-then-begin-at
-returns-then-begin-at c = search (misplaced, rules)
+pub returns-then-string_word-at : goal.returns-then-string_word-at
+returns-then-string_word-at c = search (misplaced, rules)
 
 pub returns-then-room-at : goal.returns-then-room-at
 returns-then-room-at c = search (past, rules)

@@ -1,5 +1,5 @@
 -- Strings lie end to end and fill text
-use Prim.Native.Nat.{◌-◌, ◌<◌, ◌≤◌, ℕ}
+use Prim.Native.Nat.{◌<◌, ◌≤◌, ℕ}
 use mathlib.Core.Bool.{true}
 use mathlib.Core.List.{List}
 use mathlib.Core.Path.{◌≡◌}
@@ -18,7 +18,4 @@ pub record Placed (s : List ℕ) (n room at k : ℕ) : Type 0 where
   pub passed : all_below k (place_rule s) ≡ true
 
 abbrev pub invariant-loop-k : goal.invariant-loop-k
-invariant-loop-k l = Placed l.s l.n l.room l.at l.k
-
-abbrev pub decreases-loop-k : goal.decreases-loop-k
-decreases-loop-k l = l.n - l.k
+invariant-loop-k l = Placed l.s l.k-end l.room l.at l.k

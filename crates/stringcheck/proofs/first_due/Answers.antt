@@ -1,49 +1,85 @@
--- What a first byte makes due: the range that it lies in, by one comparison after the other
-use Rattle.std.proofs.Common.{rules}
+-- What a first byte makes due: the range that it lies in
+use Rattle.std.proofs.Common.{◌≡◌, ℕ, ◌≤◌, refl, arith}
+use borrow.Author.Tests.{lt-ltb, le-ltb}
+use Rattle.meaning.specs.Tests.{choose}
 use Rattle.meaning.specs.Text.{first}
-use Rattle.stringcheck.proofs.Choices.{below, not-below}
+use Rattle.meaning.specs.declared.Due.TheVariants.{Nothing, One, Two, Three, AfterE0, AfterEd, AfterF0, AfterF4, Wrong}
 use Rattle.stringcheck.proofs.first_due.Goals as goal
 
-pub returns-then-b-lt128 : goal.returns-then-b-lt128
-unfolding first
-returns-then-b-lt128 c = search (below, not-below, rules)
+module _ (b : ℕ) where
+  due-0-127 : b ≤ 127 → Nothing ≡ first b
+  unfolding first choose
+  due-0-127 h = rw (lt-ltb b 128 (omega arith)) refl
 
-pub returns-then-b-lt194 : goal.returns-then-b-lt194
-unfolding first
-returns-then-b-lt194 c = search (below, not-below, rules)
+  due-128-193 : 128 ≤ b → b ≤ 193 → Wrong ≡ first b
+  unfolding first choose
+  due-128-193 l h = rw (le-ltb b 128 (omega arith), lt-ltb b 194 (omega arith)) refl
 
-pub returns-then-b-lt224 : goal.returns-then-b-lt224
-unfolding first
-returns-then-b-lt224 c = search (below, not-below, rules)
+  due-194-223 : 194 ≤ b → b ≤ 223 → One ≡ first b
+  unfolding first choose
+  due-194-223 l h = rw (le-ltb b 128 (omega arith), le-ltb b 194 (omega arith), lt-ltb b 224 (omega arith)) refl
 
-pub returns-then-b-lt225 : goal.returns-then-b-lt225
-unfolding first
-returns-then-b-lt225 c = search (below, not-below, rules)
+  due-224-224 : 224 ≤ b → b ≤ 224 → AfterE0 ≡ first b
+  unfolding first choose
+  due-224-224 l h = rw (le-ltb b 128 (omega arith), le-ltb b 194 (omega arith), le-ltb b 224 (omega arith), lt-ltb b 225 (omega arith)) refl
 
-pub returns-then-b-lt237 : goal.returns-then-b-lt237
-unfolding first
-returns-then-b-lt237 c = search (below, not-below, rules) depth 7
+  due-225-236 : 225 ≤ b → b ≤ 236 → Two ≡ first b
+  unfolding first choose
+  due-225-236 l h = rw (le-ltb b 128 (omega arith), le-ltb b 194 (omega arith), le-ltb b 224 (omega arith), le-ltb b 225 (omega arith), lt-ltb b 237 (omega arith)) refl
 
-pub returns-then-b-lt238 : goal.returns-then-b-lt238
-unfolding first
-returns-then-b-lt238 c = search (below, not-below, rules) depth 8
+  due-237-237 : 237 ≤ b → b ≤ 237 → AfterEd ≡ first b
+  unfolding first choose
+  due-237-237 l h = rw (le-ltb b 128 (omega arith), le-ltb b 194 (omega arith), le-ltb b 224 (omega arith), le-ltb b 225 (omega arith), le-ltb b 237 (omega arith), lt-ltb b 238 (omega arith)) refl
 
-pub returns-then-b-lt240 : goal.returns-then-b-lt240
-unfolding first
-returns-then-b-lt240 c = search (below, not-below, rules) depth 9
+  due-238-239 : 238 ≤ b → b ≤ 239 → Two ≡ first b
+  unfolding first choose
+  due-238-239 l h = rw (le-ltb b 128 (omega arith), le-ltb b 194 (omega arith), le-ltb b 224 (omega arith), le-ltb b 225 (omega arith), le-ltb b 237 (omega arith), le-ltb b 238 (omega arith), lt-ltb b 240 (omega arith)) refl
 
-pub returns-then-b-lt241 : goal.returns-then-b-lt241
-unfolding first
-returns-then-b-lt241 c = search (below, not-below, rules) depth 10
+  due-240-240 : 240 ≤ b → b ≤ 240 → AfterF0 ≡ first b
+  unfolding first choose
+  due-240-240 l h = rw (le-ltb b 128 (omega arith), le-ltb b 194 (omega arith), le-ltb b 224 (omega arith), le-ltb b 225 (omega arith), le-ltb b 237 (omega arith), le-ltb b 238 (omega arith), le-ltb b 240 (omega arith), lt-ltb b 241 (omega arith)) refl
 
-pub returns-then-b-lt244 : goal.returns-then-b-lt244
-unfolding first
-returns-then-b-lt244 c = search (below, not-below, rules) depth 11
+  due-241-243 : 241 ≤ b → b ≤ 243 → Three ≡ first b
+  unfolding first choose
+  due-241-243 l h = rw (le-ltb b 128 (omega arith), le-ltb b 194 (omega arith), le-ltb b 224 (omega arith), le-ltb b 225 (omega arith), le-ltb b 237 (omega arith), le-ltb b 238 (omega arith), le-ltb b 240 (omega arith), le-ltb b 241 (omega arith), lt-ltb b 244 (omega arith)) refl
 
-pub returns-then-b-lt245 : goal.returns-then-b-lt245
-unfolding first
-returns-then-b-lt245 c = search (below, not-below, rules) depth 12
+  due-244-244 : 244 ≤ b → b ≤ 244 → AfterF4 ≡ first b
+  unfolding first choose
+  due-244-244 l h = rw (le-ltb b 128 (omega arith), le-ltb b 194 (omega arith), le-ltb b 224 (omega arith), le-ltb b 225 (omega arith), le-ltb b 237 (omega arith), le-ltb b 238 (omega arith), le-ltb b 240 (omega arith), le-ltb b 241 (omega arith), le-ltb b 244 (omega arith), lt-ltb b 245 (omega arith)) refl
 
-pub returns : goal.returns
-unfolding first
-returns c = search (below, not-below, rules) depth 13
+  due-245-255 : 245 ≤ b → Wrong ≡ first b
+  unfolding first choose
+  due-245-255 l = rw (le-ltb b 128 (omega arith), le-ltb b 194 (omega arith), le-ltb b 224 (omega arith), le-ltb b 225 (omega arith), le-ltb b 237 (omega arith), le-ltb b 238 (omega arith), le-ltb b 240 (omega arith), le-ltb b 241 (omega arith), le-ltb b 244 (omega arith), le-ltb b 245 (omega arith)) refl
+
+pub returns-in-0-to-127 : goal.returns-in-0-to-127
+returns-in-0-to-127 c = due-0-127 c.args.b (omega arith)
+
+pub returns-in-128-to-193 : goal.returns-in-128-to-193
+returns-in-128-to-193 c = due-128-193 c.args.b (omega arith) (omega arith)
+
+pub returns-in-194-to-223 : goal.returns-in-194-to-223
+returns-in-194-to-223 c = due-194-223 c.args.b (omega arith) (omega arith)
+
+pub returns-in-224 : goal.returns-in-224
+returns-in-224 c = due-224-224 c.args.b (omega arith) (omega arith)
+
+pub returns-in-225-to-236 : goal.returns-in-225-to-236
+returns-in-225-to-236 c = due-225-236 c.args.b (omega arith) (omega arith)
+
+pub returns-in-237 : goal.returns-in-237
+returns-in-237 c = due-237-237 c.args.b (omega arith) (omega arith)
+
+pub returns-in-238-to-239 : goal.returns-in-238-to-239
+returns-in-238-to-239 c = due-238-239 c.args.b (omega arith) (omega arith)
+
+pub returns-in-240 : goal.returns-in-240
+returns-in-240 c = due-240-240 c.args.b (omega arith) (omega arith)
+
+pub returns-in-241-to-243 : goal.returns-in-241-to-243
+returns-in-241-to-243 c = due-241-243 c.args.b (omega arith) (omega arith)
+
+pub returns-in-244 : goal.returns-in-244
+returns-in-244 c = due-244-244 c.args.b (omega arith) (omega arith)
+
+pub returns-in_default : goal.returns-in_default
+returns-in_default c = due-245-255 c.args.b (omega arith)

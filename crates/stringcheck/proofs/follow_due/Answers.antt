@@ -1,17 +1,14 @@
 -- What a following byte makes due: it lies from low to high, or is wrong
-use Rattle.std.proofs.Common.{rules}
+use Rattle.std.proofs.Common.{arith}
+use Rattle.std.proofs.lemmas.Bool.Decides.{nat_tests}
+use Rattle.meaning.specs.Tests.{choose}
 use Rattle.meaning.specs.Text.{follow}
-use Rattle.stringcheck.proofs.Choices.{below, not-below, at_most, above}
 use Rattle.stringcheck.proofs.follow_due.Goals as goal
 
-pub returns-then-b-low : goal.returns-then-b-low
-unfolding follow
-returns-then-b-low c = search (below, rules)
-
 pub returns-then-b-high : goal.returns-then-b-high
-unfolding follow
-returns-then-b-high c = search (not-below, at_most, rules)
+unfolding follow choose
+returns-then-b-high c = grind (arith, nat_tests)
 
-pub returns : goal.returns
-unfolding follow
-returns c = search (not-below, above, rules)
+pub returns-else-low-b : goal.returns-else-low-b
+unfolding follow choose
+returns-else-low-b c = grind (arith, nat_tests)

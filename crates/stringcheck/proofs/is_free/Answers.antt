@@ -10,6 +10,7 @@ use lib.Seq.{drop-cons}
 use Rattle.meaning.specs.Tests.{◌and◌}
 use Rattle.meaning.specs.Text.{free}
 use Rattle.laws.specs.Tests.{and_assoc, and-true}
+use Rattle.stringcheck.specs.Ranges.{and-is}
 use Rattle.stringcheck.proofs.is_free.Goals as goal
 
 peel : (t : List ℕ) (b i : ℕ) → i < length t → free b (drop i t) ≡ (not (eqb (get_or t i 0) b) and free b (drop (i + 1) t))
@@ -27,12 +28,12 @@ module _ (t : List ℕ) (b i : ℕ) (none : Bool) (is : free b t ≡ (none and f
   unfolding free
   ends h = sym (rw (drop_of_length-le t h) at is ∙ and-true none)
 
-pub loop-i-init : goal.loop-i-init
+pub loop-x-init : goal.loop-x-init
 unfolding ◌and◌
-loop-i-init c = (search rules, refl)
+loop-x-init c = refl
 
-pub loop-i-preserved : goal.loop-i-preserved
-loop-i-preserved c = search (more, rules)
+pub loop-x-preserved : goal.loop-x-preserved
+loop-x-preserved c = search (more, and-is, rules)
 
 pub returns : goal.returns
 returns c = search (ends, rules)

@@ -23,5 +23,5 @@ later s {k = suc k} e f g h = let q : suc k - 1 ≡ k = omega arith in e ∙ rw 
 pub returns-then-k-eq0 : goal.returns-then-k-eq0
 returns-then-k-eq0 c = search (first_of, rules)
 
-pub returns : goal.returns
-returns c = search (later, rules)
+pub returns-else-k-eq0 : goal.returns-else-k-eq0
+returns-else-k-eq0 c = search (later, rules)

@@ -1,13 +1,14 @@
 -- Two bytes that follow, one after the other
-use Rattle.std.proofs.Common.{rules}
-use Rattle.laws.specs.Tests.{fails-here, goes_on}
+use Rattle.std.proofs.Common.{arith}
+use Rattle.std.proofs.lemmas.Bool.Decides.{nat_tests}
+use Rattle.meaning.specs.Tests.{◌and◌}
 use Rattle.stringcheck.specs.Letters.{two_follow}
 use Rattle.stringcheck.proofs.two_follow.Goals as goal
 
-pub returns-then-not-lies : goal.returns-then-not-lies
-unfolding two_follow
-returns-then-not-lies c = search (fails-here, rules)
+pub returns-then-lies : goal.returns-then-lies
+unfolding two_follow ◌and◌
+returns-then-lies c = grind (arith, nat_tests)
 
-pub returns : goal.returns
-unfolding two_follow
-returns c = search (goes_on, rules)
+pub returns-else-lies : goal.returns-else-lies
+unfolding two_follow ◌and◌
+returns-else-lies c = grind (arith, nat_tests)

@@ -1,8 +1,9 @@
 -- What `all` asks of the numbers below n
-use Rattle.std.specs.Prelude.{◌≡◌, Bool, true, false, ◌&&◌, ℕ, zero, suc, ◌+◌, refl}
+use Rattle.std.specs.Prelude.{◌≡◌, Bool, true, false, ◌&&◌, ℕ, zero, suc, ◌+◌, ◌-◌, ◌||◌, eqb, refl}
 use Rattle.std.specs.List.{list_all, range_with_len}
 use Rattle.std.proofs.Common.{◌∙◌, sym, ap, arith}
-use Rattle.meaning.specs.Tests.{◌and◌, all_below}
+use borrow.Author.Tests.{ne_eqb}
+use Rattle.meaning.specs.Tests.{◌and◌, all_below, rises}
 use Rattle.laws.specs.Tests.{all-add, all_same}
 
 pub and-is : (a b : Bool) → (a && b) ≡ (a and b)
@@ -29,3 +30,12 @@ all-from test a (suc n) =
 -- every number below n passes
 pub all-range : (test : ℕ → Bool) (n : ℕ) → list_all test (range_with_len 0 n) ≡ all_below n test
 all-range test n = all-from test 0 n ∙ all_same (λ j. test (0 + j)) test n (λ i h. ap test (omega arith))
+
+-- number i is the first, or comes after the one before it
+pub rises-is : (before : ℕ → ℕ → Bool) (i : ℕ) → rises before i ≡ (eqb i 0 || before (i - 1) i)
+unfolding rises
+rises-is before zero = refl
+rises-is before (suc i) =
+    let q : suc i - 1 ≡ i = omega arith in
+    let later : eqb (suc i) 0 ≡ false = ne_eqb (suc i) 0 (λ e. omega (arith, e)) in
+    rw (q, later) refl

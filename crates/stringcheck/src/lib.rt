@@ -261,7 +261,7 @@ pub fn larger_byte(a: u8, b: u8) -> u8
 fn greatest_byte(t: &[u8]) -> u8
     ensures { result ≡ greatest (length t.now) (λ i. get_or t.now i 0) }
 {
-    let mut top = 0;
+    let mut top = 0u8;
     for b in t {
         top = top.max(*b);
     }

@@ -3,18 +3,12 @@ use mathlib.Core.Path.{◌≡◌, refl, sym, ◌∙◌}
 use mathlib.Core.Bool.{Bool}
 use Prim.Native.Nat.{ℕ, ◌+◌, ◌<◌}
 use native.Mathlib.Omega.{arith}
-use lib.Dec.{eqb, leb, ltb}
+use lib.Dec.{eqb}
 use borrow.Author.Tests.{eq-eqb}
 use Rattle.laws.specs.Tests.{Passing, all_more}
 
 pub word-is : {w d : ℕ} (m : ℕ) → w ≡ d → eqb w m ≡ eqb d m
 word-is m e = rw e refl
-
-pub word-most : {w d : ℕ} (m : ℕ) → w ≡ d → leb w m ≡ leb d m
-word-most m e = rw e refl
-
-pub word_below : {w d k n : ℕ} → w ≡ d → k ≡ n → ltb w k ≡ ltb d n
-word_below e f = rw (e, f) refl
 
 -- of a loop that stops at a word other than m
 pub word-passes : {test : ℕ → Bool} {n i w : ℕ} (m : ℕ) → Passing test n i → i < n → w ≡ m → eqb w m ≡ test i → Passing test n (i + 1)

@@ -124,7 +124,7 @@ last-two true true false = refl
 last-two true false true = refl
 last-two true false false = refl
 
-object-is : (s : List ℕ) (v first i : ℕ) → object_item s v first i ≡ (object_name s first i and ltb (member_word s (first + i) 1) v)
+pub object-is : (s : List ℕ) (v first i : ℕ) → object_item s v first i ≡ (object_name s first i and ltb (member_word s (first + i) 1) v)
 unfolding object_item object_name
 object-is s v first i = last-two _ _ _
 

@@ -5,14 +5,14 @@
 ghost use Rattle.std.specs.Prelude.{◌≡◌, Bool, true, false, ◌+◌, ◌*◌, ◌/◌, ◌<◌, ◌≤◌, max, get_or};
 ghost use Rattle.meaning.specs.Tests.{◌and◌, all_below, greatest};
 ghost use Rattle.meaning.specs.Case.{values, members, member_word};
-ghost use Rattle.meaning.specs.Check.{bodies, mosts, in_table, member_rule, array_item, object_item, value_rule, value_rules, depth_rule, depth, part_count, part_value, literal};
+ghost use Rattle.meaning.specs.Check.{bodies, mosts, in_table, member_rule, array_item, object_item, rest_zero, value_rule, value_rules, depth_rule, depth, part_count, part_value, literal};
 ghost use Rattle.laws.specs.Tests.{Filled};
 ghost use Rattle.laws.specs.Values.{Runs};
 ghost use Rattle.valuecheck.specs.Blocks.{top_of, object_name, object_top, Lower, Depths, Marked};
 
 use meaning::ValNo;
-use stringcheck::{larger_byte, member_count, string_count, value_count};
-use tables::{both, either, member_word, value_word, wide};
+use stringcheck::{member_count, string_count, value_count};
+use tables::{member_word, value_word};
 
 // ---- members
 
@@ -21,25 +21,14 @@ fn member_rule(s: &[u8], m: usize) -> bool
     ensures { ◌≡◌ {A = Bool} result (member_rule s.now m) }
 {
     let name = member_word(s, m, 0);
-    let held = member_word(s, m, 1);
-    let strings = string_count(s);
-    let values = value_count(s);
-    both(either(name == 4294967295, name < strings), held < values)
+    (name == u32::MAX || name < string_count(s)) && member_word(s, m, 1) < value_count(s)
 }
 
 fn check_members(s: &[u8]) -> bool
     requires { bodies s.now ≡ true }
     ensures { ◌≡◌ {A = Bool} result (all_below (members s.now) (member_rule s.now)) }
 {
-    let n = wide(member_count(s));
-    let mut m = 0;
-    while m < n {
-        if !member_rule(s, m) {
-            return false;
-        }
-        m += 1;
-    }
-    true
+    (0..member_count(s) as usize).all(|m| member_rule(s, m))
 }
 
 // ---- arrays and objects
@@ -48,28 +37,16 @@ fn array_item(s: &[u8], v: u32, first: u32, i: u32) -> bool
     requires { bodies s.now ≡ true }
     ensures { ◌≡◌ {A = Bool} result (array_item s.now v first i) }
 {
-    let at = wide(first) + wide(i);
-    let name = member_word(s, at, 0);
-    let held = member_word(s, at, 1);
-    both(name == 4294967295, held < v)
+    let at = first as usize + i as usize;
+    member_word(s, at, 0) == u32::MAX && member_word(s, at, 1) < v
 }
 
 fn object_item(s: &[u8], v: u32, first: u32, i: u32) -> bool
     requires { bodies s.now ≡ true }
     ensures { ◌≡◌ {A = Bool} result (object_item s.now v first i) }
 {
-    let at = wide(first) + wide(i);
-    let name = member_word(s, at, 0);
-    if string_count(s) <= name {
-        return false;
-    }
-    if v <= member_word(s, at, 1) {
-        return false;
-    }
-    if i == 0 {
-        return true;
-    }
-    member_word(s, at - 1, 0) < name
+    let (first, i) = (first as usize, i as usize);
+    name_follows(s, first, i) && member_word(s, first + i, 1) < v
 }
 
 // an array may hold the whole of the block from `at` on if its number is above this
@@ -78,14 +55,12 @@ fn block_top(s: &[u8], at: usize) -> u32
     requires at_bound { at < 4294967296 }
     ensures { result ≡ top_of s.now at }
 {
-    let mut top = 0;
-    let mut i = 0;
-    while i < 512 {
-        if member_word(s, at + i, 0) != 4294967295 {
-            return 4294967295;
+    let mut top = 0u32;
+    for i in 0..512 {
+        if member_word(s, at + i, 0) != u32::MAX {
+            return u32::MAX;
         }
-        top = larger(top, member_word(s, at + i, 1));
-        i += 1;
+        top = top.max(member_word(s, at + i, 1));
     }
     top
 }
@@ -93,7 +68,7 @@ fn block_top(s: &[u8], at: usize) -> u32
 pub fn larger(a: u32, b: u32) -> u32
     ensures { result ≡ max a b }
 {
-    if a < b { b } else { a }
+    a.max(b)
 }
 
 fn block_tops(s: &[u8]) -> [u32; 1024]
@@ -101,12 +76,9 @@ fn block_tops(s: &[u8]) -> [u32; 1024]
     requires s_value_2 { mosts s.now ≡ true }
     ensures { Filled 0 (λ b. top_of s.now (512 * b)) result (members s.now / 512) }
 {
-    let n = wide(member_count(s)) / 512;
     let mut tops = [0u32; 1024];
-    let mut b = 0;
-    while b < n {
+    for b in 0..member_count(s) as usize / 512 {
         tops[b] = block_top(s, 512 * b);
-        b += 1;
     }
     tops
 }
@@ -119,8 +91,9 @@ fn array_items(s: &[u8], tops: &[u32; 1024], v: u32, first: u32, items: u32) -> 
     ensures { ◌≡◌ {A = Bool} result (all_below items (array_item s.now v first)) }
 {
     let mut i = 0;
+    // a while: it goes on by an item or by a block
     while i < items {
-        let at = wide(first) + wide(i);
+        let at = first as usize + i as usize;
         if at % 512 != 0 || items - i < 512 {
             if !array_item(s, v, first, i) {
                 return false;
@@ -128,8 +101,7 @@ fn array_items(s: &[u8], tops: &[u32; 1024], v: u32, first: u32, items: u32) -> 
             i += 1;
             continue;
         }
-        let b = at / 512;
-        if v <= tops[b] {
+        if v <= tops[at / 512] {
             return false;
         }
         i += 512;
@@ -141,17 +113,11 @@ fn array_items(s: &[u8], tops: &[u32; 1024], v: u32, first: u32, items: u32) -> 
 fn name_follows(s: &[u8], at: usize, i: usize) -> bool
     requires s_value { bodies s.now ≡ true }
     requires at_bound { at < 4294967296 }
-    requires i_bound { i < 512 }
+    requires i_bound { i < 4294967296 }
     ensures { ◌≡◌ {A = Bool} result (object_name s.now at i) }
 {
     let name = member_word(s, at + i, 0);
-    if string_count(s) <= name {
-        return false;
-    }
-    if i == 0 {
-        return true;
-    }
-    member_word(s, at + i - 1, 0) < name
+    name < string_count(s) && (i == 0 || member_word(s, at + i - 1, 0) < name)
 }
 
 // an object may hold the block from `at` on, whose first name follows what is before it, if its number is above this
@@ -160,14 +126,12 @@ fn object_top(s: &[u8], at: usize) -> u32
     requires at_bound { at < 4294967296 }
     ensures { result ≡ object_top s.now at }
 {
-    let mut top = 0;
-    let mut i = 0;
-    while i < 512 {
+    let mut top = 0u32;
+    for i in 0..512 {
         if !name_follows(s, at, i) {
-            return 4294967295;
+            return u32::MAX;
         }
-        top = larger(top, member_word(s, at + i, 1));
-        i += 1;
+        top = top.max(member_word(s, at + i, 1));
     }
     top
 }
@@ -177,12 +141,9 @@ fn object_tops(s: &[u8]) -> [u32; 1024]
     requires s_value_2 { mosts s.now ≡ true }
     ensures { Filled 0 (λ b. object_top s.now (512 * b)) result (members s.now / 512) }
 {
-    let n = wide(member_count(s)) / 512;
     let mut tops = [0u32; 1024];
-    let mut b = 0;
-    while b < n {
+    for b in 0..member_count(s) as usize / 512 {
         tops[b] = object_top(s, 512 * b);
-        b += 1;
     }
     tops
 }
@@ -195,17 +156,17 @@ fn object_items(s: &[u8], tops: &[u32; 1024], v: u32, first: u32, items: u32) ->
     ensures { ◌≡◌ {A = Bool} result (all_below items (object_item s.now v first)) }
 {
     let mut i = 0;
+    // a while: it goes on by an item or by a block
     while i < items {
         if !object_item(s, v, first, i) {
             return false;
         }
-        let at = wide(first) + wide(i);
+        let at = first as usize + i as usize;
         if at % 512 != 0 || items - i < 512 {
             i += 1;
             continue;
         }
-        let b = at / 512;
-        if v <= tops[b] {
+        if v <= tops[at / 512] {
             return false;
         }
         i += 512;
@@ -213,31 +174,23 @@ fn object_items(s: &[u8], tops: &[u32; 1024], v: u32, first: u32, items: u32) ->
     true
 }
 
-fn array_run(s: &[u8], tops: &[u32; 1024], v: u32, first: u32, items: u32) -> bool
-    requires s_value { bodies s.now ≡ true }
-    requires s_value_2 { mosts s.now ≡ true }
-    requires filled { Filled 0 (λ b. top_of s.now (512 * b)) tops.now (members s.now / 512) }
-    ensures { ◌≡◌ {A = Bool} result (in_table (members s.now) 1 first items and all_below items (array_item s.now v first)) }
+// a run of items lies among the members
+fn in_members(s: &[u8], first: u32, items: u32) -> bool
+    requires { bodies s.now ≡ true }
+    ensures { ◌≡◌ {A = Bool} result (in_table (members s.now) 1 first items) }
 {
-    if wide(member_count(s)) < wide(first) + wide(items) {
-        return false;
-    }
-    array_items(s, tops, v, first, items)
-}
-
-fn object_run(s: &[u8], tops: &[u32; 1024], v: u32, first: u32, items: u32) -> bool
-    requires s_value { bodies s.now ≡ true }
-    requires s_value_2 { mosts s.now ≡ true }
-    requires filled { Filled 0 (λ b. object_top s.now (512 * b)) tops.now (members s.now / 512) }
-    ensures { ◌≡◌ {A = Bool} result (in_table (members s.now) 1 first items and all_below items (object_item s.now v first)) }
-{
-    if wide(member_count(s)) < wide(first) + wide(items) {
-        return false;
-    }
-    object_items(s, tops, v, first, items)
+    first as usize + items as usize <= member_count(s) as usize
 }
 
 // ---- values
+
+// words b and c are unused
+fn rest_zero(s: &[u8], v: u32) -> bool
+    requires { bodies s.now ≡ true }
+    ensures { ◌≡◌ {A = Bool} result (rest_zero s.now v) }
+{
+    value_word(s, ValNo(v), 2) == 0 && value_word(s, ValNo(v), 3) == 0
+}
 
 fn value_rule(s: &[u8], tops: &[u32; 1024], objects: &[u32; 1024], v: u32) -> bool
     requires s_value { bodies s.now ≡ true }
@@ -251,15 +204,15 @@ fn value_rule(s: &[u8], tops: &[u32; 1024], objects: &[u32; 1024], v: u32) -> bo
     let a = value_word(s, ValNo(v), 1);
     let b = value_word(s, ValNo(v), 2);
     let c = value_word(s, ValNo(v), 3);
+    // kinds by number: the words that a kind leaves unused have rules too, which no enum of values has
     match kind {
-        0 => both(a == 0, both(b == 0, c == 0)),
-        1 => both(a <= 1, both(b == 0, c == 0)),
+        0 => a == 0 && rest_zero(s, v),
+        1 => a <= 1 && rest_zero(s, v),
         2 => c == 0,
-        3 => both(a < n, both(b == 0, c == 0)),
-        4 => both(a < n, both(b == 0, c == 0)),
-        5 => both(a < n, both(b < n, c == 0)),
-        6 => both(c == 0, array_run(s, tops, v, a, b)),
-        7 => both(c == 0, object_run(s, objects, v, a, b)),
+        3 | 4 => a < n && rest_zero(s, v),
+        5 => a < n && b < n && c == 0,
+        6 => c == 0 && in_members(s, a, b) && array_items(s, tops, v, a, b),
+        7 => c == 0 && in_members(s, a, b) && object_items(s, objects, v, a, b),
         _ => false,
     }
 }
@@ -269,17 +222,9 @@ fn check_each_value(s: &[u8]) -> bool
     requires s_value_2 { mosts s.now ≡ true }
     ensures { ◌≡◌ {A = Bool} result (all_below (values s.now) (value_rule s.now)) }
 {
-    let n = value_count(s);
     let tops = block_tops(s);
     let objects = object_tops(s);
-    let mut v = 0;
-    while v < n {
-        if !value_rule(s, &tops, &objects, v) {
-            return false;
-        }
-        v += 1;
-    }
-    true
+    (0..value_count(s)).all(|v| value_rule(s, &tops, &objects, v))
 }
 
 // ---- depth: children are lower, so one pass upward; a block's greatest depth is kept once it is known
@@ -293,12 +238,10 @@ fn block_depth(s: &[u8], depths: &[u8; 16384], at: usize, v: u32) -> u8
     requires lower { Lower s.now v at 512 }
     ensures { result ≡ greatest 512 (λ j. depth s.now (member_word s.now (at + j) 1)) }
 {
-    let mut best = 0;
-    let mut i = 0;
-    while i < 512 {
-        let held = wide(member_word(s, at + i, 1));
-        best = larger_byte(best, depths[held]);
-        i += 1;
+    let mut best = 0u8;
+    for i in 0..512 {
+        let held = member_word(s, at + i, 1) as usize;
+        best = best.max(depths[held]);
     }
     best
 }
@@ -316,28 +259,29 @@ fn deepest(s: &[u8], depths: &[u8; 16384], blocks: &mut [u8; 1024], v: u32) -> u
     if value_word(s, ValNo(v), 0) < 6 {
         return 0;
     }
-    let first = wide(value_word(s, ValNo(v), 1));
-    let items = wide(value_word(s, ValNo(v), 2));
-    let mut best = 0;
+    let first = value_word(s, ValNo(v), 1) as usize;
+    let items = value_word(s, ValNo(v), 2) as usize;
+    let mut best = 0u8;
     let mut i = 0;
+    // a while: it goes on by an item or by a block
     while i < items {
         let at = first + i;
         if at % 512 != 0 || items - i < 512 {
-            let held = wide(member_word(s, at, 1));
-            best = larger_byte(best, depths[held]);
+            let held = member_word(s, at, 1) as usize;
+            best = best.max(depths[held]);
             i += 1;
             continue;
         }
         let b = at / 512;
         let known = blocks[b];
         if known != 0 {
-            best = larger_byte(best, known);
+            best = best.max(known);
             i += 512;
             continue;
         }
         let found = block_depth(s, depths, at, v);
         blocks[b] = found;
-        best = larger_byte(best, found);
+        best = best.max(found);
         i += 512;
     }
     best
@@ -349,18 +293,14 @@ fn check_depths(s: &[u8]) -> bool
     requires s_value_3 { all_below (values s.now) (value_rule s.now) ≡ true }
     ensures { ◌≡◌ {A = Bool} result (all_below (values s.now) (depth_rule s.now)) }
 {
-    let n = value_count(s);
     let mut depths = [0u8; 16384];
     let mut blocks = [0u8; 1024];
-    let mut v = 0;
-    while v < n {
+    for v in 0..value_count(s) {
         let d = deepest(s, &depths, &mut blocks, v);
         if 32 <= d {
             return false;
         }
-        let at = wide(v);
-        depths[at] = d + 1;
-        v += 1;
+        depths[v as usize] = d + 1;
     }
     true
 }
@@ -370,13 +310,7 @@ pub fn check_values(s: &[u8]) -> bool
     requires s_value_2 { mosts s.now ≡ true }
     ensures { ◌≡◌ {A = Bool} result (value_rules s.now) }
 {
-    if !check_members(s) {
-        return false;
-    }
-    if !check_each_value(s) {
-        return false;
-    }
-    check_depths(s)
+    check_members(s) && check_each_value(s) && check_depths(s)
 }
 
 // ---- what holds throughout a value: one table of marks, filled upward; a block that is marked throughout is kept
@@ -389,13 +323,11 @@ fn block_marked(s: &[u8], marks: &[bool; 16384], at: usize, v: u32) -> bool
     requires lower { Lower s.now v at 512 }
     ensures { ◌≡◌ {A = Bool} result (all_below 512 (λ j. get_or marks.now (member_word s.now (at + j) 1) false)) }
 {
-    let mut i = 0;
-    while i < 512 {
-        let held = wide(member_word(s, at + i, 1));
+    for i in 0..512 {
+        let held = member_word(s, at + i, 1) as usize;
         if !marks[held] {
             return false;
         }
-        i += 1;
     }
     true
 }
@@ -413,13 +345,14 @@ pub fn parts_marked(s: &[u8], marks: &[bool; 16384], blocks: &mut [bool; 1024], 
     if kind < 6 {
         return true;
     }
-    let first = wide(value_word(s, ValNo(v), 1));
-    let items = wide(value_word(s, ValNo(v), 2));
+    let first = value_word(s, ValNo(v), 1) as usize;
+    let items = value_word(s, ValNo(v), 2) as usize;
     let mut i = 0;
+    // a while: it goes on by an item or by a block
     while i < items {
         let at = first + i;
         if at % 512 != 0 || items - i < 512 {
-            let held = wide(member_word(s, at, 1));
+            let held = member_word(s, at, 1) as usize;
             if !marks[held] {
                 return false;
             }
@@ -447,17 +380,12 @@ pub fn literal_values(s: &[u8]) -> [bool; 16384]
     requires s_value_3 { all_below (values s.now) (value_rule s.now) ≡ true }
     ensures { Filled false (literal s.now) result (values s.now) }
 {
-    let n = value_count(s);
     let mut marks = [false; 16384];
     let mut blocks = [false; 1024];
-    let mut v = 0;
-    while v < n {
+    for v in 0..value_count(s) {
         let kind = value_word(s, ValNo(v), 0);
-        let barred = either(kind == 0, kind == 7);
         let whole = parts_marked(s, &marks, &mut blocks, v);
-        let at = wide(v);
-        marks[at] = both(!barred, whole);
-        v += 1;
+        marks[v as usize] = whole & (kind != 0) & (kind != 7);
     }
     marks
 }

@@ -1,5 +1,5 @@
 -- All that a block holds is marked
-use Prim.Native.Nat.{◌+◌, ◌-◌}
+use Prim.Native.Nat.{◌+◌}
 use lib.ListN.{get_or}
 use mathlib.Core.Bool.{false}
 use Rattle.meaning.specs.Case.{member_word}
@@ -8,6 +8,3 @@ use Rattle.valuecheck.proofs.block_marked.Given as goal
 
 abbrev pub invariant-loop-i : goal.invariant-loop-i
 invariant-loop-i l = Passing (λ j. get_or l.marks (member_word l.s (l.at + j) 1) false) 512 l.i
-
-abbrev pub decreases-loop-i : goal.decreases-loop-i
-decreases-loop-i l = 512 - l.i

@@ -1,22 +1,13 @@
-use Rattle.std.proofs.Common.{rules}
-use Prim.Native.Nat.{ℕ}
-use mathlib.Core.Path.{◌≡◌, ◌∙◌}
-use Rattle.meaning.specs.Case.{members}
-use Rattle.laws.specs.Tests.{passing-none, passing-more, passing-no, passing-all}
-use mathlib.Core.List.{List}
+-- Every member passes
+use Rattle.std.proofs.Common.{◌∙◌, rules, tests, ap, arith, refl, ℕ}
+use Rattle.std.proofs.lemmas.Iterator.{YieldsList-from_range}
+use Rattle.std.proofs.lemmas.Iterator.Search.{all_from_yields_List}
+use Rattle.meaning.specs.Check.{member_rule}
+use Rattle.meaning.specs.Tests.{all_below}
+use Rattle.stringcheck.specs.Ranges.{all-range}
 use Rattle.valuecheck.proofs.check_members.Goals as goal
 
-counted : (s : List ℕ) {n m : ℕ} → m ≡ members s → n ≡ m → n ≡ members s
-counted s e f = f ∙ e
-
-pub loop-m-init : goal.loop-m-init
-loop-m-init c = search (passing-none, rules)
-
-pub returns-then-not-member_rule : goal.returns-then-not-member_rule
-returns-then-not-member_rule c = search (passing-no, counted, rules)
-
-pub loop-m-preserved : goal.loop-m-preserved
-loop-m-preserved c = search (passing-more, rules)
-
 pub returns : goal.returns
-returns c = search (passing-all, counted, rules)
+returns c =
+    let e = all_from_yields_List (member_rule c.args.s.now) _ _ c.all.result c.all.ensures.ran (YieldsList-from_range 0 c.member_count.result c.member_count.result refl (omega arith)) (λ x b q k. search (rules, tests)) in
+    e ∙ all-range _ _ ∙ ap (λ (n : ℕ). all_below n (member_rule c.args.s.now)) c.member_count.ensures

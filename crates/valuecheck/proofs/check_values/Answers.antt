@@ -1,20 +1,14 @@
 -- The rules of values, one after the other
-use Rattle.std.proofs.Common.{rules}
+use Rattle.std.proofs.Common.{arith}
+use Rattle.std.proofs.lemmas.Bool.Decides.{nat_tests}
+use Rattle.meaning.specs.Tests.{◌and◌}
 use Rattle.meaning.specs.Check.{value_rules}
-use Rattle.laws.specs.Tests.{said, fails-here, fails-later, goes_on}
 use Rattle.valuecheck.proofs.check_values.Goals as goal
 
-pub returns-then-not-check_members : goal.returns-then-not-check_members
-unfolding value_rules
-returns-then-not-check_members c = search (fails-here, rules)
+pub returns-then-check_each_value : goal.returns-then-check_each_value
+unfolding value_rules ◌and◌
+returns-then-check_each_value c = grind (arith, nat_tests)
 
-pub returns-then-not-check_each_value : goal.returns-then-not-check_each_value
-unfolding value_rules
-returns-then-not-check_each_value c = search (fails-later, fails-here, rules)
-
-pub check_depths-requires : goal.check_depths-requires
-check_depths-requires c = search (said, rules)
-
-pub returns : goal.returns
-unfolding value_rules
-returns c = search (goes_on, rules)
+pub returns-else-check_each_value : goal.returns-else-check_each_value
+unfolding value_rules ◌and◌
+returns-else-check_each_value c = grind (arith, nat_tests)

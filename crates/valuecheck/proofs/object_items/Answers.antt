@@ -35,8 +35,8 @@ returns-then-not-object_item c = search (passing-no, rules)
 pub loop-i-preserved-then-at-ne0 : goal.loop-i-preserved-then-at-ne0
 loop-i-preserved-then-at-ne0 c = search (passing-more, rules)
 
-pub bounds-tops-b : goal.bounds-tops-b
-bounds-tops-b c = search (in_tops, rules)
+pub bounds-tops-at : goal.bounds-tops-at
+bounds-tops-at c = search (in_tops, rules)
 
 pub returns-then-v-tops : goal.returns-then-v-tops
 returns-then-v-tops c = search (block_no, rules)

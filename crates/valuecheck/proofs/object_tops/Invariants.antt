@@ -1,11 +1,8 @@
 -- What is kept of each block of members for objects, as a table filled from the front
-use Prim.Native.Nat.{◌*◌, ◌-◌}
+use Prim.Native.Nat.{◌*◌}
 use Rattle.stringcheck.specs.Tables.{Filling}
 use Rattle.valuecheck.specs.Blocks.{object_top}
 use Rattle.valuecheck.proofs.object_tops.Given as goal
 
 abbrev pub invariant-loop-b : goal.invariant-loop-b
-invariant-loop-b l = Filling 0 (λ b. object_top l.s (512 * b)) 1024 l.n l.tops l.b
-
-abbrev pub decreases-loop-b : goal.decreases-loop-b
-decreases-loop-b l = l.n - l.b
+invariant-loop-b l = Filling 0 (λ b. object_top l.s (512 * b)) 1024 l.b-end l.tops l.b

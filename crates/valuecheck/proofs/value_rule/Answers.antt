@@ -1,15 +1,13 @@
 -- The rule of a value, by its kind
-use Rattle.std.proofs.Common.{rules, []}
+use Rattle.std.proofs.Common.{rules, [], arith, inl, inr, ◌⊎◌, ltb, ltb-true, ltb-false, ◌≤◌}
+use Rattle.std.proofs.lemmas.Bool.Decides.{nat_tests}
 use Prim.Native.Nat.{suc, zero, ℕ}
-use lib.Dec.{eqb}
-use mathlib.Core.Bool.{Bool, false}
+use mathlib.Core.Bool.{Bool, true, false}
 use mathlib.Core.List.{List, ◌∷◌}
 use mathlib.Core.Path.{◌∙◌, ◌≡◌, ap, refl, sym}
-use Rattle.meaning.specs.Case.{members, value_word}
-use Rattle.meaning.specs.Check.{array_item, array_rule, bool_rule, entity_value_rule, in_table, int_rule, no_kind, null_rule, object_item, object_rule, text_rule, value_rule}
-use Rattle.laws.specs.Tests.{and3}
-use Rattle.meaning.specs.Tests.{◌and◌, all_below, pick}
-use Rattle.valuecheck.proofs.Words.{word-is, word-most, word_below}
+use Rattle.meaning.specs.Case.{value_word}
+use Rattle.meaning.specs.Check.{array_rule, bool_rule, entity_value_rule, int_rule, no_kind, null_rule, object_rule, text_rule, value_rule}
+use Rattle.meaning.specs.Tests.{◌and◌, pick}
 use Rattle.valuecheck.proofs.value_rule.Goals as goal
 
 kinds : (s : List ℕ) → List (ℕ → Bool)
@@ -19,59 +17,80 @@ of : (s : List ℕ) (v : ℕ) {q k : ℕ} {r : Bool} → q ≡ value_word s v 0 
 unfolding kinds value_rule
 of s v e f g = g ∙ ap (λ (n : ℕ). pick (kinds s) n (no_kind s) v) (sym f ∙ e)
 
-module _ (s : List ℕ) (v : ℕ) {a b d : ℕ} {x r : Bool} (e : r ≡ (eqb d 0 and x)) (ea : a ≡ value_word s v 1) (eb : b ≡ value_word s v 2) (ed : d ≡ value_word s v 3) where
-  array-read : x ≡ (in_table (members s) 1 a b and all_below b (array_item s v a)) → r ≡ array_rule s v
-  array-read h = e ∙ rw (h, ea, eb, ed)
-
-  object-read : x ≡ (in_table (members s) 1 a b and all_below b (object_item s v a)) → r ≡ object_rule s v
-  object-read h = e ∙ rw (h, ea, eb, ed)
-
-none_of : (s : List ℕ) (v q : ℕ) → (q ≡ 0 → ⊥) → (q ≡ 1 → ⊥) → (q ≡ 2 → ⊥) → (q ≡ 3 → ⊥) → (q ≡ 4 → ⊥) → (q ≡ 5 → ⊥) → (q ≡ 6 → ⊥) → (q ≡ 7 → ⊥) → false ≡ pick (kinds s) q (no_kind s) v
+text_of : (s : List ℕ) (v : ℕ) {q : ℕ} {r : Bool} → q ≡ value_word s v 0 → 3 ≤ q → q ≤ 4 → r ≡ text_rule s v → r ≡ value_rule s v
 unfolding kinds pick
-none_of s v zero a b c d e f g h = absurd (a refl)
-none_of s v (suc zero) a b c d e f g h = absurd (b refl)
-none_of s v (suc (suc zero)) a b c d e f g h = absurd (c refl)
-none_of s v (suc (suc (suc zero))) a b c d e f g h = absurd (d refl)
-none_of s v (suc (suc (suc (suc zero)))) a b c d e f g h = absurd (e refl)
-none_of s v (suc (suc (suc (suc (suc zero))))) a b c d e f g h = absurd (f refl)
-none_of s v (suc (suc (suc (suc (suc (suc zero)))))) a b c d e f g h = absurd (g refl)
-none_of s v (suc (suc (suc (suc (suc (suc (suc zero))))))) a b c d e f g h = absurd (h refl)
-none_of s v (suc (suc (suc (suc (suc (suc (suc (suc n)))))))) a b c d e f g h = refl
+text_of s v {q} {r} e l h f = go (ltb q 4) refl
+  where
+    go : (t : Bool) → ltb q 4 ≡ t → r ≡ value_rule s v
+    go true z = let three : q ≡ 3 = omega (arith, ltb-true q 4 z) in of s v e three f
+    go false z = let four : q ≡ 4 = omega (arith, ltb-false q 4 z) in of s v e four f
 
-other : (s : List ℕ) (v : ℕ) {q : ℕ} → q ≡ value_word s v 0 → (q ≡ 0 → ⊥) → (q ≡ 1 → ⊥) → (q ≡ 2 → ⊥) → (q ≡ 3 → ⊥) → (q ≡ 4 → ⊥) → (q ≡ 5 → ⊥) → (q ≡ 6 → ⊥) → (q ≡ 7 → ⊥) → false ≡ value_rule s v
-other s v {q} i a b c d e f g h = of s v i refl (none_of s v q a b c d e f g h)
-
-pub returns-in-0 : goal.returns-in-0
+none_of : (s : List ℕ) (v q : ℕ) → (q ≡ 0 → ⊥) → (q ≡ 1 → ⊥) → (q ≡ 2 → ⊥) → ((q ≡ 3) ⊎ (q ≡ 4) → ⊥) → (q ≡ 5 → ⊥) → (q ≡ 6 → ⊥) → (q ≡ 7 → ⊥) → false ≡ pick (kinds s) q (no_kind s) v
 unfolding kinds pick
-returns-in-0 c = search (of, and3, word-is, rules)
+none_of s v zero a b c d f g h = absurd (a refl)
+none_of s v (suc zero) a b c d f g h = absurd (b refl)
+none_of s v (suc (suc zero)) a b c d f g h = absurd (c refl)
+none_of s v (suc (suc (suc zero))) a b c d f g h = absurd (d (inl refl))
+none_of s v (suc (suc (suc (suc zero)))) a b c d f g h = absurd (d (inr refl))
+none_of s v (suc (suc (suc (suc (suc zero))))) a b c d f g h = absurd (f refl)
+none_of s v (suc (suc (suc (suc (suc (suc zero)))))) a b c d f g h = absurd (g refl)
+none_of s v (suc (suc (suc (suc (suc (suc (suc zero))))))) a b c d f g h = absurd (h refl)
+none_of s v (suc (suc (suc (suc (suc (suc (suc (suc n)))))))) a b c d f g h = refl
 
-pub returns-in-1 : goal.returns-in-1
-unfolding kinds pick
-returns-in-1 c = search (of, and3, word-is, word-most, rules)
+other : (s : List ℕ) (v : ℕ) {q : ℕ} → q ≡ value_word s v 0 → (q ≡ 0 → ⊥) → (q ≡ 1 → ⊥) → (q ≡ 2 → ⊥) → ((q ≡ 3) ⊎ (q ≡ 4) → ⊥) → (q ≡ 5 → ⊥) → (q ≡ 6 → ⊥) → (q ≡ 7 → ⊥) → false ≡ value_rule s v
+other s v {q} i a b c d f g h = of s v i refl (none_of s v q a b c d f g h)
+
+pub returns-then-a-eq0 : goal.returns-then-a-eq0
+unfolding kinds pick ◌and◌
+returns-then-a-eq0 c = of _ _ c.value_word-kind.ensures c.in-0.is (grind (arith, nat_tests))
+
+pub returns-else-a-eq0 : goal.returns-else-a-eq0
+unfolding kinds pick ◌and◌
+returns-else-a-eq0 c = of _ _ c.value_word-kind.ensures c.in-0.is (grind (arith, nat_tests))
+
+pub returns-then-a-le1 : goal.returns-then-a-le1
+unfolding kinds pick ◌and◌
+returns-then-a-le1 c = of _ _ c.value_word-kind.ensures c.in-1.is (grind (arith, nat_tests))
+
+pub returns-else-a-le1 : goal.returns-else-a-le1
+unfolding kinds pick ◌and◌
+returns-else-a-le1 c = of _ _ c.value_word-kind.ensures c.in-1.is (grind (arith, nat_tests))
+
+pub returns-then-a-n-2 : goal.returns-then-a-n-2
+unfolding kinds pick ◌and◌
+returns-then-a-n-2 c = text_of _ _ c.value_word-kind.ensures (omega arith) (omega arith) (grind (arith, nat_tests))
+
+pub returns-else-a-n-2 : goal.returns-else-a-n-2
+unfolding kinds pick ◌and◌
+returns-else-a-n-2 c = text_of _ _ c.value_word-kind.ensures (omega arith) (omega arith) (grind (arith, nat_tests))
+
+pub returns-then-b-n : goal.returns-then-b-n
+unfolding kinds pick ◌and◌
+returns-then-b-n c = of _ _ c.value_word-kind.ensures c.in-5.is (grind (arith, nat_tests))
+
+pub returns-else-b-n : goal.returns-else-b-n
+unfolding kinds pick ◌and◌
+returns-else-b-n c = of _ _ c.value_word-kind.ensures c.in-5.is (grind (arith, nat_tests))
+
+pub returns-then-in_members : goal.returns-then-in_members
+unfolding kinds pick ◌and◌
+returns-then-in_members c = of _ _ c.value_word-kind.ensures c.in-6.is (grind (arith, nat_tests))
+
+pub returns-else-in_members : goal.returns-else-in_members
+unfolding kinds pick ◌and◌
+returns-else-in_members c = of _ _ c.value_word-kind.ensures c.in-6.is (grind (arith, nat_tests))
+
+pub returns-then-in_members-2 : goal.returns-then-in_members-2
+unfolding kinds pick ◌and◌
+returns-then-in_members-2 c = of _ _ c.value_word-kind.ensures c.in-7.is (grind (arith, nat_tests))
+
+pub returns-else-in_members-2 : goal.returns-else-in_members-2
+unfolding kinds pick ◌and◌
+returns-else-in_members-2 c = of _ _ c.value_word-kind.ensures c.in-7.is (grind (arith, nat_tests))
 
 pub returns-in-2 : goal.returns-in-2
 unfolding kinds pick
-returns-in-2 c = search (of, word-is, rules)
-
-pub returns-in-3 : goal.returns-in-3
-unfolding kinds pick
-returns-in-3 c = search (of, and3, word-is, word_below, rules)
-
-pub returns-in-4 : goal.returns-in-4
-unfolding kinds pick
-returns-in-4 c = search (of, and3, word-is, word_below, rules)
-
-pub returns-in-5 : goal.returns-in-5
-unfolding kinds pick
-returns-in-5 c = search (of, and3, word-is, word_below, rules)
-
-pub returns-in-6 : goal.returns-in-6
-unfolding kinds pick
-returns-in-6 c = search (of, array-read, rules)
-
-pub returns-in-7 : goal.returns-in-7
-unfolding kinds pick
-returns-in-7 c = search (of, object-read, rules)
+returns-in-2 c = of _ _ c.value_word-kind.ensures c.in-2.is (grind (arith, nat_tests))
 
 pub returns-in_default : goal.returns-in_default
 returns-in_default c = search (other, rules)

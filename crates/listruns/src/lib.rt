@@ -3,21 +3,20 @@
 #![tactic(auto)]
 
 ghost use Rattle.std.specs.Prelude.{◌≡◌, Bool, true, ◌+◌, ◌<◌, ltb};
-ghost use Rattle.meaning.specs.Tests.{◌and◌, all_below, choose, greatest};
+ghost use Rattle.meaning.specs.Tests.{◌and◌, all_below, greatest};
 ghost use Rattle.meaning.specs.Case.{lists, list};
 ghost use Rattle.meaning.specs.Check.{bodies, mosts, in_table, path_name, path_run, string_run, variable_run};
 ghost use Rattle.listruns.specs.Blocks.{Tops, Undotted, Paths};
 
 use stringcheck::{list_count, string_count, var_count};
-use tables::{list_at, wide};
-use valuecheck::larger;
+use tables::list_at;
 
 // a run of items of one word stays in the lists
 fn in_lists(s: &[u8], first: u32, items: u32) -> bool
     requires { bodies s.now ≡ true }
     ensures { ◌≡◌ {A = Bool} result (in_table (lists s.now) 1 first items) }
 {
-    wide(first) + wide(items) <= wide(list_count(s))
+    first as usize + items as usize <= list_count(s) as usize
 }
 
 // ---- words below a bound: strings, variables
@@ -28,11 +27,9 @@ fn block_top(s: &[u8], at: usize) -> u32
     requires at_bound { at < 4294967296 }
     ensures { result ≡ greatest 1024 (λ j. list s.now (at + j)) }
 {
-    let mut top = 0;
-    let mut i = 0;
-    while i < 1024 {
-        top = larger(top, list_at(s, at + i));
-        i += 1;
+    let mut top = 0u32;
+    for i in 0..1024 {
+        top = top.max(list_at(s, at + i));
     }
     top
 }
@@ -42,12 +39,9 @@ pub fn list_tops(s: &[u8]) -> [u32; 1024]
     requires s_value_2 { mosts s.now ≡ true }
     ensures { Tops s.now result }
 {
-    let n = wide(list_count(s)) / 1024;
     let mut tops = [0u32; 1024];
-    let mut b = 0;
-    while b < n {
+    for b in 0..list_count(s) as usize / 1024 {
         tops[b] = block_top(s, 1024 * b);
-        b += 1;
     }
     tops
 }
@@ -63,8 +57,9 @@ fn below_run(s: &[u8], tops: &[u32; 1024], bound: u32, first: u32, items: u32) -
         return false;
     }
     let mut i = 0;
+    // a while: it goes on by a word or by a block
     while i < items {
-        let at = wide(first) + wide(i);
+        let at = first as usize + i as usize;
         if at % 1024 != 0 || items - i < 1024 {
             if bound <= list_at(s, at) {
                 return false;
@@ -72,8 +67,7 @@ fn below_run(s: &[u8], tops: &[u32; 1024], bound: u32, first: u32, items: u32) -
             i += 1;
             continue;
         }
-        let b = at / 1024;
-        if bound <= tops[b] {
+        if bound <= tops[at / 1024] {
             return false;
         }
         i += 1024;
@@ -109,18 +103,7 @@ fn path_name(s: &[u8], undotted: &[bool; 16384], i: usize) -> bool
     ensures { ◌≡◌ {A = Bool} result (path_name s.now i) }
 {
     let n = list_at(s, i);
-    if string_count(s) <= n {
-        return false;
-    }
-    let at = wide(n);
-    undotted[at]
-}
-
-// where names that go on to `end` end, with word i before them
-fn names_end(name: bool, i: u32, end: u32) -> u32
-    ensures { result ≡ choose name end i }
-{
-    if name { end } else { i }
+    n < string_count(s) && undotted[n as usize]
 }
 
 // how far path names go on from the start of each block of 128 words; in a block the last store is its start's
@@ -131,13 +114,12 @@ pub fn path_blocks(s: &[u8], undotted: &[bool; 16384]) -> [u32; 8192]
     ensures { Paths s.now result }
 {
     let mut end = list_count(s);
-    let mut i = end;
     let mut paths = [0u32; 8192];
-    while 0 < i {
-        i -= 1;
-        end = names_end(path_name(s, undotted, wide(i)), i, end);
-        let b = wide(i / 128);
-        paths[b] = end;
+    for i in (0..end).rev() {
+        if !path_name(s, undotted, i as usize) {
+            end = i;
+        }
+        paths[i as usize / 128] = end;
     }
     paths
 }
@@ -159,17 +141,14 @@ pub fn path_run(
     if !in_lists(s, first, items) {
         return false;
     }
-    let mut i = 0;
-    while i < items {
-        let at = wide(first) + wide(i);
+    for i in 0..items {
+        let at = first as usize + i as usize;
         if at % 128 == 0 {
-            let b = at / 128;
-            return wide(first) + wide(items) <= wide(paths[b]);
+            return first as usize + items as usize <= paths[at / 128] as usize;
         }
         if !path_name(s, undotted, at) {
             return false;
         }
-        i += 1;
     }
     true
 }

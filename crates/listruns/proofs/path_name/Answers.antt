@@ -14,11 +14,11 @@ use Rattle.listruns.proofs.path_name.Goals as goal
 name-read : (s : List ℕ) (i : ℕ) {n : ℕ} {r : Bool} → n ≡ list s i → r ≡ (is_string s n and free 46 (text s n)) → r ≡ path_name s i
 name-read s i e f = f ∙ rw e refl
 
-pub returns-then-string_count-n : goal.returns-then-string_count-n
-returns-then-string_count-n c = search (name-read, no-string, rules)
+pub returns-else-n-string_count : goal.returns-else-n-string_count
+returns-else-n-string_count c = search (name-read, no-string, rules)
 
-pub bounds-undotted-at : goal.bounds-undotted-at
-bounds-undotted-at c = search (string_in, rules)
+pub bounds-undotted-n : goal.bounds-undotted-n
+bounds-undotted-n c = search (string_in, rules)
 
-pub returns : goal.returns
-returns c = search (name-read, string-marked, rules)
+pub returns-then-n-string_count : goal.returns-then-n-string_count
+returns-then-n-string_count c = search (name-read, string-marked, rules)

@@ -1,5 +1,5 @@
 -- A run holds path names alone: word by word to a block's start, and from there by how far names go on
-use Prim.Native.Nat.{◌+◌, ◌-◌}
+use Prim.Native.Nat.{◌+◌}
 use Rattle.meaning.specs.Check.{path_name}
 use Rattle.laws.specs.Tests.{Passing}
 use Rattle.listruns.proofs.Runs.{InLists}
@@ -7,6 +7,3 @@ use Rattle.listruns.proofs.path_run.Given as goal
 
 abbrev pub invariant-loop-i : goal.invariant-loop-i
 invariant-loop-i l = Passing (λ x. path_name l.s (l.first + x)) l.items l.i × InLists l.s 1 l.first l.items
-
-abbrev pub decreases-loop-i : goal.decreases-loop-i
-decreases-loop-i l = l.items - l.i

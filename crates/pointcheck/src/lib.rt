@@ -12,7 +12,7 @@ ghost use Rattle.meaning.specs.Text.{free};
 use listruns::string_run;
 use meaning::ValNo;
 use stringcheck::{free_strings, list_count, point_count, string_count, value_count};
-use tables::{both, either, list_at, point_word, value_word, wide};
+use tables::{list_at, point_word, value_word};
 
 // ---- points and entities
 
@@ -20,14 +20,14 @@ fn is_object(s: &[u8], v: u32) -> bool
     requires { bodies s.now ≡ true }
     ensures { ◌≡◌ {A = Bool} result (is_object s.now v) }
 {
-    both(v < value_count(s), value_word(s, ValNo(v), 0) == 7)
+    v < value_count(s) && value_word(s, ValNo(v), 0) == 7
 }
 
 fn maybe_value(s: &[u8], v: u32) -> bool
     requires { bodies s.now ≡ true }
     ensures { ◌≡◌ {A = Bool} result (maybe_value s.now v) }
 {
-    either(v == 4294967295, v < value_count(s))
+    v == u32::MAX || v < value_count(s)
 }
 
 // whether the entity at i comes before the one at j
@@ -37,11 +37,8 @@ fn entity_before(s: &[u8], i: usize, j: usize) -> bool
     requires j_bound { j < 4294967296 }
     ensures { ◌≡◌ {A = Bool} result (entity_before s.now i j) }
 {
-    let one = list_at(s, i);
-    let other = list_at(s, j);
-    let id = list_at(s, i + 1);
-    let next = list_at(s, j + 1);
-    either(one < other, both(one == other, id < next))
+    let (one, other) = (list_at(s, i), list_at(s, j));
+    one < other || (one == other && list_at(s, i + 1) < list_at(s, j + 1))
 }
 
 // a string without a quotation mark
@@ -51,11 +48,7 @@ fn entity_type(s: &[u8], unquoted: &[bool; 16384], n: u32) -> bool
     requires unquoted { Unquoted s.now unquoted.now }
     ensures { ◌≡◌ {A = Bool} result (is_string s.now n and free 34 (text s.now n)) }
 {
-    if string_count(s) <= n {
-        return false;
-    }
-    let at = wide(n);
-    unquoted[at]
+    n < string_count(s) && unquoted[n as usize]
 }
 
 fn entity_rule(s: &[u8], unquoted: &[bool; 16384], i: usize) -> bool
@@ -65,10 +58,9 @@ fn entity_rule(s: &[u8], unquoted: &[bool; 16384], i: usize) -> bool
     requires i_bound { i < 4294967296 }
     ensures { ◌≡◌ {A = Bool} result (entity_rule s.now i) }
 {
-    let name = entity_type(s, unquoted, list_at(s, i));
-    let id = list_at(s, i + 1) < string_count(s);
-    let object = is_object(s, list_at(s, i + 2));
-    both(name, both(id, object))
+    entity_type(s, unquoted, list_at(s, i))
+        && list_at(s, i + 1) < string_count(s)
+        && is_object(s, list_at(s, i + 2))
 }
 
 // item i of a run of entities: its own rule, and that it comes after the one before
@@ -79,14 +71,8 @@ fn entity_item(s: &[u8], unquoted: &[bool; 16384], first: u32, i: u32) -> bool
     requires i_bound { first + 3 * i < 4294967296 }
     ensures { ◌≡◌ {A = Bool} result (entity_item s.now first i) }
 {
-    let at = wide(first) + 3 * wide(i);
-    if !entity_rule(s, unquoted, at) {
-        return false;
-    }
-    if i == 0 {
-        return true;
-    }
-    entity_before(s, at - 3, at)
+    let at = first as usize + 3 * i as usize;
+    entity_rule(s, unquoted, at) && (i == 0 || entity_before(s, at - 3, at))
 }
 
 // so many items of a run of entities, one by one
@@ -97,14 +83,7 @@ fn entity_items(s: &[u8], unquoted: &[bool; 16384], first: u32, items: u32) -> b
     requires bound { first + 3 * items < 4294967296 }
     ensures { ◌≡◌ {A = Bool} result (all_below items (entity_item s.now first)) }
 {
-    let mut i = 0;
-    while i < items {
-        if !entity_item(s, unquoted, first, i) {
-            return false;
-        }
-        i += 1;
-    }
-    true
+    (0..items).all(|i| entity_item(s, unquoted, first, i))
 }
 
 // which blocks of 512 entities may stand in a run; entry 3 · b + r is the block that starts at word 1536 · b + r
@@ -114,13 +93,9 @@ fn entity_blocks(s: &[u8], unquoted: &[bool; 16384]) -> [bool; 2052]
     requires unquoted { Unquoted s.now unquoted.now }
     ensures { Entities s.now result }
 {
-    let n = 3 * (list_count(s) / 1536);
     let mut blocks = [false; 2052];
-    let mut k = 0;
-    while k < n {
-        let at = wide(k);
-        blocks[at] = entity_items(s, unquoted, 1536 * (k / 3) + k % 3, 512);
-        k += 1;
+    for k in 0..3 * (list_count(s) / 1536) {
+        blocks[k as usize] = entity_items(s, unquoted, 1536 * (k / 3) + k % 3, 512);
     }
     blocks
 }
@@ -138,15 +113,16 @@ fn entity_run(
     requires entities { Entities s.now blocks.now }
     ensures { ◌≡◌ {A = Bool} result (entity_run s.now first items) }
 {
-    if wide(list_count(s)) < wide(first) + 3 * wide(items) {
+    if (list_count(s) as usize) < first as usize + 3 * items as usize {
         return false;
     }
     let mut i = 0;
+    // a while: it goes on by an item or by a block
     while i < items {
         if !entity_item(s, unquoted, first, i) {
             return false;
         }
-        let at = wide(first) + 3 * wide(i);
+        let at = first as usize + 3 * i as usize;
         if 3 <= at % 1536 || items - i < 512 {
             i += 1;
             continue;
@@ -174,25 +150,21 @@ fn point_rule(
     requires entities { Entities s.now blocks.now }
     ensures { ◌≡◌ {A = Bool} result (point_rule s.now p) }
 {
-    let namespace = string_run(s, tops, point_word(s, p, 2), point_word(s, p, 3));
-    let action = point_word(s, p, 4) < string_count(s);
-    let kind = point_word(s, p, 5) < string_count(s);
-    let logged = is_object(s, point_word(s, p, 6));
-    let context = is_object(s, point_word(s, p, 7));
-    let principal = maybe_value(s, point_word(s, p, 8));
-    let resource = maybe_value(s, point_word(s, p, 9));
-    let entities = entity_run(
-        s,
-        unquoted,
-        blocks,
-        point_word(s, p, 10),
-        point_word(s, p, 11),
-    );
-    let parties = both(principal, both(resource, entities));
-    both(
-        namespace,
-        both(action, both(kind, both(logged, both(context, parties)))),
-    )
+    let strings = string_count(s);
+    string_run(s, tops, point_word(s, p, 2), point_word(s, p, 3))
+        && point_word(s, p, 4) < strings
+        && point_word(s, p, 5) < strings
+        && is_object(s, point_word(s, p, 6))
+        && is_object(s, point_word(s, p, 7))
+        && maybe_value(s, point_word(s, p, 8))
+        && maybe_value(s, point_word(s, p, 9))
+        && entity_run(
+            s,
+            unquoted,
+            blocks,
+            point_word(s, p, 10),
+            point_word(s, p, 11),
+        )
 }
 
 pub fn check_points(s: &[u8], tops: &[u32; 1024]) -> bool
@@ -204,13 +176,5 @@ pub fn check_points(s: &[u8], tops: &[u32; 1024]) -> bool
 {
     let unquoted = free_strings(s, 34);
     let blocks = entity_blocks(s, &unquoted);
-    let n = wide(point_count(s));
-    let mut p = 0;
-    while p < n {
-        if !point_rule(s, tops, &unquoted, &blocks, p) {
-            return false;
-        }
-        p += 1;
-    }
-    true
+    (0..point_count(s) as usize).all(|p| point_rule(s, tops, &unquoted, &blocks, p))
 }

@@ -1,25 +1,14 @@
-use Rattle.std.proofs.Common.{rules}
-use Prim.Native.Nat.{ℕ}
-use mathlib.Core.Path.{◌≡◌, ◌∙◌}
-use Rattle.meaning.specs.Case.{points}
-use Rattle.meaning.specs.Check.{point_rules}
-use Rattle.laws.specs.Tests.{passing-none, passing-more, passing-no, passing-all}
-use mathlib.Core.List.{List}
+-- Every point passes
+use Rattle.std.proofs.Common.{◌∙◌, rules, tests, ap, arith, refl, ℕ}
+use Rattle.std.proofs.lemmas.Iterator.{YieldsList-from_range}
+use Rattle.std.proofs.lemmas.Iterator.Search.{all_from_yields_List}
+use Rattle.meaning.specs.Check.{point_rule, point_rules}
+use Rattle.meaning.specs.Tests.{all_below}
+use Rattle.stringcheck.specs.Ranges.{all-range}
 use Rattle.pointcheck.proofs.check_points.Goals as goal
-
-counted : (s : List ℕ) {n m : ℕ} → m ≡ points s → n ≡ m → n ≡ points s
-counted s e f = f ∙ e
-
-pub loop-p-init : goal.loop-p-init
-loop-p-init c = search (passing-none, rules)
-
-pub returns-then-not-point_rule : goal.returns-then-not-point_rule
-unfolding point_rules
-returns-then-not-point_rule c = search (passing-no, counted, rules)
-
-pub loop-p-preserved : goal.loop-p-preserved
-loop-p-preserved c = search (passing-more, rules)
 
 pub returns : goal.returns
 unfolding point_rules
-returns c = search (passing-all, counted, rules)
+returns c =
+    let e = all_from_yields_List (point_rule c.args.s.now) _ _ c.all.result c.all.ensures.ran (YieldsList-from_range 0 c.point_count.result c.point_count.result refl (omega arith)) (λ x b q k. search (rules, tests)) in
+    e ∙ all-range _ _ ∙ ap (λ (n : ℕ). all_below n (point_rule c.args.s.now)) c.point_count.ensures

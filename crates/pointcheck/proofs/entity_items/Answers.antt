@@ -1,15 +1,12 @@
-use Rattle.std.proofs.Common.{rules}
-use Rattle.laws.specs.Tests.{passing-none, passing-more, passing-no, passing-all}
+-- Every item of a run of entities passes
+use Rattle.std.proofs.Common.{◌∙◌, rules, tests, arith, refl}
+use Rattle.std.proofs.lemmas.Iterator.{YieldsList-from_range}
+use Rattle.std.proofs.lemmas.Iterator.Search.{all_from_yields_List}
+use Rattle.meaning.specs.Check.{entity_item}
+use Rattle.stringcheck.specs.Ranges.{all-range}
 use Rattle.pointcheck.proofs.entity_items.Goals as goal
 
-pub loop-i-init : goal.loop-i-init
-loop-i-init c = search (passing-none, rules)
-
-pub returns-then-not-entity_item : goal.returns-then-not-entity_item
-returns-then-not-entity_item c = search (passing-no, rules)
-
-pub loop-i-preserved : goal.loop-i-preserved
-loop-i-preserved c = search (passing-more, rules)
-
 pub returns : goal.returns
-returns c = search (passing-all, rules)
+returns c =
+    let e = all_from_yields_List (entity_item c.args.s.now c.args.first) _ _ c.all.result c.all.ensures.ran (YieldsList-from_range 0 c.args.items c.args.items refl (omega arith)) (λ x b q k. search (rules, tests)) in
+    e ∙ all-range _ _

@@ -25,9 +25,9 @@ module _ {s : List ℕ} {first items i f j : ℕ} {blocks : List Bool} where
   block_more : {q : Bool} → not (get_or blocks (3 * ((f + 3 * j) / 1536) + (f + 3 * j) % 1536) false) ≡ false → f ≡ first → j ≡ i → (f + 3 * j) % 1536 < 3 → ltb (items - i) 512 ≡ false → i < items → InLists s 3 first items → Entities s blocks → Passing (entity_item s first) items i → q ≡ entity_item s first i → not q ≡ false → Passing (entity_item s first) items (i + 512)
   block_more n ef ej a w lt r t p eq nq = record { low = third-fits r ef ej lt a w; is = entities-more s first i (f + 3 * j) (omega arith) p.is (said nq eq) (said n (block r ef ej lt a w t)) }
 
-pub returns-then-wide : goal.returns-then-wide
+pub returns-then-list_count-first : goal.returns-then-list_count-first
 unfolding entity_run
-returns-then-wide c = search (run_past, rules)
+returns-then-list_count-first c = search (run_past, rules)
 
 pub loop-i-init : goal.loop-i-init
 loop-i-init c = (search (passing-none, rules), search (run_fits, rules))

@@ -2,18 +2,18 @@
 
 #![tactic(auto)]
 
-ghost use Rattle.std.specs.Prelude.{◌≡◌, Bool, true, ◌+◌, ◌*◌, ◌<◌, ◌≤◌, max, leb, get_or};
+ghost use Rattle.std.specs.Prelude.{◌≡◌, Bool, true, ◌+◌, ◌*◌, ◌<◌, ◌≤◌, max, leb, ltb, get_or};
 ghost use Rattle.meaning.specs.Tests.{◌and◌, all_below, greatest};
 ghost use Rattle.meaning.specs.Case.{list, nodes, values, node_word, node_at, arity, child};
-ghost use Rattle.meaning.specs.Check.{bodies, mosts, value_rule, child_in, is_condition, is_operand, is_variable, path_run, argument_rule, argument_run, zeros_from, rule_of, node_rule, height, height_rule, node_rules};
+ghost use Rattle.meaning.specs.Check.{bodies, mosts, value_rule, child_in, is_condition, is_operand, is_variable, path_run, argument_rule, argument_run, zeros_from, literal, rule_of, node_rule, height, height_rule, node_rules};
 ghost use Rattle.nodecheck.specs.Terms.{Terms, argument_own, argument_top, ArgumentTops};
 ghost use Rattle.listruns.specs.Blocks.{Tops, Undotted, Paths, Literals};
 
 use listruns::{path_run, string_run, variable_run};
 use meaning::{Node, NodeNo, Run, StrNo, ValNo};
-use stringcheck::{larger_byte, list_count, node_count, string_count, value_count, var_count};
-use tables::{both, list_at, node_at, node_word, wide};
-use valuecheck::{larger, literal_values};
+use stringcheck::{list_count, node_count, string_count, value_count, var_count};
+use tables::{list_at, node_at, node_word};
+use valuecheck::literal_values;
 
 // ---- parts of rules
 
@@ -23,7 +23,7 @@ fn is_child(s: &[u8], low: u32, high: u32, n: u32, c: u32) -> bool
     ensures { ◌≡◌ {A = Bool} result (child_in s.now low high n c) }
 {
     let kind = node_word(s, NodeNo(c), 0);
-    both(c < n, both(low <= kind, kind <= high))
+    c < n && low <= kind && kind <= high
 }
 
 fn is_condition(s: &[u8], n: u32, c: NodeNo) -> bool
@@ -53,14 +53,7 @@ fn zeros_from(s: &[u8], n: u32, j: usize) -> bool
     requires j_bound { j ≤ 8 }
     ensures { ◌≡◌ {A = Bool} result (zeros_from s.now n j) }
 {
-    let mut i = 0;
-    while i < 8 - j {
-        if node_word(s, NodeNo(n), j + i) != 0 {
-            return false;
-        }
-        i += 1;
-    }
-    true
+    (j..8).all(|i| node_word(s, NodeNo(n), i) == 0)
 }
 
 // ---- conditions
@@ -70,17 +63,14 @@ fn pair_rule(s: &[u8], n: u32, l: NodeNo, r: NodeNo) -> bool
     requires { bodies s.now ≡ true }
     ensures { ◌≡◌ {A = Bool} result (is_condition s.now n l.0 and (is_condition s.now n r.0 and zeros_from s.now n 3)) }
 {
-    both(
-        is_condition(s, n, l),
-        both(is_condition(s, n, r), zeros_from(s, n, 3)),
-    )
+    is_condition(s, n, l) && is_condition(s, n, r) && zeros_from(s, n, 3)
 }
 
 fn not_rule(s: &[u8], n: u32, x: NodeNo) -> bool
     requires { bodies s.now ≡ true }
     ensures { ◌≡◌ {A = Bool} result (is_condition s.now n x.0 and zeros_from s.now n 2) }
 {
-    both(is_condition(s, n, x), zeros_from(s, n, 2))
+    is_condition(s, n, x) && zeros_from(s, n, 2)
 }
 
 // Formerly, Previous
@@ -88,19 +78,17 @@ fn window_rule(s: &[u8], n: u32, x: NodeNo) -> bool
     requires { bodies s.now ≡ true }
     ensures { ◌≡◌ {A = Bool} result (leb (node_word s.now n 3) 3 and (is_condition s.now n x.0 and zeros_from s.now n 5)) }
 {
-    let unit = node_word(s, NodeNo(n), 3);
-    both(unit <= 3, both(is_condition(s, n, x), zeros_from(s, n, 5)))
+    node_word(s, NodeNo(n), 3) <= 3 && is_condition(s, n, x) && zeros_from(s, n, 5)
 }
 
 fn since_rule(s: &[u8], n: u32, l: NodeNo, r: NodeNo) -> bool
     requires { bodies s.now ≡ true }
     ensures { ◌≡◌ {A = Bool} result (is_condition s.now n l.0 and (is_condition s.now n r.0 and (leb (node_word s.now n 5) 3 and zeros_from s.now n 6))) }
 {
-    let unit = node_word(s, NodeNo(n), 5);
-    both(
-        is_condition(s, n, l),
-        both(is_condition(s, n, r), both(unit <= 3, zeros_from(s, n, 6))),
-    )
+    is_condition(s, n, l)
+        && is_condition(s, n, r)
+        && node_word(s, NodeNo(n), 5) <= 3
+        && zeros_from(s, n, 6)
 }
 
 // the rule of an argument, path run and term, but for the term's number
@@ -115,8 +103,7 @@ fn argument_own(s: &[u8], undotted: &[bool; 16384], paths: &[u32; 8192], i: usiz
     let first = list_at(s, i);
     let items = list_at(s, i + 1);
     let kind = node_word(s, NodeNo(list_at(s, i + 2)), 0);
-    let path = both(1 <= items, path_run(s, undotted, paths, first, items));
-    both(path, both(20 <= kind, kind <= 24))
+    1 <= items && path_run(s, undotted, paths, first, items) && 20 <= kind && kind <= 24
 }
 
 fn argument_rule(s: &[u8], undotted: &[bool; 16384], paths: &[u32; 8192], n: u32, i: usize) -> bool
@@ -127,8 +114,7 @@ fn argument_rule(s: &[u8], undotted: &[bool; 16384], paths: &[u32; 8192], n: u32
     requires i_bound { i < 4294967296 }
     ensures { ◌≡◌ {A = Bool} result (argument_rule s.now n i) }
 {
-    let own = argument_own(s, undotted, paths, i);
-    both(own, list_at(s, i + 2) < n)
+    argument_own(s, undotted, paths, i) && list_at(s, i + 2) < n
 }
 
 // a Predicate may have the whole block of 128 arguments from `at` on if its number is above this
@@ -140,14 +126,12 @@ fn argument_top(s: &[u8], undotted: &[bool; 16384], paths: &[u32; 8192], at: usi
     requires at_bound { at < 2147483648 }
     ensures { result ≡ argument_top s.now at }
 {
-    let mut top = 0;
-    let mut i = 0;
-    while i < 128 {
+    let mut top = 0u32;
+    for i in 0..128 {
         if !argument_own(s, undotted, paths, at + 3 * i) {
-            return 4294967295;
+            return u32::MAX;
         }
-        top = larger(top, list_at(s, at + 3 * i + 2));
-        i += 1;
+        top = top.max(list_at(s, at + 3 * i + 2));
     }
     top
 }
@@ -160,12 +144,9 @@ fn argument_tops(s: &[u8], undotted: &[bool; 16384], paths: &[u32; 8192]) -> [u3
     requires paths { Paths s.now paths.now }
     ensures { ArgumentTops s.now result }
 {
-    let n = 3 * (wide(list_count(s)) / 384);
     let mut tops = [0u32; 8192];
-    let mut k = 0;
-    while k < n {
+    for k in 0..3 * (list_count(s) as usize / 384) {
         tops[k] = argument_top(s, undotted, paths, 384 * (k / 3) + k % 3);
-        k += 1;
     }
     tops
 }
@@ -186,12 +167,13 @@ fn argument_run(
     requires argument_tops { ArgumentTops s.now terms.now }
     ensures { ◌≡◌ {A = Bool} result (argument_run s.now n first items) }
 {
-    if wide(list_count(s)) < wide(first) + 3 * wide(items) {
+    if (list_count(s) as usize) < first as usize + 3 * items as usize {
         return false;
     }
     let mut i = 0;
+    // a while: it goes on by an argument or by a block
     while i < items {
-        let at = wide(first) + 3 * wide(i);
+        let at = first as usize + 3 * i as usize;
         if 3 <= at % 384 || items - i < 128 {
             if !argument_rule(s, undotted, paths, n, at) {
                 return false;
@@ -229,23 +211,19 @@ fn predicate_rule(
     ensures { ◌≡◌ {A = Bool} result (rule_of s.now n (Node.Predicate namespace action kind arguments)) }
 {
     let strings = string_count(s);
-    let place = string_run(s, tops, namespace.first, namespace.count);
-    let args = argument_run(
-        s,
-        undotted,
-        paths,
-        terms,
-        n,
-        arguments.first,
-        arguments.count,
-    );
-    both(
-        place,
-        both(
-            action.0 < strings,
-            both(kind.0 < strings, both(args, zeros_from(s, n, 7))),
-        ),
-    )
+    string_run(s, tops, namespace.first, namespace.count)
+        && action.0 < strings
+        && kind.0 < strings
+        && argument_run(
+            s,
+            undotted,
+            paths,
+            terms,
+            n,
+            arguments.first,
+            arguments.count,
+        )
+        && zeros_from(s, n, 7)
 }
 
 // Comparison, Arithmetic: the op is at most so much
@@ -253,24 +231,17 @@ fn operands_rule(s: &[u8], n: u32, most: u32, l: NodeNo, r: NodeNo) -> bool
     requires { bodies s.now ≡ true }
     ensures { ◌≡◌ {A = Bool} result (leb (node_word s.now n 1) most and (is_operand s.now n l.0 and (is_operand s.now n r.0 and zeros_from s.now n 4))) }
 {
-    let op = node_word(s, NodeNo(n), 1);
-    both(
-        op <= most,
-        both(
-            is_operand(s, n, l),
-            both(is_operand(s, n, r), zeros_from(s, n, 4)),
-        ),
-    )
+    node_word(s, NodeNo(n), 1) <= most
+        && is_operand(s, n, l)
+        && is_operand(s, n, r)
+        && zeros_from(s, n, 4)
 }
 
 fn exists_rule(s: &[u8], n: u32, x: u32, body: NodeNo) -> bool
     requires { bodies s.now ≡ true }
     ensures { ◌≡◌ {A = Bool} result (is_variable s.now x and (is_condition s.now n body.0 and zeros_from s.now n 3)) }
 {
-    both(
-        is_variable(s, x),
-        both(is_condition(s, n, body), zeros_from(s, n, 3)),
-    )
+    is_variable(s, x) && is_condition(s, n, body) && zeros_from(s, n, 3)
 }
 
 // Tp, Variable
@@ -278,10 +249,20 @@ fn variable_rule(s: &[u8], n: u32, x: u32) -> bool
     requires { bodies s.now ≡ true }
     ensures { ◌≡◌ {A = Bool} result (is_variable s.now x and zeros_from s.now n 2) }
 {
-    both(is_variable(s, x), zeros_from(s, n, 2))
+    is_variable(s, x) && zeros_from(s, n, 2)
 }
 
 // ---- terms and aggregates
+
+// a value without Null or Object
+fn is_literal(s: &[u8], literals: &[bool; 16384], v: ValNo) -> bool
+    requires s_value { bodies s.now ≡ true }
+    requires s_value_2 { mosts s.now ≡ true }
+    requires literals { Literals s.now literals.now }
+    ensures { ◌≡◌ {A = Bool} result (ltb v.0 (values s.now) and literal s.now v.0) }
+{
+    v.0 < value_count(s) && literals[v.0 as usize]
+}
 
 fn literal_rule(s: &[u8], literals: &[bool; 16384], n: u32, v: ValNo) -> bool
     requires s_value { bodies s.now ≡ true }
@@ -289,11 +270,7 @@ fn literal_rule(s: &[u8], literals: &[bool; 16384], n: u32, v: ValNo) -> bool
     requires literals { Literals s.now literals.now }
     ensures { ◌≡◌ {A = Bool} result (rule_of s.now n (Node.Literal v)) }
 {
-    if value_count(s) <= v.0 {
-        return false;
-    }
-    let at = wide(v.0);
-    both(literals[at], zeros_from(s, n, 2))
+    is_literal(s, literals, v) && zeros_from(s, n, 2)
 }
 
 fn context_rule(s: &[u8], undotted: &[bool; 16384], paths: &[u32; 8192], n: u32, path: Run) -> bool
@@ -303,8 +280,7 @@ fn context_rule(s: &[u8], undotted: &[bool; 16384], paths: &[u32; 8192], n: u32,
     requires paths { Paths s.now paths.now }
     ensures { ◌≡◌ {A = Bool} result (rule_of s.now n (Node.Context path)) }
 {
-    let names = path_run(s, undotted, paths, path.first, path.count);
-    both(1 <= path.count, both(names, zeros_from(s, n, 3)))
+    1 <= path.count && path_run(s, undotted, paths, path.first, path.count) && zeros_from(s, n, 3)
 }
 
 // a scope's path, whatever its root
@@ -315,16 +291,16 @@ fn scope_rule(s: &[u8], undotted: &[bool; 16384], paths: &[u32; 8192], n: u32, p
     requires paths { Paths s.now paths.now }
     ensures { ◌≡◌ {A = Bool} result (leb (node_word s.now n 1) 1 and (path_run s.now path.first path.count and zeros_from s.now n 4)) }
 {
-    let root = node_word(s, NodeNo(n), 1);
-    let names = path_run(s, undotted, paths, path.first, path.count);
-    both(root <= 1, both(names, zeros_from(s, n, 4)))
+    node_word(s, NodeNo(n), 1) <= 1
+        && path_run(s, undotted, paths, path.first, path.count)
+        && zeros_from(s, n, 4)
 }
 
 fn aggregate_rule(s: &[u8], n: u32, a: NodeNo) -> bool
     requires { bodies s.now ≡ true }
     ensures { ◌≡◌ {A = Bool} result (child_in s.now 30 31 n a.0 and zeros_from s.now n 2) }
 {
-    both(is_child(s, 30, 31, n, a.0), zeros_from(s, n, 2))
+    is_child(s, 30, 31, n, a.0) && zeros_from(s, n, 2)
 }
 
 fn sum_rule(s: &[u8], tops: &[u32; 1024], n: u32, x: u32, binders: Run, body: NodeNo) -> bool
@@ -333,14 +309,10 @@ fn sum_rule(s: &[u8], tops: &[u32; 1024], n: u32, x: u32, binders: Run, body: No
     requires tops { Tops s.now tops.now }
     ensures { ◌≡◌ {A = Bool} result (rule_of s.now n (Node.Sum x binders body)) }
 {
-    let variables = variable_run(s, tops, binders.first, binders.count);
-    both(
-        is_variable(s, x),
-        both(
-            variables,
-            both(is_condition(s, n, body), zeros_from(s, n, 5)),
-        ),
-    )
+    is_variable(s, x)
+        && variable_run(s, tops, binders.first, binders.count)
+        && is_condition(s, n, body)
+        && zeros_from(s, n, 5)
 }
 
 fn count_rule(s: &[u8], tops: &[u32; 1024], n: u32, binders: Run, body: NodeNo) -> bool
@@ -349,11 +321,9 @@ fn count_rule(s: &[u8], tops: &[u32; 1024], n: u32, binders: Run, body: NodeNo) 
     requires tops { Tops s.now tops.now }
     ensures { ◌≡◌ {A = Bool} result (rule_of s.now n (Node.Count binders body)) }
 {
-    let variables = variable_run(s, tops, binders.first, binders.count);
-    both(
-        variables,
-        both(is_condition(s, n, body), zeros_from(s, n, 4)),
-    )
+    variable_run(s, tops, binders.first, binders.count)
+        && is_condition(s, n, body)
+        && zeros_from(s, n, 4)
 }
 
 // ---- every node by what it is
@@ -428,15 +398,7 @@ fn check_each_node(
 {
     let literals = literal_values(s);
     let terms = argument_tops(s, undotted, paths);
-    let count = node_count(s);
-    let mut n = 0;
-    while n < count {
-        if !node_rule(s, tops, undotted, paths, &terms, &literals, n) {
-            return false;
-        }
-        n += 1;
-    }
-    true
+    (0..node_count(s)).all(|n| node_rule(s, tops, undotted, paths, &terms, &literals, n))
 }
 
 // ---- height: children are lower, so one pass upward
@@ -447,17 +409,14 @@ fn pair_height(heights: &[u8; 1024], l: NodeNo, r: NodeNo) -> u8
     requires r_bound { r.0 < 1024 }
     ensures { result ≡ max (get_or heights.now l.0 0) (get_or heights.now r.0 0) }
 {
-    let left = wide(l.0);
-    let right = wide(r.0);
-    larger_byte(heights[left], heights[right])
+    heights[l.0 as usize].max(heights[r.0 as usize])
 }
 
 fn one_height(heights: &[u8; 1024], x: NodeNo) -> u8
     requires { x.0 < 1024 }
     ensures { result ≡ get_or heights.now x.0 0 }
 {
-    let at = wide(x.0);
-    heights[at]
+    heights[x.0 as usize]
 }
 
 // the greatest height of a Predicate's terms, which are below n
@@ -467,14 +426,11 @@ fn argument_height(s: &[u8], heights: &[u8; 1024], n: u32, arguments: Run) -> u8
     requires terms { Terms s.now n arguments.first arguments.count }
     ensures { result ≡ greatest arguments.count (λ i. get_or heights.now (list s.now (arguments.first + 3 * i + 2)) 0) }
 {
-    let first = wide(arguments.first);
-    let items = wide(arguments.count);
-    let mut best = 0;
-    let mut i = 0;
-    while i < items {
-        let term = wide(list_at(s, first + 3 * i + 2));
-        best = larger_byte(best, heights[term]);
-        i += 1;
+    let first = arguments.first as usize;
+    let mut best = 0u8;
+    for i in 0..arguments.count as usize {
+        let term = list_at(s, first + 3 * i + 2) as usize;
+        best = best.max(heights[term]);
     }
     best
 }
@@ -526,17 +482,13 @@ fn check_heights(s: &[u8]) -> bool
     requires s_value_3 { all_below (nodes s.now) (node_rule s.now) ≡ true }
     ensures { ◌≡◌ {A = Bool} result (all_below (nodes s.now) (height_rule s.now)) }
 {
-    let count = node_count(s);
     let mut heights = [0u8; 1024];
-    let mut n = 0;
-    while n < count {
+    for n in 0..node_count(s) {
         let below = tallest(s, &heights, n);
         if 64 <= below {
             return false;
         }
-        let at = wide(n);
-        heights[at] = below + 1;
-        n += 1;
+        heights[n as usize] = below + 1;
     }
     true
 }
@@ -555,8 +507,5 @@ pub fn check_nodes(
     requires paths { Paths s.now paths.now }
     ensures { ◌≡◌ {A = Bool} result (node_rules s.now) }
 {
-    if !check_each_node(s, tops, undotted, paths) {
-        return false;
-    }
-    check_heights(s)
+    check_each_node(s, tops, undotted, paths) && check_heights(s)
 }

@@ -11,7 +11,8 @@ unfolding ◌and◌
 and-is true b = refl
 and-is false b = refl
 
-all-from : (test : ℕ → Bool) (a n : ℕ) → list_all test (range_with_len a n) ≡ all_below n (λ j. test (a + j))
+-- the n numbers from a on pass
+pub all-from : (test : ℕ → Bool) (a n : ℕ) → list_all test (range_with_len a n) ≡ all_below n (λ j. test (a + j))
 unfolding all_below ◌and◌
 all-from test a zero = refl
 all-from test a (suc n) =

@@ -32,9 +32,9 @@ module _ {s : List ℕ} {first items i f j : ℕ} {terms : List ℕ} {test : ℕ
   block_no : n ≤ get_or terms (3 * ((f + 3 * j) / 384) + (f + 3 * j) % 384) 0 → f ≡ first → j ≡ i → (f + 3 * j) % 384 < 3 → ltb (items - i) 128 ≡ false → i < items → Passing test items i → InLists s 3 first items → ArgumentTops s terms → n < 4294967296 → ((x : ℕ) → test x ≡ argument_rule s n (first + 3 * x)) → false ≡ all_below items test
   block_no d ef ej a w lt p r t fits same = passing-out p 128 (block-fits r ef ej lt a w) (sym (block r ef ej lt a w t p n fits same) ∙ le-ltb _ _ d) refl
 
-pub returns-then-wide : goal.returns-then-wide
+pub returns-then-list_count-first : goal.returns-then-list_count-first
 unfolding argument_run
-returns-then-wide c = search (run_past, rules)
+returns-then-list_count-first c = search (run_past, rules)
 
 pub loop-i-init : goal.loop-i-init
 loop-i-init c = (search (passing-none, rules), search (run_fits, rules))

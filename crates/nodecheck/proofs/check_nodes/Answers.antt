@@ -1,16 +1,14 @@
 -- The rules of nodes, one after the other
-use Rattle.std.proofs.Common.{rules}
+use Rattle.std.proofs.Common.{arith}
+use Rattle.std.proofs.lemmas.Bool.Decides.{nat_tests}
+use Rattle.meaning.specs.Tests.{◌and◌}
 use Rattle.meaning.specs.Check.{node_rules}
-use Rattle.laws.specs.Tests.{said, fails-here, goes_on}
 use Rattle.nodecheck.proofs.check_nodes.Goals as goal
 
-pub returns-then-not-check_each_node : goal.returns-then-not-check_each_node
-unfolding node_rules
-returns-then-not-check_each_node c = search (fails-here, rules)
+pub returns-then-check_each_node : goal.returns-then-check_each_node
+unfolding node_rules ◌and◌
+returns-then-check_each_node c = grind (arith, nat_tests)
 
-pub check_heights-requires : goal.check_heights-requires
-check_heights-requires c = search (said, rules)
-
-pub returns : goal.returns
-unfolding node_rules
-returns c = search (goes_on, rules)
+pub returns-else-check_each_node : goal.returns-else-check_each_node
+unfolding node_rules ◌and◌
+returns-else-check_each_node c = grind (arith, nat_tests)

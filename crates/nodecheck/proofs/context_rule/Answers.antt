@@ -1,9 +1,14 @@
 -- The rule of a Context
-use Rattle.std.proofs.Common.{rules}
+use Rattle.std.proofs.Common.{arith}
+use Rattle.std.proofs.lemmas.Bool.Decides.{nat_tests}
+use Rattle.meaning.specs.Tests.{◌and◌}
 use Rattle.meaning.specs.Check.{rule_of}
-use Rattle.laws.specs.Tests.{and3}
 use Rattle.nodecheck.proofs.context_rule.Goals as goal
 
-pub returns : goal.returns
-unfolding rule_of
-returns c = search (and3, rules)
+pub returns-then-path_run : goal.returns-then-path_run
+unfolding rule_of ◌and◌
+returns-then-path_run c = grind (arith, nat_tests)
+
+pub returns-else-path_run : goal.returns-else-path_run
+unfolding rule_of ◌and◌
+returns-else-path_run c = grind (arith, nat_tests)

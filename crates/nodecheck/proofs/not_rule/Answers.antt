@@ -1,7 +1,13 @@
 -- The rule of a Not
-use Rattle.std.proofs.Common.{rules}
-use Rattle.laws.specs.Tests.{and2}
+use Rattle.std.proofs.Common.{arith}
+use Rattle.std.proofs.lemmas.Bool.Decides.{nat_tests}
+use Rattle.meaning.specs.Tests.{◌and◌}
 use Rattle.nodecheck.proofs.not_rule.Goals as goal
 
-pub returns : goal.returns
-returns c = search (and2, rules)
+pub returns-then-is_condition : goal.returns-then-is_condition
+unfolding ◌and◌
+returns-then-is_condition c = grind (arith, nat_tests)
+
+pub returns-else-is_condition : goal.returns-else-is_condition
+unfolding ◌and◌
+returns-else-is_condition c = grind (arith, nat_tests)

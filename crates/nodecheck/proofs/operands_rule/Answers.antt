@@ -1,8 +1,13 @@
 -- The rule of a comparison and of arithmetic: two operands
-use Rattle.std.proofs.Common.{rules}
-use Rattle.laws.specs.Tests.{and4}
-use Rattle.valuecheck.proofs.Words.{word-most}
+use Rattle.std.proofs.Common.{arith}
+use Rattle.std.proofs.lemmas.Bool.Decides.{nat_tests}
+use Rattle.meaning.specs.Tests.{◌and◌}
 use Rattle.nodecheck.proofs.operands_rule.Goals as goal
 
-pub returns : goal.returns
-returns c = search (and4, word-most, rules)
+pub returns-then-is_operand-2 : goal.returns-then-is_operand-2
+unfolding ◌and◌
+returns-then-is_operand-2 c = grind (arith, nat_tests)
+
+pub returns-else-is_operand-2 : goal.returns-else-is_operand-2
+unfolding ◌and◌
+returns-else-is_operand-2 c = grind (arith, nat_tests)

@@ -1,10 +1,14 @@
 -- The rule of a Predicate
-use Rattle.std.proofs.Common.{rules}
+use Rattle.std.proofs.Common.{arith}
+use Rattle.std.proofs.lemmas.Bool.Decides.{nat_tests}
+use Rattle.meaning.specs.Tests.{◌and◌}
 use Rattle.meaning.specs.Check.{rule_of}
-use Rattle.laws.specs.Tests.{and5}
-use Rattle.valuecheck.proofs.Words.{word_below}
 use Rattle.nodecheck.proofs.predicate_rule.Goals as goal
 
-pub returns : goal.returns
-unfolding rule_of
-returns c = search (and5, word_below, rules)
+pub returns-then-argument_run : goal.returns-then-argument_run
+unfolding rule_of ◌and◌
+returns-then-argument_run c = grind (arith, nat_tests)
+
+pub returns-else-argument_run : goal.returns-else-argument_run
+unfolding rule_of ◌and◌
+returns-else-argument_run c = grind (arith, nat_tests)

@@ -1,9 +1,14 @@
 -- The rule of a Sum
-use Rattle.std.proofs.Common.{rules}
+use Rattle.std.proofs.Common.{arith}
+use Rattle.std.proofs.lemmas.Bool.Decides.{nat_tests}
+use Rattle.meaning.specs.Tests.{◌and◌}
 use Rattle.meaning.specs.Check.{rule_of}
-use Rattle.laws.specs.Tests.{and4}
 use Rattle.nodecheck.proofs.sum_rule.Goals as goal
 
-pub returns : goal.returns
-unfolding rule_of
-returns c = search (and4, rules)
+pub returns-then-is_condition : goal.returns-then-is_condition
+unfolding rule_of ◌and◌
+returns-then-is_condition c = grind (arith, nat_tests)
+
+pub returns-else-is_condition : goal.returns-else-is_condition
+unfolding rule_of ◌and◌
+returns-else-is_condition c = grind (arith, nat_tests)

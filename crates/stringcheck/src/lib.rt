@@ -251,12 +251,6 @@ fn are_letters(t: &[u8]) -> bool
     true
 }
 
-pub fn larger_byte(a: u8, b: u8) -> u8
-    ensures { result ≡ max a b }
-{
-    a.max(b)
-}
-
 // the greatest byte, many at once
 fn greatest_byte(t: &[u8]) -> u8
     ensures { result ≡ greatest (length t.now) (λ i. get_or t.now i 0) }

@@ -65,12 +65,6 @@ fn block_top(s: &[u8], at: usize) -> u32
     top
 }
 
-pub fn larger(a: u32, b: u32) -> u32
-    ensures { result ≡ max a b }
-{
-    a.max(b)
-}
-
 fn block_tops(s: &[u8]) -> [u32; 1024]
     requires s_value { bodies s.now ≡ true }
     requires s_value_2 { mosts s.now ≡ true }

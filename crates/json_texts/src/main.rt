@@ -5,7 +5,7 @@
 ghost use Rattle.std.specs.Prelude.{◌≡◌, length};
 
 use jsoncheck::{cells_for, check_log};
-use jsontext::{Fault, Step};
+use jsontext::{Bad, Fault};
 use std::io;
 use tables::{wide, word_at};
 
@@ -20,7 +20,7 @@ fn number_of(w: Fault) -> usize {
 }
 
 // a refusal, its place, and the place of the first of two equal names; zeros for a good text
-#[derive(Clone, Copy)]
+#[derive(Clone, Copy, PartialEq, Eq)]
 struct Answer {
     number: usize,
     place: usize,
@@ -37,15 +37,15 @@ fn answer_of(text: &[u8], names: &mut [u64]) -> Answer {
         };
     }
     match check_log(text, names) {
-        Step::At(_) => Answer {
+        Ok(_) => Answer {
             number: 0,
             place: 0,
             first: 0,
         },
-        Step::Bad(w, p, q) => Answer {
-            number: number_of(w),
-            place: p,
-            first: q,
+        Err(Bad { fault, at, first }) => Answer {
+            number: number_of(fault),
+            place: at,
+            first,
         },
     }
 }
@@ -55,23 +55,11 @@ fn tell(rt: &impl Print, k: u64, a: Answer) -> io::Result<()> {
 }
 
 // whether a text gave what is listed; else it is told
-fn is_listed(
-    rt: &impl Print,
-    k: u64,
-    a: Answer,
-    number: usize,
-    place: usize,
-    first: usize,
-) -> io::Result<bool> {
-    if a.number == number {
-        if a.place == place {
-            if a.first == first {
-                return Ok(true);
-            }
-        }
+fn is_listed(rt: &impl Print, k: u64, a: Answer, listed: Answer) -> io::Result<bool> {
+    if a != listed {
+        tell(rt, k, a)?;
     }
-    tell(rt, k, a)?;
-    Ok(false)
+    Ok(a == listed)
 }
 
 fn report(rt: &impl Print, texts: u64, wrong: u64) -> io::Result<()> {
@@ -85,9 +73,11 @@ fn read_all(rt: &impl Print, list: &[u8], names: &mut [u64]) -> io::Result<()> {
     let mut wrong: u64 = 0;
     let mut at = 1;
     while at + 4 <= words {
-        let number = wide(word_at(list, at));
-        let place = wide(word_at(list, at + 1));
-        let first = wide(word_at(list, at + 2));
+        let listed = Answer {
+            number: wide(word_at(list, at)),
+            place: wide(word_at(list, at + 1)),
+            first: wide(word_at(list, at + 2)),
+        };
         let size = wide(word_at(list, at + 3));
         let start = 4 * (at + 4);
         if list.len() - start < size {
@@ -95,10 +85,10 @@ fn read_all(rt: &impl Print, list: &[u8], names: &mut [u64]) -> io::Result<()> {
         }
         let end = start + size;
         let a = answer_of(&list[start..end], names);
-        if !is_listed(rt, texts, a, number, place, first)? {
-            wrong = std::num::wrapping_add_u64(wrong, 1);
+        if !is_listed(rt, texts, a, listed)? {
+            wrong = wrong.wrapping_add(1);
         }
-        texts = std::num::wrapping_add_u64(texts, 1);
+        texts = texts.wrapping_add(1);
         at += 4 + (size + 3) / 4;
     }
     report(rt, texts, wrong)

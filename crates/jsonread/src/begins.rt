@@ -14,25 +14,25 @@ use jsontext::{Bad, Fault};
 pub fn is_numeral(c: u8) -> bool
     ensures { ◌≡◌ {A = Bool} result (numeral c) }
 {
-    if c == 45 {
+    if c == b'-' {
         return true;
     }
-    if c < 48 {
+    if c < b'0' {
         return false;
     }
-    c <= 57
+    c <= b'9'
 }
 
 fn is_first(c: u8) -> bool
     ensures { ◌≡◌ {A = Bool} result (begins c) }
 {
     match c {
-        123 => true,
-        91 => true,
-        34 => true,
-        116 => true,
-        102 => true,
-        110 => true,
+        b'{' => true,
+        b'[' => true,
+        b'"' => true,
+        b't' => true,
+        b'f' => true,
+        b'n' => true,
         _ => is_numeral(c),
     }
 }
@@ -56,7 +56,7 @@ pub fn text_at(line: &[u8], at: usize) -> Result<usize, Bad>
         return Err(Bad::new(Fault::NotJson, at));
     }
     let c = line[at];
-    if c == 34 {
+    if c == b'"' {
         return string_at(line, at);
     }
     Err(Bad::new(instead(c, Fault::BadField), at))
@@ -97,10 +97,10 @@ pub fn comma_at(line: &[u8], at: usize) -> Result<usize, Bad>
     if line.len() <= at {
         return Err(Bad::new(Fault::NotJson, at));
     }
-    if line[at] == 93 {
+    if line[at] == b']' {
         return Err(Bad::new(Fault::BadField, at));
     }
-    want_at(line, at, 44)
+    want_at(line, at, b',')
 }
 
 // an entity's bracket, or 23 at the comma before a fourth item
@@ -111,8 +111,8 @@ pub fn closing_at(line: &[u8], at: usize) -> Result<usize, Bad>
     if line.len() <= at {
         return Err(Bad::new(Fault::NotJson, at));
     }
-    if line[at] == 44 {
+    if line[at] == b',' {
         return Err(Bad::new(Fault::BadField, at));
     }
-    want_at(line, at, 93)
+    want_at(line, at, b']')
 }

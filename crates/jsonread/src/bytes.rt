@@ -8,13 +8,13 @@ use jsontext::{Bad, Fault};
 fn is_blank(c: u8) -> bool
     ensures { ◌≡◌ {A = Bool} result (is_blank c) }
 {
-    if c == 32 {
+    if c == b' ' {
         return true;
     }
-    if c == 9 {
+    if c == b'\t' {
         return true;
     }
-    c == 13
+    c == b'\r'
 }
 
 pub fn skip_blanks(line: &[u8], at: usize) -> usize
@@ -22,6 +22,7 @@ pub fn skip_blanks(line: &[u8], at: usize) -> usize
     ensures { Blanks line.now at result }
 {
     let mut i = at;
+    // a while: what stands at its end is told of i, at a blank and at the line's end alike
     while i < line.len() {
         if !is_blank(line[i]) {
             return i;

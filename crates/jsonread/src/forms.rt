@@ -22,22 +22,22 @@ pub enum Sign {
 fn sign_of(c: u8) -> Sign
     ensures { result ≡ sign_of c }
 {
-    if c == 34 {
+    if c == b'"' {
         return Sign::Quotes;
     }
-    if c == 123 {
+    if c == b'{' {
         return Sign::Opens;
     }
-    if c == 91 {
+    if c == b'[' {
         return Sign::Opens;
     }
-    if c == 125 {
+    if c == b'}' {
         return Sign::Closes;
     }
-    if c == 93 {
+    if c == b']' {
         return Sign::Closes;
     }
-    if c == 44 {
+    if c == b',' {
         return Sign::Comma;
     }
     Sign::Other
@@ -46,10 +46,10 @@ fn sign_of(c: u8) -> Sign
 fn inside_after(c: u8) -> Side
     ensures { result ≡ inside_after c }
 {
-    if c == 34 {
+    if c == b'"' {
         return Side::Outside;
     }
-    if c == 92 {
+    if c == b'\\' {
         return Side::Escaped;
     }
     Side::Inside
@@ -63,6 +63,7 @@ pub fn closes_first(line: &[u8], at: usize) -> bool
     let mut side = Side::Outside;
     let mut depth: usize = 0;
     let mut i = at;
+    // a while: the brackets that are open bound the places passed, which a for says no plainer
     while i < line.len() {
         let c = line[i];
         match side {
@@ -85,7 +86,7 @@ pub fn closes_first(line: &[u8], at: usize) -> bool
                 }
                 Sign::Closes => {
                     if depth == 0 {
-                        return c == 125;
+                        return c == b'}';
                     }
                     depth -= 1;
                     i += 1;
@@ -128,7 +129,7 @@ fn only_form(line: &[u8], end: usize, named: Form) -> Form
     if line.len() <= colon {
         return Form::Plain;
     }
-    if line[colon] != 58 {
+    if line[colon] != b':' {
         return Form::Plain;
     }
     if !closes_first(line, colon + 1) {

@@ -16,10 +16,10 @@ pub struct Digits {
 fn is_digit(c: u8) -> bool
     ensures { ◌≡◌ {A = Bool} result (is_digit c) }
 {
-    if c < 48 {
+    if c < b'0' {
         return false;
     }
-    c <= 57
+    c <= b'9'
 }
 
 fn wide(c: u8) -> u64
@@ -45,6 +45,7 @@ fn digits_at(line: &[u8], at: usize, n: u64) -> Digits
 {
     let mut value = n;
     let mut i = at;
+    // a while: its end is an answer, at the first byte that is no digit and at the line's end alike
     while i < line.len() {
         let c = line[i];
         if !is_digit(c) {
@@ -80,7 +81,7 @@ pub fn int_at(line: &[u8], at: usize) -> Result<Digits, Bad>
         return Err(Bad::new(Fault::NotJson, at));
     }
     let c = line[at];
-    if c == 48 {
+    if c == b'0' {
         return Ok(Digits {
             value: 0,
             at: at + 1,
@@ -99,7 +100,7 @@ fn frac_at(line: &[u8], at: usize) -> Result<usize, Bad>
     if line.len() <= at {
         return Ok(at);
     }
-    if line[at] != 46 {
+    if line[at] != b'.' {
         return Ok(at);
     }
     some_digits_at(line, at + 1)
@@ -113,10 +114,10 @@ fn unsigned_at(line: &[u8], at: usize) -> usize
     if line.len() <= at {
         return at;
     }
-    if line[at] == 45 {
+    if line[at] == b'-' {
         return at + 1;
     }
-    if line[at] == 43 {
+    if line[at] == b'+' {
         return at + 1;
     }
     at
@@ -129,10 +130,10 @@ fn exp_at(line: &[u8], at: usize) -> Result<usize, Bad>
     if line.len() <= at {
         return Ok(at);
     }
-    if line[at] == 101 {
+    if line[at] == b'e' {
         return some_digits_at(line, unsigned_at(line, at + 1));
     }
-    if line[at] == 69 {
+    if line[at] == b'E' {
         return some_digits_at(line, unsigned_at(line, at + 1));
     }
     Ok(at)
@@ -187,7 +188,7 @@ pub fn number_at(line: &[u8], at: usize) -> Result<usize, Bad>
     if line.len() <= at {
         return Err(Bad::new(Fault::NotJson, at));
     }
-    if line[at] == 45 {
+    if line[at] == b'-' {
         return magnitude_at(line, at, true, at + 1);
     }
     magnitude_at(line, at, false, at)

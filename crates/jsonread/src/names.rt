@@ -108,6 +108,7 @@ fn same_bytes(line: &[u8], a: usize, b: usize) -> usize
     ensures { Alike line.now a b result }
 {
     let mut k = 1;
+    // a loop: two places move together, and the count is the answer
     loop {
         if line.len() <= a + k || line.len() <= b + k {
             return k;
@@ -177,6 +178,7 @@ fn same_word(line: &[u8], at: usize, word: &[u8]) -> usize
     ensures { Fitting line.now at word.now result }
 {
     let mut i = 0;
+    // a while: two places move together, and the count is the answer
     while i < word.len() {
         if line.len() <= at + 1 + i {
             return i;

@@ -18,14 +18,14 @@ pub enum Mark {
     Byte,
 }
 
-// a hex digit's value; 16 for what is none
+// a hex digit's value; 16 for what is none, as the proof of four of them goes by a bound on a number
 fn hex_digit(c: u8) -> u32
     ensures { hex_digit c ≡ only_if (ltb result 16) result }
 {
-    if c < 48 {
+    if c < b'0' {
         return 16;
     }
-    if c <= 57 {
+    if c <= b'9' {
         return (c - 48) as u32;
     }
     if c < 65 {
@@ -105,13 +105,13 @@ fn low_half(line: &[u8], at: usize) -> Result<u32, Bad>
     if line.len() <= at {
         return Err(Bad::new(Fault::NotJson, at));
     }
-    if line[at] != 92 {
+    if line[at] != b'\\' {
         return Err(Bad::new(Fault::NotJson, at));
     }
     if line.len() <= at + 1 {
         return Err(Bad::new(Fault::NotJson, at + 1));
     }
-    if line[at + 1] != 117 {
+    if line[at + 1] != b'u' {
         return Err(Bad::new(Fault::NotJson, at + 1));
     }
     low_unit(line, at + 2)
@@ -147,19 +147,19 @@ fn character_at(line: &[u8], slash: usize, u: u32, at: usize) -> Result<(u32, us
     Ok((joined(u, low), at + 6))
 }
 
-// what a byte after a backslash stands for; 128 for nothing
+// what a byte after a backslash stands for; 128 for nothing, no Option: the contract tells it of a number below 128
 fn simple_of(c: u8) -> u32
     ensures { simple c ≡ only_if (ltb result 128) result }
 {
     match c {
-        34 => 34,
-        92 => 92,
-        47 => 47,
-        98 => 8,
-        102 => 12,
-        110 => 10,
-        114 => 13,
-        116 => 9,
+        b'"' => 34,
+        b'\\' => 92,
+        b'/' => 47,
+        b'b' => 8,
+        b'f' => 12,
+        b'n' => 10,
+        b'r' => 13,
+        b't' => 9,
         _ => 128,
     }
 }
@@ -173,7 +173,7 @@ pub fn escape_at(line: &[u8], at: usize) -> Result<(u32, usize), Bad>
     if line.len() <= at {
         return Err(Bad::new(Fault::NotJson, at));
     }
-    if line[at] != 117 {
+    if line[at] != b'u' {
         let b = simple_of(line[at]);
         if 128 <= b {
             return Err(Bad::new(Fault::NotJson, at));
@@ -206,10 +206,10 @@ fn mark_of(d: Due, c: u8) -> Mark
     if !is_ended(d) {
         return Mark::Byte;
     }
-    if c == 34 {
+    if c == b'"' {
         return Mark::Quote;
     }
-    if c == 92 {
+    if c == b'\\' {
         return Mark::Backslash;
     }
     if c < 32 {
@@ -225,6 +225,7 @@ fn chars_at(line: &[u8], at: usize) -> Result<usize, Bad>
 {
     let mut d = Due::Nothing;
     let mut i = at;
+    // a while: an escape moves on by more than a byte
     while i < line.len() {
         let c = line[i];
         match mark_of(d, c) {

@@ -18,7 +18,7 @@ use Rattle.jsontext.specs.Reading.{Read, got, fault, then, no, wrong}
 use Rattle.jsontext.specs.Numbers.{digits, some_digits, int, frac, unsigned, exp, fits, signed, integer, parts, magnitude, number}
 use Rattle.jsonread.specs.declared.integers.Digits.{Digits}
 use Rattle.jsonread.specs.Told.{Faulty, Lacks, Told, cap, DigitsTold, IntTold, WholeTold, PartIs, PartTold, Unsigned, others}
-use Rattle.jsonread.proofs.Places.{range-below, range-above, byte_at, told_at, told_bad, wrong-here, told_of, fault-then, lacks-here, then_is}
+use Rattle.jsonread.proofs.Places.{byte_at, told_at, told_bad, wrong-here, told_of, fault-then, lacks-here, then_is}
 
 -- ---- a number that is capped
 
@@ -55,14 +55,6 @@ cap-more v d =
         ap (λ (n : ℕ). cap (10 * n + d)) (cap-beyond v l) ∙ cap-beyond (10 * 9223372036854775809 + d) (omega arith) ∙ sym (cap-beyond (10 * v + d) (omega arith))
 
 -- ---- digits
-
-pub digit-below : (c : ℕ) → c < 48 → false ≡ is_digit c
-unfolding is_digit
-digit-below c h = range-below 48 57 c h
-
-pub digit-above : (c : ℕ) → 48 ≤ c → leb c 57 ≡ is_digit c
-unfolding is_digit
-digit-above c h = range-above 48 57 c h
 
 digit-range : (c : ℕ) {z : Bool} → z ≡ is_digit c → not z ≡ false → (48 ≤ c) × (c ≤ 57)
 unfolding is_digit

@@ -17,18 +17,6 @@ use Rattle.jsonread.proofs.Places.{byte_at, told_at, wrong-here}
 
 -- ---- blanks
 
-pub space : (c : ℕ) → c ≡ 32 → true ≡ is_blank c
-unfolding is_blank ◌or◌
-space c e = rw (eq-eqb c 32 e)
-
-pub tab : (c : ℕ) → (c ≡ 32 → ⊥) → c ≡ 9 → true ≡ is_blank c
-unfolding is_blank ◌or◌
-tab c n e = rw (ne_eqb c 32 n, eq-eqb c 9 e)
-
-pub carriage : (c : ℕ) → (c ≡ 32 → ⊥) → (c ≡ 9 → ⊥) → eqb c 13 ≡ is_blank c
-unfolding is_blank ◌or◌
-carriage c n m = rw (ne_eqb c 32 n, ne_eqb c 9 m)
-
 -- the blanks from i on are those that are left to pass
 pub record Skipping (line : List ℕ) (at i : ℕ) : Type 0 where
   pub from : at ≤ i

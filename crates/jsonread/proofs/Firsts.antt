@@ -24,24 +24,10 @@ use Rattle.jsonread.specs.Told.{Told, Blanks}
 use Rattle.jsonread.specs.Ahead.{NamedTold, only_form}
 use Rattle.jsonread.specs.Spelling.{WordTold}
 use Rattle.jsonread.proofs.Places.{byte_at, told_at, told_bad, wrong-here, told_of, fault-then, then_is}
-use Rattle.jsonread.proofs.Counts.{digit-below, digit-above}
 
 -- ---- the first byte
 
 module _ (c : ℕ) where
-  pub numeral-minus : c ≡ 45 → true ≡ numeral c
-  unfolding numeral ◌or◌
-  numeral-minus e = rw (eq-eqb c 45 e)
-
-  module _ (n : c ≡ 45 → ⊥) where
-    pub numeral-below : c < 48 → false ≡ numeral c
-    unfolding numeral ◌or◌
-    numeral-below h = rw (ne_eqb c 45 n) (digit-below c h)
-
-    pub numeral-above : 48 ≤ c → leb c 57 ≡ numeral c
-    unfolding numeral ◌or◌
-    numeral-above h = rw (ne_eqb c 45 n) (digit-above c h)
-
   pub first-brace : c ≡ 123 → true ≡ begins c
   unfolding begins ◌or◌
   first-brace e = rw e refl

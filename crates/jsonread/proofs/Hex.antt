@@ -16,7 +16,7 @@ use Rattle.jsontext.specs.declared.Fault.TheVariants.{NotJson}
 use Rattle.jsontext.specs.Reading.{Read, got, fault, then, no, want, or_wrong, wrong}
 use Rattle.jsontext.specs.Strings.{hex_digit, hex_digits, hex4, is_high, is_low, low_unit, low_half, pair, utf8_of, joined, character, simple, escape}
 use Rattle.jsonread.specs.Told.{Lacks, HexIs, HexTold, LowIs, LowTold, CharIs, CharTold}
-use Rattle.jsonread.proofs.Places.{range-below, range-above, byte_at, no-here, lacks-here, lacks_of, lacks-then, then_is}
+use Rattle.jsonread.proofs.Places.{byte_at, no-here, lacks-here, lacks_of, lacks-then, then_is}
 
 -- ---- one hex digit; 16 stands for none
 
@@ -236,23 +236,6 @@ module _ (line : List ℕ) (at : ℕ) where
         rw q u
 
 -- ---- a character
-
-module _ (u : ℕ) where
-  pub high-below : u < 55296 → false ≡ is_high u
-  unfolding is_high
-  high-below h = range-below 55296 56319 u h
-
-  pub high-above : 55296 ≤ u → leb u 56319 ≡ is_high u
-  unfolding is_high
-  high-above h = range-above 55296 56319 u h
-
-  pub low_below : u < 56320 → false ≡ is_low u
-  unfolding is_low
-  low_below h = range-below 56320 57343 u h
-
-  pub low-above : 56320 ≤ u → leb u 57343 ≡ is_low u
-  unfolding is_low
-  low-above h = range-above 56320 57343 u h
 
 char_found : {line : List ℕ} {at u e : ℕ} {m : Read (List ℕ)} → CharIs line at u e m → CharTold line at (Ok (u, e)) m
 char_found {line} {at} {u} {e} {m} h =

@@ -19,15 +19,6 @@ use Rattle.jsontext.specs.declared.Bad.{Bad}
 use Rattle.jsontext.specs.Reading.{Read, got, then, no, wrong}
 use Rattle.jsonread.specs.Told.{Stands, Faulty, Lacks, Told}
 
--- a number below a range, and one that is not
-pub range-below : (low high n : ℕ) → n < low → false ≡ within low high n
-unfolding ◌and◌
-range-below low high n h = rw (lt-leb low n h)
-
-pub range-above : (low high n : ℕ) → low ≤ n → leb n high ≡ within low high n
-unfolding ◌and◌
-range-above low high n h = rw (le-leb low n h)
-
 pub byte_at : (line : List ℕ) (at : ℕ) → at < length line → drop at line ≡ get_or line at 0 ∷ drop (at + 1) line
 byte_at line at h = rw (add-one at) (drop-cons line at 0 h)
 

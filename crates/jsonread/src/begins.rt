@@ -14,13 +14,7 @@ use jsontext::{Bad, Fault};
 pub fn is_numeral(c: u8) -> bool
     ensures { ◌≡◌ {A = Bool} result (numeral c) }
 {
-    if c == b'-' {
-        return true;
-    }
-    if c < b'0' {
-        return false;
-    }
-    c <= b'9'
+    c == b'-' || b'0' <= c && c <= b'9'
 }
 
 fn is_first(c: u8) -> bool
@@ -41,10 +35,7 @@ fn is_first(c: u8) -> bool
 pub fn instead(c: u8, w: Fault) -> Fault
     ensures { result ≡ choose (begins c) w Fault.NotJson }
 {
-    if is_first(c) {
-        return w;
-    }
-    Fault::NotJson
+    if is_first(c) { w } else { Fault::NotJson }
 }
 
 // a string, and nothing else

@@ -8,13 +8,7 @@ use jsontext::{Bad, Fault};
 fn is_blank(c: u8) -> bool
     ensures { ◌≡◌ {A = Bool} result (is_blank c) }
 {
-    if c == b' ' {
-        return true;
-    }
-    if c == b'\t' {
-        return true;
-    }
-    c == b'\r'
+    c == b' ' || c == b'\t' || c == b'\r'
 }
 
 pub fn skip_blanks(line: &[u8], at: usize) -> usize

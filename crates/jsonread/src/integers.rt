@@ -16,10 +16,7 @@ pub struct Digits {
 fn is_digit(c: u8) -> bool
     ensures { ◌≡◌ {A = Bool} result (is_digit c) }
 {
-    if c < b'0' {
-        return false;
-    }
-    c <= b'9'
+    b'0' <= c && c <= b'9'
 }
 
 fn wide(c: u8) -> u64

@@ -69,19 +69,13 @@ fn hex4(line: &[u8], at: usize) -> Result<u32, Bad>
 fn is_high(u: u32) -> bool
     ensures { ◌≡◌ {A = Bool} result (is_high u) }
 {
-    if u < 55296 {
-        return false;
-    }
-    u <= 56319
+    55296 <= u && u <= 56319
 }
 
 fn is_low(u: u32) -> bool
     ensures { ◌≡◌ {A = Bool} result (is_low u) }
 {
-    if u < 56320 {
-        return false;
-    }
-    u <= 57343
+    56320 <= u && u <= 57343
 }
 
 // four hex digits of a low half

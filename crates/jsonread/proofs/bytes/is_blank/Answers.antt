@@ -1,12 +1,13 @@
-use Rattle.std.proofs.Common.{rules}
-use Rattle.jsonread.proofs.Due.{space, tab, carriage}
+use Rattle.std.proofs.Common.{arith}
+use Rattle.std.proofs.lemmas.Bool.Decides.{nat_tests}
+use Rattle.meaning.specs.Tests.{◌or◌}
+use Rattle.jsontext.specs.Reading.{is_blank}
 use Rattle.jsonread.proofs.bytes.is_blank.Goals as goal
 
-pub returns-then-c-eq32 : goal.returns-then-c-eq32
-returns-then-c-eq32 c = search (space, rules)
-
 pub returns-then-c-eq9 : goal.returns-then-c-eq9
-returns-then-c-eq9 c = search (tab, rules)
+unfolding is_blank ◌or◌
+returns-then-c-eq9 c = grind (arith, nat_tests)
 
-pub returns : goal.returns
-returns c = search (carriage, rules)
+pub returns-else-c-eq9 : goal.returns-else-c-eq9
+unfolding is_blank ◌or◌
+returns-else-c-eq9 c = grind (arith, nat_tests)

@@ -1,9 +1,13 @@
-use Rattle.std.proofs.Common.{rules}
-use Rattle.jsonread.proofs.Counts.{digit-below, digit-above}
+use Rattle.std.proofs.Common.{arith}
+use Rattle.std.proofs.lemmas.Bool.Decides.{nat_tests}
+use Rattle.meaning.specs.Tests.{◌and◌}
+use Rattle.meaning.specs.Equal.{is_digit}
 use Rattle.jsonread.proofs.integers.is_digit.Goals as goal
 
-pub returns-then-c-lt48 : goal.returns-then-c-lt48
-returns-then-c-lt48 c = search (digit-below, rules)
+pub returns-then-c-ge48 : goal.returns-then-c-ge48
+unfolding is_digit ◌and◌
+returns-then-c-ge48 c = grind (arith, nat_tests)
 
-pub returns : goal.returns
-returns c = search (digit-above, rules)
+pub returns-else-c-ge48 : goal.returns-else-c-ge48
+unfolding is_digit ◌and◌
+returns-else-c-ge48 c = grind (arith, nat_tests)

@@ -49,7 +49,7 @@ pub fn text_bytes(s: &[u8], order: &[u32], n: usize) -> usize
 // two words: where a part starts and how long it is
 fn put_place(out: &mut [u8], at: usize, start: usize, size: usize)
     requires at_in_bounds { at + 8 ≤ length out.old }
-    requires start_bound { (start ≤ 4294967295) × (size ≤ 4294967295) }
+    requires start_bound { (start ≤ u32.MAX) × (size ≤ u32.MAX) }
     ensures { Writing out.old out.new at (packed (start ∷ size ∷ [])) }
 {
     put_word(out, at, narrow(start));
@@ -103,7 +103,7 @@ fn within(n: usize, low: usize, high: usize) -> bool
 // does word i of the values name a string?
 fn value_names(s: &[u8], i: usize) -> bool
     requires s_value { bodies s.now ≡ true }
-    requires i_bound { i ≤ 4294967295 }
+    requires i_bound { i ≤ u32.MAX }
     ensures { ◌≡◌ {A = Bool} result (value_names s.now i) }
 {
     let kind = value_word(s, ValNo(narrow(i / 4)), 0);
@@ -117,7 +117,7 @@ fn value_names(s: &[u8], i: usize) -> bool
 // does word i of the nodes name a string?
 fn node_names(s: &[u8], i: usize) -> bool
     requires s_value { bodies s.now ≡ true }
-    requires i_bound { i ≤ 4294967295 }
+    requires i_bound { i ≤ u32.MAX }
     ensures { ◌≡◌ {A = Bool} result (node_names s.now i) }
 {
     let kind = node_word(s, NodeNo(narrow(i / 8)), 0);
@@ -133,7 +133,7 @@ pub fn is_marked(marks: &[u8], i: usize) -> bool
 // does word i of body k name a string?
 fn is_name(s: &[u8], marks: &[u8], k: usize, i: usize) -> bool
     requires s_value { bodies s.now ≡ true }
-    requires i_bound { i ≤ 4294967295 }
+    requires i_bound { i ≤ u32.MAX }
     ensures { ◌≡◌ {A = Bool} result (names s.now marks.now k i) }
 {
     match k {
@@ -150,7 +150,7 @@ fn renamed_word(s: &[u8], marks: &[u8], order: &[u32], n: usize, k: usize, i: us
     requires s_value { bodies s.now ≡ true }
     requires sorted { Sorted s.now order.now n }
     requires table { Table n k }
-    requires i_bound { i ≤ 4294967295 }
+    requires i_bound { i ≤ u32.MAX }
     ensures { result ≡ renamed s.now marks.now k i }
 {
     let w = body_word(s, k, i);

@@ -142,7 +142,7 @@ fn join_one(
     requires s_value { bodies s.now ≡ true }
     requires fresh { Fresh s.now order.now n fresh.old places.old m }
     requires m_in_bounds { m < length fresh.old }
-    requires n_bound { n ≤ 4294967295 }
+    requires n_bound { n ≤ u32.MAX }
     ensures { Keeps s.now order.now n fresh.new places.new (insert_new (text s.now k) (together s.now order.now n fresh.old m)) result }
 {
     let x = text_in(s, StrNo(k));
@@ -209,7 +209,7 @@ fn merge(order: &mut [u32], n: usize, fresh: &[u32], places: &[u32], m: usize)
 // is string k + 1 before string k, or after it?
 fn goes_on(s: &[u8], k: u32, down: bool) -> bool
     requires s_value { bodies s.now ≡ true }
-    requires k_bound { k < 4294967295 }
+    requires k_bound { k < u32.MAX }
     ensures { ◌≡◌ {A = Bool} result (onward s.now down k) }
 {
     let x = text_in(s, StrNo(k));
@@ -323,7 +323,7 @@ fn all_seen(seen: &[bool; 16384], n: usize) -> bool
     true
 }
 
-// all strings are in order, each text once; or the first so many are joined
+// all strings are in order, each text once; or the first so many are joined: two answers, neither a failure
 #[derive(Clone, Copy)]
 pub enum Taken {
     All(usize),
@@ -385,7 +385,8 @@ fn keep_next(s: &[u8], kept: &mut [u32], m: usize, k: u32) -> Option<usize>
     Some(m)
 }
 
-// the first `upto` strings have the texts of `many` of them, which are kept, and rise
+// the first `upto` strings have the texts of `many` of them, which are kept; `rises` says whether these rise: no flag of
+// the other two, which always hold
 #[derive(Clone, Copy)]
 pub struct Sifted {
     upto: u32,
@@ -597,7 +598,7 @@ pub fn join_strings(s: &[u8], order: &mut [u32]) -> Option<usize>
 }
 
 pub fn narrow(n: usize) -> u32
-    requires { n ≤ 4294967295 }
+    requires { n ≤ u32.MAX }
     ensures { result ≡ n }
 {
     n as u32

@@ -11,14 +11,14 @@ use meaning::StrNo;
 // four bytes as one number, the first the lowest
 fn four_at(x: &[u8], i: usize) -> u64
     requires { i + 4 ≤ length x.now }
-    ensures { result ≤ 4294967295 }
+    ensures { result ≤ u32.MAX }
 {
     u64::from(u32::from_le_bytes([x[i], x[i + 1], x[i + 2], x[i + 3]]))
 }
 
 fn mixed(h: u64, a: u64, b: u64) -> u64
-    requires a_bound { a ≤ 4294967295 }
-    requires b_bound { b ≤ 4294967295 }
+    requires a_bound { a ≤ u32.MAX }
+    requires b_bound { b ≤ u32.MAX }
 {
     let p = (h % 4294967296 + a) * 1640531527;
     let q = (h / 4294967296 + b) * 1540483477;

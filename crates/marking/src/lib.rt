@@ -44,7 +44,7 @@ fn keep(table: &mut [u32; 8192], i: usize, items: u32)
 
 // one item more, if it passes
 fn longer(passes: bool, items: u32) -> u32
-    requires { items < 4294967295 }
+    requires { items < u32.MAX }
     ensures { result ≡ choose passes (items + 1) 0 }
 {
     if passes { items + 1 } else { 0 }

@@ -1,7 +1,7 @@
 use Rattle.evaluator.proofs.Keeping.{GoesKeep}
 use Rattle.evaluator.proofs.Loops.{GoesEach, GoesUp, rows_of, keeps_of}
 use Rattle.evaluator.proofs.Verdicts.{Goes, GoesAll, for, anchors as sinces}
-use Prim.Native.Nat.{◌+◌, ◌-◌, ◌*◌, max}
+use Prim.Native.Nat.{◌+◌, ◌*◌, max}
 use Rattle.evaluator.proofs.+walk.Given as goal
 
 abbrev pub decreases-and : goal.decreases-and
@@ -67,9 +67,6 @@ decreases-union l = 8 * max l.l.0 l.r.0 + 4
 abbrev pub invariant-each-loop-k : goal.invariant-each-loop-k
 invariant-each-loop-k l = GoesEach l.s l.call l.env l.r.0 l.i l.base l.initial.so_far l.initial.work l.k l.so_far l.work
 
-abbrev pub decreases-each-loop-k : goal.decreases-each-loop-k
-decreases-each-loop-k l = l.top - l.k
-
 abbrev pub invariant-formerly-loop-call : goal.invariant-formerly-loop-call
 invariant-formerly-loop-call l = Goes l.s l.call l.env (for l.x.0) l.span l.here l.i l.initial.mn l.initial.work l.n l.mn l.work
 
@@ -77,16 +74,10 @@ abbrev pub decreases-formerly-loop-call : goal.decreases-formerly-loop-call
 decreases-formerly-loop-call l = l.n
 
 abbrev pub invariant-lasts-loop-k : goal.invariant-lasts-loop-k
-invariant-lasts-loop-k l = GoesAll l.s l.call l.env l.l.0 l.i l.initial.k l.initial.mk l.initial.work l.k l.mk l.work
+invariant-lasts-loop-k l = GoesAll l.s l.call l.env l.l.0 l.i l.j l.initial.mk l.initial.work l.k l.mk l.work
 
-abbrev pub decreases-lasts-loop-k : goal.decreases-lasts-loop-k
-decreases-lasts-loop-k l = l.i - l.k
-
-abbrev pub invariant-rows_up-loop-m2 : goal.invariant-rows_up-loop-m2
-invariant-rows_up-loop-m2 l = GoesUp l.s l.call l.env (rows_of l.x.0) l.span l.here l.i l.initial.mj l.initial.work l.j l.mj l.work
-
-abbrev pub decreases-rows_up-loop-m2 : goal.decreases-rows_up-loop-m2
-decreases-rows_up-loop-m2 l = l.i - l.j
+abbrev pub invariant-rows_up-loop-j : goal.invariant-rows_up-loop-j
+invariant-rows_up-loop-j l = GoesUp l.s l.call l.env (rows_of l.x.0) l.span l.here l.i l.initial.mj l.initial.work l.j l.mj l.work
 
 abbrev pub invariant-since-loop-call : goal.invariant-since-loop-call
 invariant-since-loop-call l = Goes l.s l.call l.env (sinces l.l.0 l.r.0) l.span l.here l.i l.initial.mn l.initial.work l.n l.mn l.work
@@ -94,14 +85,8 @@ invariant-since-loop-call l = Goes l.s l.call l.env (sinces l.l.0 l.r.0) l.span 
 abbrev pub decreases-since-loop-call : goal.decreases-since-loop-call
 decreases-since-loop-call l = l.n
 
-abbrev pub invariant-since_up-loop-m2 : goal.invariant-since_up-loop-m2
-invariant-since_up-loop-m2 l = GoesUp l.s l.call l.env (keeps_of l.l.0 l.r.0) l.span l.here l.i l.initial.mj l.initial.work l.j l.mj l.work
-
-abbrev pub decreases-since_up-loop-m2 : goal.decreases-since_up-loop-m2
-decreases-since_up-loop-m2 l = l.i - l.j
+abbrev pub invariant-since_up-loop-j : goal.invariant-since_up-loop-j
+invariant-since_up-loop-j l = GoesUp l.s l.call l.env (keeps_of l.l.0 l.r.0) l.span l.here l.i l.initial.mj l.initial.work l.j l.mj l.work
 
 abbrev pub invariant-turn-loop-h : goal.invariant-turn-loop-h
-invariant-turn-loop-h l = GoesKeep l.s l.call l.env l.l.0 l.i l.j l.base l.to l.initial.top l.initial.mh l.initial.work l.top l.h l.mh l.work
-
-abbrev pub decreases-turn-loop-h : goal.decreases-turn-loop-h
-decreases-turn-loop-h l = l.to - l.h
+invariant-turn-loop-h l = GoesKeep l.s l.call l.env l.l.0 l.i l.j l.base l.h-end l.initial.top l.initial.mh l.initial.work l.top l.h l.mh l.work

@@ -8,7 +8,6 @@ use native.Mathlib.Numerals.{add-one}
 use lib.ListN.{length}
 use Rattle.meaning.specs.declared.Env.{Env}
 use Rattle.meaning.specs.declared.Meter.{Meter}
-use Rattle.meaning.specs.declared.Refusal.{Refusal}
 use Rattle.meaning.specs.declared.Interval.{Interval}
 use Rattle.meaning.specs.declared.NodeNo.{NodeNo}
 use Rattle.meaning.specs.Tests.{choose}
@@ -20,9 +19,9 @@ use Rattle.meaning.specs.Carried.{body_turn, left_turn, left_from, anchor_turn, 
 use Rattle.meaning.specs.Carried.{Turn as TurnOf}
 use Rattle.matching.specs.Asking.{asking}
 use Rattle.evaluator.specs.declared.Call.{Call}
-use Rattle.evaluator.specs.declared.Verdict.{Verdict}
-use Rattle.evaluator.specs.declared.Verdict.TheVariants as Ver
-use Rattle.evaluator.specs.Asks.{said_verdict, node, walk_for, Ready, Decides}
+use Rattle.std.specs.Prelude.{Result, Ok, Err}
+use Rattle.rows.specs.declared.Stopped.{Stopped}
+use Rattle.evaluator.specs.Asks.{Verdict, said_verdict, node, walk_for, Ready, Decides}
 use Rattle.carried.specs.declared.Look.{Look}
 use Rattle.carried.specs.declared.Look.TheVariants as Loo
 use Rattle.carried.specs.declared.Turn.{Turn}
@@ -60,15 +59,15 @@ whole r = checked-bodies r.checked
 -- ---- a body
 
 module _ {s : List ℕ} {c : Call} {e : Env} {x j : ℕ} {v : Verdict} (g : Asks s c e x j v) where
-  pub body-yes : {y : Bool} {m : Meter} → v ≡ Ver.Answer y m → y ≡ true → Bodies s c e x j Tur.Carries
+  pub body-yes : {y : Bool} {m : Meter} → v ≡ Ok (y, m) → y ≡ true → Bodies s c e x j (Ok Tur.Carries)
   unfolding as_turn body_turn choose
-  body-yes {m = m} q t = record { is = ap body_turn (sym (ap (λ (y : Bool). said_verdict (Ver.Answer y m)) t) ∙ sym (ap said_verdict q) ∙ g.is) }
+  body-yes {m = m} q t = record { is = ap body_turn (sym (ap (λ (y : Bool). said_verdict (Ok (y, m))) t) ∙ sym (ap said_verdict q) ∙ g.is) }
 
-  pub body-no : {y : Bool} {m : Meter} → v ≡ Ver.Answer y m → y ≡ false → Bodies s c e x j Tur.Passes
+  pub body-no : {y : Bool} {m : Meter} → v ≡ Ok (y, m) → y ≡ false → Bodies s c e x j (Ok Tur.Passes)
   unfolding as_turn body_turn choose
-  body-no {m = m} q t = record { is = ap body_turn (sym (ap (λ (y : Bool). said_verdict (Ver.Answer y m)) t) ∙ sym (ap said_verdict q) ∙ g.is) }
+  body-no {m = m} q t = record { is = ap body_turn (sym (ap (λ (y : Bool). said_verdict (Ok (y, m))) t) ∙ sym (ap said_verdict q) ∙ g.is) }
 
-  pub body-stop : {n : Refusal} {m : Meter} → v ≡ Ver.Refused n m → Bodies s c e x j (Tur.Refused n m)
+  pub body-stop : {z : Stopped} → v ≡ Err z → Bodies s c e x j (Err z)
   unfolding as_turn body_turn
   body-stop q = record { is = ap body_turn (sym (ap said_verdict q) ∙ g.is) }
 
@@ -83,7 +82,7 @@ pub record Lefts (s : List ℕ) (c : Call) (e : Env) (l j : ℕ) (b₀ : List �
 pub left-start : {s : List ℕ} {c : Call} {e : Env} {l j : ℕ} {b : List ℕ} → j ≤ c.asked → Ready s c e started b → Lefts s c e l j b j b
 left-start le ready = record { le = le; same = refl; ready = ready; on = refl }
 
-pub left-all : {s : List ℕ} {c : Call} {e : Env} {l j k : ℕ} {b₀ b : List ℕ} → Lefts s c e l j b₀ k b → c.asked ≤ k → Lasts s c e l j Tur.Carries
+pub left-all : {s : List ℕ} {c : Call} {e : Env} {l j k : ℕ} {b₀ b : List ℕ} → Lefts s c e l j b₀ k b → c.asked ≤ k → Lasts s c e l j (Ok Tur.Carries)
 unfolding as_turn left_from
 left-all {s} {c} {e} {l} {j} {k} o ge =
     let z : c.asked - k ≡ 0 = omega arith in
@@ -102,20 +101,20 @@ module _ {s : List ℕ} {c : Call} {e : Env} {l j k : ℕ} {b₀ b : List ℕ} {
   left-turn : {v' : Verdict} → v ≡ v' → left_from (λ i. asks_at s c e l i) (suc j) (c.asked - j) ≡ left_turn (k + 1) (said_verdict v') rest
   left-turn q = o.on ∙ left-point (λ i. asks_at s c e l i) c.asked k lt ∙ ap (λ (a : Outcome Bool). left_turn (k + 1) a rest) (sym g.is ∙ ap said_verdict q)
 
-  pub left-next : {y : Bool} {m : Meter} {a : List ℕ} → v ≡ Ver.Answer y m → y ≡ true → length a ≡ length b → Lefts s c e l j b₀ (k + 1) a
+  pub left-next : {y : Bool} {m : Meter} {a : List ℕ} → v ≡ Ok (y, m) → y ≡ true → length a ≡ length b → Lefts s c e l j b₀ (k + 1) a
   unfolding left_turn choose
   left-next {m = m} q t len = record {
     le = omega arith;
     same = len ∙ o.same;
     ready = ready-next o.ready len;
-    on = left-turn (q ∙ ap (λ (y : Bool). Ver.Answer y m) t);
+    on = left-turn (q ∙ ap (λ (y : Bool). Ok (y, m)) t);
   }
 
-  pub left-fails : {y : Bool} {m : Meter} → v ≡ Ver.Answer y m → y ≡ false → Lasts s c e l j (Tur.Fails (k + 1))
+  pub left-fails : {y : Bool} {m : Meter} → v ≡ Ok (y, m) → y ≡ false → Lasts s c e l j (Ok (Tur.Fails (k + 1)))
   unfolding as_turn left_turn choose
-  left-fails {m = m} q t = record { is = sym (left-turn (q ∙ ap (λ (y : Bool). Ver.Answer y m) t)) }
+  left-fails {m = m} q t = record { is = sym (left-turn (q ∙ ap (λ (y : Bool). Ok (y, m)) t)) }
 
-  pub left-stops : {n : Refusal} {m : Meter} → v ≡ Ver.Refused n m → Lasts s c e l j (Tur.Refused n m)
+  pub left-stops : {z : Stopped} → v ≡ Err z → Lasts s c e l j (Err z)
   unfolding as_turn left_turn
   left-stops q = record { is = sym (left-turn q) }
 
@@ -128,21 +127,21 @@ module _ {s : List ℕ} {c : Call} {e : Env} (l : ℕ) {r j : ℕ} {v : Verdict}
   anchor-turn : {v' : Verdict} → v ≡ v' → anchor_turn (asks_at s c e r j) (left_after s c e l j) ≡ anchor_turn (said_verdict v') (left_after s c e l j)
   anchor-turn q = ap (λ (a : Outcome Bool). anchor_turn a (left_after s c e l j)) (sym g.is ∙ ap said_verdict q)
 
-  pub anchor-no : {y : Bool} {m : Meter} → v ≡ Ver.Answer y m → y ≡ false → Anchors s c e l r j Tur.Passes
+  pub anchor-no : {y : Bool} {m : Meter} → v ≡ Ok (y, m) → y ≡ false → Anchors s c e l r j (Ok Tur.Passes)
   unfolding as_turn anchor_turn choose
-  anchor-no {m = m} q t = record { is = sym (anchor-turn (q ∙ ap (λ (y : Bool). Ver.Answer y m) t)) }
+  anchor-no {m = m} q t = record { is = sym (anchor-turn (q ∙ ap (λ (y : Bool). Ok (y, m)) t)) }
 
-  pub anchor-stop : {n : Refusal} {m : Meter} → v ≡ Ver.Refused n m → Anchors s c e l r j (Tur.Refused n m)
+  pub anchor-stop : {z : Stopped} → v ≡ Err z → Anchors s c e l r j (Err z)
   unfolding as_turn anchor_turn
   anchor-stop q = record { is = sym (anchor-turn q) }
 
-  pub anchor-left : {y : Bool} {m : Meter} {t : Turn} → v ≡ Ver.Answer y m → y ≡ true → Lasts s c e l j t → Anchors s c e l r j t
+  pub anchor-left : {y : Bool} {m : Meter} {t : Result Turn Stopped} → v ≡ Ok (y, m) → y ≡ true → Lasts s c e l j t → Anchors s c e l r j t
   unfolding anchor_turn choose
-  anchor-left {m = m} q t d = record { is = d.is ∙ sym (anchor-turn (q ∙ ap (λ (y : Bool). Ver.Answer y m) t)) }
+  anchor-left {m = m} q t d = record { is = d.is ∙ sym (anchor-turn (q ∙ ap (λ (y : Bool). Ok (y, m)) t)) }
 
 -- ---- a turn, by the node that looks back
 
-module _ {s : List ℕ} {c : Call} {e : Env} {look : Look} {j : ℕ} {t : Turn} where
+module _ {s : List ℕ} {c : Call} {e : Env} {look : Look} {j : ℕ} {t : Result Turn Stopped} where
   pub turn-formerly : {within : Interval} {x : NodeNo} → look ≡ Loo.Formerly within x → Bodies s c e x.0 j t → Turns s c e look j t
   unfolding as_look turn_in turn_at
   turn-formerly q g = record { is = g.is ∙ sym (ap (λ (k : Look). turn_in s c e (as_look k) j) q) }
@@ -154,7 +153,3 @@ module _ {s : List ℕ} {c : Call} {e : Env} {look : Look} {j : ℕ} {t : Turn} 
   pub turn-since : {within : Interval} {l r : NodeNo} → look ≡ Loo.Since l r within → Anchors s c e l.0 r.0 j t → Turns s c e look j t
   unfolding as_look turn_in turn_at
   turn-since q g = record { is = g.is ∙ sym (ap (λ (k : Look). turn_in s c e (as_look k) j) q) }
-
-pub turn-other : {s : List ℕ} {c : Call} {e : Env} {look : Look} {j : ℕ} → look ≡ Loo.Other → Turns s c e look j Tur.Passes
-unfolding as_look turn_in as_turn
-turn-other {s} {c} {e} {look} {j} q = record { is = sym (ap (λ (k : Look). turn_in s c e (as_look k) j) q) }

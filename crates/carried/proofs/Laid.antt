@@ -13,8 +13,9 @@ use Rattle.meaning.specs.declared.Refusal.TheVariants.{ListTooShort}
 use Rattle.meaning.specs.Tests.{choose}
 use Rattle.meaning.specs.Case.{places}
 use Rattle.meaning.specs.Carried.{listed}
-use Rattle.carried.specs.declared.Carried.TheVariants as Car
-use Rattle.carried.specs.Shows.{as_carried, laid, PutTwo, Lists}
+use Rattle.std.specs.Prelude.{Ok, Err}
+use Rattle.meaning.specs.Walk.{started}
+use Rattle.carried.specs.Shows.{as_carried, too_short, laid, PutTwo, Lists}
 
 pub put-beyond : (l : List ℕ) (i a : ℕ) → length l ≤ i → l ≡ set l i a
 put-beyond l i a le = sym (set_out l i a le)
@@ -87,13 +88,13 @@ put_all {j} {n} {k} {l₀} p ge = let z : k ≡ n = omega (arith, p.le) in p.is 
 
 -- ---- a yes
 
-pub yes-short : {j n : ℕ} {l : List ℕ} → length l < n → Lists j n l l (Car.Refuses ListTooShort 0 0)
-unfolding as_carried listed choose
+pub yes-short : {j n : ℕ} {l : List ℕ} → length l < n → Lists j n l l (Err too_short)
+unfolding as_carried listed choose started
 yes-short {j} {n} {l} lt =
     let z : leb (length (places j 1 n)) (length l) ≡ false = lt-leb (length (places j 1 n)) (length l) (omega (arith, places-long j n)) in
     record { is = rw z refl }
 
-pub yes-listed : {j n : ℕ} {l after : List ℕ} → n ≤ length l → after ≡ laid (places j 1 n) l → Lists j n l after (Car.Gives true n)
+pub yes-listed : {j n : ℕ} {l after : List ℕ} → n ≤ length l → after ≡ laid (places j 1 n) l → Lists j n l after (Ok (record { verdict = true; filled = n }))
 unfolding as_carried listed choose
 yes-listed {j} {n} {l} {after} le e =
     let fits : length (places j 1 n) ≤ length l = omega (arith, places-long j n) in

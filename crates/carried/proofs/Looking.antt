@@ -1,7 +1,7 @@
 -- The nodes that look back, and the points that a yes lists, by the variant
 use Prim.Native.Nat.{ℕ, ◌+◌, ◌-◌, ◌≤◌, ◌<◌}
 use mathlib.Core.Path.{◌≡◌, refl, ap, sym, ◌∙◌}
-use mathlib.Core.Bool.{true, false}
+use mathlib.Core.Bool.{Bool, true, false}
 use mathlib.Core.List.{List, [], ◌∷◌}
 use native.Mathlib.Omega.{arith}
 use native.Mathlib.Numerals.{add-one}
@@ -12,33 +12,34 @@ use Rattle.meaning.specs.declared.NodeNo.{NodeNo}
 use Rattle.meaning.specs.contracts.Node.{the_type}
 use Rattle.meaning.specs.declared.Node.{Node}
 use Rattle.meaning.specs.declared.Node.TheVariants.{And, Or, Not, Formerly, Previous, Since, Predicate, Comparison, Exists, Tp, Literal, Context, Scope, Variable, Wildcard, Aggregate, Arithmetic, Sum, Count, Broken}
-use Rattle.meaning.specs.declared.TimeUnit.TheVariants.{Seconds}
 use Rattle.meaning.specs.Tests.{is_some}
 use Rattle.meaning.specs.Case.{places}
 use Rattle.meaning.specs.Carried.{look_of, looks_back, carried_by}
+use Rattle.std.specs.Prelude.{Option as Answer, Some, None}
+use Rattle.std.specs.Option.{is_some as there}
 use Rattle.carried.specs.declared.Look.{Look}
 use Rattle.carried.specs.declared.Look.TheVariants as Loo
-use Rattle.carried.specs.Shows.{as_look, window_in, carried_in, Points}
+use Rattle.carried.specs.Shows.{as_look, looking, window_in, Points}
 
 module _ (nd : Node) where
-  pub look-formerly : {within : Interval} {x : NodeNo} → nd ≡ Formerly within x → as_look (Loo.Formerly within x) ≡ look_of nd
-  unfolding as_look look_of
+  pub look-formerly : {within : Interval} {x : NodeNo} → nd ≡ Formerly within x → looking (Some (Loo.Formerly within x)) ≡ look_of nd
+  unfolding looking as_look look_of
   look-formerly q = sym (ap look_of q)
 
-  pub look-previous : {within : Interval} {x : NodeNo} → nd ≡ Previous within x → as_look (Loo.Previous within x) ≡ look_of nd
-  unfolding as_look look_of
+  pub look-previous : {within : Interval} {x : NodeNo} → nd ≡ Previous within x → looking (Some (Loo.Previous within x)) ≡ look_of nd
+  unfolding looking as_look look_of
   look-previous q = sym (ap look_of q)
 
-  pub look-since : {within : Interval} {l r : NodeNo} → nd ≡ Since l r within → as_look (Loo.Since l r within) ≡ look_of nd
-  unfolding as_look look_of
+  pub look-since : {within : Interval} {l r : NodeNo} → nd ≡ Since l r within → looking (Some (Loo.Since l r within)) ≡ look_of nd
+  unfolding looking as_look look_of
   look-since q = sym (ap look_of q)
 
 -- what is none of them
 abbrev others : List ℕ
 others = 0 ∷ 1 ∷ 2 ∷ 6 ∷ 7 ∷ 8 ∷ 9 ∷ 10 ∷ 11 ∷ 12 ∷ 13 ∷ 14 ∷ 15 ∷ 16 ∷ 17 ∷ 18 ∷ 19 ∷ []
 
-pub look-other : (nd : Node) → OneOf (0 ∷ 1 ∷ 2 ∷ 6 ∷ 7 ∷ 8 ∷ 9 ∷ 10 ∷ 11 ∷ 12 ∷ 13 ∷ 14 ∷ 15 ∷ 16 ∷ 17 ∷ 18 ∷ 19 ∷ []) (tag_of the_type nd) → as_look Loo.Other ≡ look_of nd
-unfolding as_look look_of
+pub look-other : (nd : Node) → OneOf (0 ∷ 1 ∷ 2 ∷ 6 ∷ 7 ∷ 8 ∷ 9 ∷ 10 ∷ 11 ∷ 12 ∷ 13 ∷ 14 ∷ 15 ∷ 16 ∷ 17 ∷ 18 ∷ 19 ∷ []) (tag_of the_type nd) → looking None ≡ look_of nd
+unfolding looking as_look look_of
 look-other (And l r) h = refl
 look-other (Or l r) h = refl
 look-other (Not n) h = refl
@@ -75,51 +76,27 @@ module _ {look : Look} where
   unfolding as_look window_in
   window-since q = sym (ap (λ (k : Look). window_in (as_look k)) q)
 
-  pub window-other : look ≡ Loo.Other → record { amount = 0; unit = Seconds } ≡ window_in (as_look look)
-  unfolding as_look window_in
-  window-other q = sym (ap (λ (k : Look). window_in (as_look k)) q)
-
 -- ---- whether it looks back
 
-module _ (nd : Node) (look : Look) (is : as_look look ≡ look_of nd) where
-  looks_as : {k : Look} → look ≡ k → is_some (as_look k) ≡ looks_back nd
-  unfolding looks_back
-  looks_as q = ap (λ (k : Look). is_some (as_look k)) (sym q) ∙ ap is_some is
-
-  pub looks_formerly : {within : Interval} {x : NodeNo} → look ≡ Loo.Formerly within x → true ≡ looks_back nd
-  unfolding as_look is_some
-  looks_formerly q = looks_as q
-
-  pub looks_previous : {within : Interval} {x : NodeNo} → look ≡ Loo.Previous within x → true ≡ looks_back nd
-  unfolding as_look is_some
-  looks_previous q = looks_as q
-
-  pub looks_since : {within : Interval} {l r : NodeNo} → look ≡ Loo.Since l r within → true ≡ looks_back nd
-  unfolding as_look is_some
-  looks_since q = looks_as q
-
-  pub looks_not : look ≡ Loo.Other → false ≡ looks_back nd
-  unfolding as_look is_some
-  looks_not q = looks_as q
+pub looks-as : (nd : Node) (look : Answer Look) {y : Bool} → y ≡ there look → looking look ≡ look_of nd → y ≡ looks_back nd
+unfolding looks_back looking is_some
+looks-as nd (Some look) h is = h ∙ ap is_some is
+looks-as nd None h is = h ∙ ap is_some is
 
 -- ---- how many points
 
 module _ {look : Look} {i j : ℕ} (le : j ≤ i) (lt : i < 16384) where
-  points-as : {k : Look} (n : ℕ) → look ≡ k → places j 1 n ≡ carried_in (as_look k) i j → j + n ≤ 16384 → Points look i j n
-  points-as n q is few = record { is = is ∙ sym (ap (λ (k : Look). carried_in (as_look k) i j) q); few = few }
+  points-as : {k : Look} (n : ℕ) → look ≡ k → places j 1 n ≡ carried_by (as_look k) i j → j + n ≤ 16384 → Points look i j n
+  points-as n q is few = record { is = is ∙ sym (ap (λ (k : Look). carried_by (as_look k) i j) q); few = few }
 
   pub points-formerly : {within : Interval} {x : NodeNo} → look ≡ Loo.Formerly within x → Points look i j 1
-  unfolding as_look carried_in carried_by places
+  unfolding as_look carried_by places
   points-formerly q = points-as 1 q refl (omega arith)
 
   pub points-previous : {within : Interval} {x : NodeNo} → look ≡ Loo.Previous within x → Points look i j 1
-  unfolding as_look carried_in carried_by places
+  unfolding as_look carried_by places
   points-previous q = points-as 1 q refl (omega arith)
 
-  pub points-other : look ≡ Loo.Other → Points look i j 1
-  unfolding as_look carried_in places
-  points-other q = points-as 1 q refl (omega arith)
-
   pub points-since : {within : Interval} {l r : NodeNo} → look ≡ Loo.Since l r within → Points look i j (i - j + 1)
-  unfolding as_look carried_in carried_by
+  unfolding as_look carried_by
   points-since q = points-as (i - j + 1) q (ap (places j 1) (add-one (i - j))) (omega arith)

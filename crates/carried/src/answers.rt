@@ -4,12 +4,13 @@ ghost use Rattle.meaning.specs.Walk.{started};
 ghost use Rattle.evaluator.specs.Asks.{Ready};
 ghost use Rattle.carried.specs.Shows.{Points, Carries};
 
-use super::list::list_points;
+use super::list::{list_points, short};
 use super::looks::look_of;
 use super::scans::{scan_back, settle};
-use super::{Carried, End, Look};
+use super::{Carried, Look};
 use evaluator::Call;
-use meaning::{Env, NodeNo, Refusal};
+use meaning::{Env, NodeNo};
+use rows::Stopped;
 
 // how many points a yes at j lists
 fn how_many(look: Look, j: usize, i: usize) -> usize
@@ -20,7 +21,6 @@ fn how_many(look: Look, j: usize, i: usize) -> usize
         Look::Formerly(_, _) => 1,
         Look::Previous(_, _) => 1,
         Look::Since(_, _, _) => i - j + 1,
-        Look::Other => 1,
     }
 }
 
@@ -32,31 +32,33 @@ pub fn answer(
     env: Env,
     n: NodeNo,
     list: &mut [u64],
-) -> Carried
+) -> Result<Carried, Stopped>
     requires ready { Ready s.now call env started work.old }
     requires asked_bound { call.asked < 16384 }
     ensures { Carries s.now call env n.0 list.old list.new result }
 {
-    let node = tables::node_at(s, n);
-    let look = look_of(node);
-    let found = settle(s, work, call, env, look, list);
-    let failed = found.failed;
-    let end = found.end;
-    match end {
-        End::At(j) => {
-            let points = how_many(look, j, call.asked);
-            list_points(list, j, points)
-        }
-        End::Refused(c, m) => Carried::Refuses(c, m.steps, m.most),
-        End::Nowhere => {
-            if list.len() < failed {
-                return Carried::Refuses(Refusal::ListTooShort, 0, 0);
-            }
-            if failed == 0 {
-                return Carried::Gives(false, 0);
-            }
-            scan_back(s, work, call, env, look, list);
-            Carried::Gives(false, failed)
-        }
+    let Some(look) = look_of(tables::node_at(s, n)) else {
+        return Ok(Carried {
+            verdict: false,
+            filled: 0,
+        });
+    };
+    let found = settle(s, work, call, env, look, list)?;
+    if let Some(j) = found.end {
+        return list_points(list, j, how_many(look, j, call.asked));
     }
+    if list.len() < found.failed {
+        return Err(short());
+    }
+    if found.failed == 0 {
+        return Ok(Carried {
+            verdict: false,
+            filled: 0,
+        });
+    }
+    scan_back(s, work, call, env, look, list)?;
+    Ok(Carried {
+        verdict: false,
+        filled: found.failed,
+    })
 }

@@ -10,15 +10,14 @@ mod turns;
 
 pub use answers::answer;
 pub use looks::looks_back;
-use meaning::{Interval, Meter, NodeNo, Refusal};
+use meaning::{Interval, NodeNo};
 
-// a node that looks back over the log, or another
+// a node that looks back over the log
 #[derive(Clone, Copy)]
 pub enum Look {
     Formerly(Interval, NodeNo),
     Previous(Interval, NodeNo),
     Since(NodeNo, NodeNo, Interval),
-    Other,
 }
 
 // what a point in the window is to a scan
@@ -27,27 +26,18 @@ pub enum Turn {
     Passes,
     Carries,
     Fails(usize),
-    Refused(Refusal, Meter),
 }
 
-// how a scan ends
-#[derive(Clone, Copy)]
-pub enum End {
-    At(usize),
-    Nowhere,
-    Refused(Refusal, Meter),
-}
-
-// and how many cells its failed anchors take, two each
+// where a scan ended, if a point carries, and how many cells its failed anchors take, two each
 #[derive(Clone, Copy)]
 pub struct Scan {
-    pub end: End,
+    pub end: Option<usize>,
     pub failed: usize,
 }
 
 // the verdict, and how many cells of the list are filled
 #[derive(Clone, Copy)]
-pub enum Carried {
-    Gives(bool, usize),
-    Refuses(Refusal, u64, usize),
+pub struct Carried {
+    pub verdict: bool,
+    pub filled: usize,
 }

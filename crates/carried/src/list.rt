@@ -1,10 +1,22 @@
 // Points put into the lent list.
 ghost use Rattle.std.specs.Prelude.{◌≡◌, ◌+◌, ◌≤◌, set};
 ghost use Rattle.meaning.specs.Case.{places};
-ghost use Rattle.carried.specs.Shows.{laid, PutTwo, Lists};
+ghost use Rattle.carried.specs.Shows.{laid, too_short, PutTwo, Lists};
 
 use super::Carried;
 use meaning::Refusal;
+use rows::Stopped;
+use rows::meters::started;
+
+// the list has no room for its points; nothing is told as spent
+pub fn short() -> Stopped
+    ensures { result ≡ too_short }
+{
+    Stopped {
+        refusal: Refusal::ListTooShort,
+        meter: started(),
+    }
+}
 
 // a cell, if the list is so long
 fn put(list: &mut [u64], at: usize, point: usize)
@@ -30,21 +42,22 @@ fn put_points(list: &mut [u64], j: usize, n: usize)
     requires { j + n ≤ 16384 }
     ensures { list.new ≡ laid (places j 1 n) list.old }
 {
-    let mut k = 0;
-    while k < n {
+    for k in 0..n {
         put(list, k, j + k);
-        k += 1;
     }
 }
 
 // a yes, made by n points from j on
-pub fn list_points(list: &mut [u64], j: usize, n: usize) -> Carried
+pub fn list_points(list: &mut [u64], j: usize, n: usize) -> Result<Carried, Stopped>
     requires { j + n ≤ 16384 }
     ensures { Lists j n list.old list.new result }
 {
     if list.len() < n {
-        return Carried::Refuses(Refusal::ListTooShort, 0, 0);
+        return Err(short());
     }
     put_points(list, j, n);
-    Carried::Gives(true, n)
+    Ok(Carried {
+        verdict: true,
+        filled: n,
+    })
 }

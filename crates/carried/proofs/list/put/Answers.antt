@@ -2,6 +2,5 @@ use Rattle.std.proofs.Common.{rules}
 use Rattle.carried.proofs.Laid.{put-beyond}
 use Rattle.carried.proofs.list.put.Goals as goal
 
--- src/list.rt:15:9
 pub returns-then-list-at : goal.returns-then-list-at
 returns-then-list-at c = search (put-beyond, rules)

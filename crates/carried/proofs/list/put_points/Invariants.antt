@@ -1,9 +1,5 @@
 use Rattle.carried.proofs.Laid.{Putting}
-use Prim.Native.Nat.{◌-◌}
 use Rattle.carried.proofs.list.put_points.Given as goal
 
 abbrev pub invariant-loop-k : goal.invariant-loop-k
 invariant-loop-k l = Putting l.j l.n l.initial.list l.k l.list
-
-abbrev pub decreases-loop-k : goal.decreases-loop-k
-decreases-loop-k l = l.n - l.k

@@ -1,40 +1,35 @@
 use Rattle.std.proofs.Common.{rules}
-use Rattle.carried.proofs.Downs.{downs_start, downs_none, downs_below, downs_room, downs_old, downs_later, downs_passes, downs_carries, downs_refused, downs_fails}
+use Rattle.carried.proofs.Downs.{downs_start, downs_none, downs_room, downs_outside, downs_passes, downs_carries, downs_refused, downs_fails}
 use Rattle.carried.proofs.Asked.{whole}
+use Rattle.evaluator.proofs.Walks.{passed}
 use Rattle.carried.proofs.scans.scan_down.Goals as goal
 
 pub time_at-here-requires : goal.time_at-here-requires
 time_at-here-requires c = search (whole, rules)
 
-pub loop-n-init : goal.loop-n-init
-loop-n-init c = search (downs_start, rules)
+pub loop-j-init : goal.loop-j-init
+loop-j-init c = search (downs_start, rules)
 
 pub time_at-then-requires : goal.time_at-then-requires
 time_at-then-requires c = search (whole, rules)
 
-pub turn_at-requires-clause-j_le_asked : goal.turn_at-requires-clause-j_le_asked
-turn_at-requires-clause-j_le_asked c = (search (downs_below, rules), search rules)
-
-pub loop-n-preserved-in-Passes : goal.loop-n-preserved-in-Passes
-loop-n-preserved-in-Passes c = search (downs_passes, rules)
+pub loop-j-preserved-in-Passes : goal.loop-j-preserved-in-Passes
+loop-j-preserved-in-Passes c = search (downs_passes, c.in_ok-turn-in-Inside.was, rules)
 
 pub returns-in-Carries : goal.returns-in-Carries
-returns-in-Carries c = search (downs_carries, rules)
+returns-in-Carries c = search (downs_carries, c.in_ok-turn-in-Inside.was, rules)
 
 pub put_two-requires : goal.put_two-requires
 put_two-requires c = search (downs_room, rules)
 
-pub loop-n-preserved-in-Fails : goal.loop-n-preserved-in-Fails
-loop-n-preserved-in-Fails c = search (downs_fails, rules)
+pub loop-j-preserved-in-Fails : goal.loop-j-preserved-in-Fails
+loop-j-preserved-in-Fails c = search (downs_fails, c.in_ok-turn-in-Inside.was, rules)
 
-pub returns-in-Refused : goal.returns-in-Refused
-returns-in-Refused c = search (downs_refused, rules)
+pub returns-in_err-turn-in-Inside : goal.returns-in_err-turn-in-Inside
+returns-in_err-turn-in-Inside c = rw (passed _ c.from_residual.ensures) (search (downs_refused, c.in_err-turn-in-Inside.was, rules))
 
-pub loop-n-preserved-in-TooOld : goal.loop-n-preserved-in-TooOld
-loop-n-preserved-in-TooOld c = search (downs_old, rules)
-
-pub loop-n-preserved : goal.loop-n-preserved
-loop-n-preserved c = search (downs_later, rules)
+pub loop-j-preserved : goal.loop-j-preserved
+loop-j-preserved c = search (downs_outside, rules)
 
 pub returns : goal.returns
 returns c = search (downs_none, rules)

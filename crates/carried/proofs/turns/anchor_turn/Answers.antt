@@ -1,23 +1,19 @@
 use Rattle.std.proofs.Common.{rules}
 use Rattle.carried.proofs.Asked.{anchor-no, anchor-stop, anchor-left, ready-next, still-low}
+use Rattle.evaluator.proofs.Walks.{passed}
 use Rattle.carried.proofs.turns.anchor_turn.Goals as goal
 
--- src/turns.rt:85:11
 pub ask-requires-clause-i_bound : goal.ask-requires-clause-i_bound
 ask-requires-clause-i_bound c = search (still-low, rules)
 
--- src/turns.rt:88:17
 pub left_after-requires-clause-ready : goal.left_after-requires-clause-ready
 left_after-requires-clause-ready c = search (ready-next, rules)
 
--- src/turns.rt:88:17
-pub returns-then-b : goal.returns-then-b
-returns-then-b c = search (anchor-left, rules)
+pub returns : goal.returns
+returns c = search (anchor-left, c.in_ok-b.was, rules)
 
--- src/turns.rt:72:1
-pub returns-else-b : goal.returns-else-b
-returns-else-b c = search (anchor-no, rules)
+pub returns-then-not-b : goal.returns-then-not-b
+returns-then-not-b c = search (anchor-no, c.in_ok-b.was, rules)
 
--- src/turns.rt:72:1
-pub returns-in-Refused : goal.returns-in-Refused
-returns-in-Refused c = search (anchor-stop, rules)
+pub returns-in_err-b : goal.returns-in_err-b
+returns-in_err-b c = rw (passed _ c.from_residual.ensures) (search (anchor-stop, c.in_err-b.was, rules))

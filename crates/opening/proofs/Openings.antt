@@ -1,14 +1,13 @@
 -- What is against a call, test by test
-use mathlib.Core.Path.{◌≡◌, refl, ap, sym, ◌∙◌}
+use mathlib.Core.Path.{◌≡◌, refl, ap, sym, subst, ◌∙◌}
 use mathlib.Core.Bool.{Bool, true, false, not}
 use mathlib.Core.List.{List, [], ◌∷◌}
-use mathlib.Core.Option.{Option, some}
+use mathlib.Core.Option.{Option, none, some}
 use Prim.Native.Nat.{ℕ, ◌*◌, ◌≤◌, ◌<◌}
 use mathlib.Core.Logic.{inl, inr}
 use native.Mathlib.Omega.{arith}
 use native.Mathlib.Nat.{mul_comm, mul-le-mul, mul-le-mul_left}
 use lib.Seq.{length-take-le}
-use Rattle.evaluator.specs.declared.Call.{Call as WalkCall}
 use Rattle.rows.specs.Slots.{Sized}
 use lib.Dec.{leb, ltb}
 use lib.ListN.{length}
@@ -37,10 +36,9 @@ use Rattle.meaning.specs.Carried.{looks_back, look_of}
 use Rattle.opening.specs.declared.Wanted.{Wanted}
 use Rattle.opening.specs.declared.Wanted.TheVariants.{Answerable, Condition, LooksBack}
 use Rattle.opening.specs.declared.Opening.{Opening}
-use Rattle.opening.specs.declared.Against.TheVariants.{Nothing}
-use Rattle.opening.specs.declared.start.Start.{Start}
-use Rattle.opening.specs.Start.{Starts}
-use Rattle.opening.specs.Opening.{wanted_for, in_limits, refusal_in, turned_down, Opens}
+use Rattle.std.specs.Prelude.{Ok, Err, Option as Answer, Some, None}
+use Rattle.opening.specs.Start.{Reads, StartsBy, Starts}
+use Rattle.opening.specs.Opening.{wanted_for, in_limits, refusal_in, Opens}
 
 -- ---- sorts, by the number of a node's variant
 
@@ -177,21 +175,27 @@ module _ (vars : ℕ) (limits : Limits) (cells : ℕ) where
 pub room_fits : {v n : ℕ} → v ≤ 16 → n ≤ 16384 → Fits w64 (2 * v * n)
 room_fits {v} {n} few small = record { fits = omega (arith, mul-le-mul (mul-le-mul_left 2 few) small) }
 
--- where nothing is beyond its limit, the cells of the rows can be counted
-pub few-vars : {env : Env} → Sized env → Fits w64 (2 * env.count)
-few-vars sized = record { fits = omega (arith, sized.few) }
+-- what starting bindings are read into
+pub start-some : {s start : List ℕ} {u : Answer Env} {env : Env} → Starts s start u → u ≡ Some env → Reads s start env
+start-some {s} {start} h q = subst (StartsBy s start) q h.says
 
-pub many-cells : {env : Env} (limits : Limits) (cells : ℕ) {over : Bool} → Sized env → over ≡ not (in_limits env.count limits cells) → over ≡ false → Fits w64 (2 * env.count * limits.room)
-many-cells {env} limits cells sized over-is fits = room_fits sized.few (limits-are env.count limits cells (not-false _ (sym over-is ∙ fits))).0
+start-none : {s start : List ℕ} {u : Answer Env} → Starts s start u → u ≡ None → none ≡ start_row s (vars s) start
+start-none {s} {start} h q = subst (StartsBy s start) q h.says
 
-some_if : {A : Type 0} (b : Bool) (x : A) → is_some (only_if b x) ≡ b
-unfolding is_some only_if
-some_if true x = refl
-some_if false x = refl
+module _ {s start : List ℕ} {u : Answer Env} {env : Env} (h : Starts s start u) (q : u ≡ Some env) where
+  pub few-vars : env.count ≤ 16
+  few-vars = (start-some h q).sized.few
+
+  pub two-vars : Fits w64 (2 * env.count)
+  two-vars = record { fits = omega (arith, few-vars) }
+
+  -- where nothing is beyond its limit, the cells of the rows can be counted
+  pub many-cells : (limits : Limits) (cells : ℕ) {over : Bool} → over ≡ not (in_limits env.count limits cells) → over ≡ false → Fits w64 (2 * env.count * limits.room)
+  many-cells limits cells over-is fits = room_fits few-vars (limits-are env.count limits cells (not-false _ (sym over-is ∙ fits))).0
 
 -- ---- a call, refused or opened
 
-module _ (wanted : Wanted) (c : Call) (first : Start) (call : WalkCall) where
+module _ (wanted : Wanted) (c : Call) where
   abbrev limits-last : List (Bool × Refusal)
   limits-last = (in_limits (vars c.file) c.limits (length c.workspace), BadLimits) ∷ []
 
@@ -201,14 +205,14 @@ module _ (wanted : Wanted) (c : Call) (first : Start) (call : WalkCall) where
   abbrev node-next : List (Bool × Refusal)
   node-next = (ltb c.node (nodes c.file) and wanted_for wanted (node_at c.file c.node), NoSuchNode) ∷ start-next
 
-  refused-with : (n : Refusal) {r : Opening} → against (wanted_for wanted) c ≡ some n → r ≡ turned_down n first.env call → Opens (wanted_for wanted) c r
+  refused-with : (n : Refusal) → against (wanted_for wanted) c ≡ some n → Opens (wanted_for wanted) c (Err n)
   unfolding refusal_in
-  refused-with n e is = rw is (record { is = sym e; opened = tt })
+  refused-with n e = record { is = sym e; opened = tt }
 
   module _ (many : ℕ) (points-are : many ≡ points c.file) where
-    pub no_such_point : {r : Opening} → many ≤ c.point → r ≡ turned_down NoSuchPoint first.env call → Opens (wanted_for wanted) c r
+    pub no_such_point : many ≤ c.point → Opens (wanted_for wanted) c (Err NoSuchPoint)
     unfolding against
-    no_such_point le is = refused-with NoSuchPoint (no _ (le-ltb c.point (points c.file) (omega arith)) refl) is
+    no_such_point le = refused-with NoSuchPoint (no _ (le-ltb c.point (points c.file) (omega arith)) refl)
 
     module _ (there : c.point < many) (passed : Checked c.file) (nd : Node) (node-is : nd ≡ node_at c.file c.node) (right : Bool) (sorted : right ≡ wanted_for wanted nd) where
       past-point : {x : Option Refusal} → first_broken node-next ≡ x → against (wanted_for wanted) c ≡ x
@@ -220,53 +224,55 @@ module _ (wanted : Wanted) (c : Call) (first : Start) (call : WalkCall) where
           none-beyond wanted c.file c.node (checked-bodies passed)
           ∙ sym (sorted ∙ ap (wanted_for wanted) node-is)
 
-      pub no_such_node : {r : Opening} → not right ≡ true → r ≡ turned_down NoSuchNode first.env call → Opens (wanted_for wanted) c r
-      no_such_node wrong is = refused-with NoSuchNode (past-point (no _ (node_test ∙ not-true right wrong) refl)) is
+      pub no_such_node : not right ≡ true → Opens (wanted_for wanted) c (Err NoSuchNode)
+      no_such_node wrong = refused-with NoSuchNode (past-point (no _ (node_test ∙ not-true right wrong) refl))
 
-      module _ (fine : not right ≡ false) (starts : Starts c.file c.start first) where
+      module _ (fine : not right ≡ false) {u : Answer Env} (starts : Starts c.file c.start u) where
         past-node : {x : Option Refusal} → first_broken start-next ≡ x → against (wanted_for wanted) c ≡ x
         past-node e = past-point (yes _ (node_test ∙ not-false right fine) ∙ e)
 
-        start_test : is_some (start_row c.file (vars c.file) c.start) ≡ first.ok
-        start_test = rw (← starts.is) (some_if first.ok (row_of first.env))
+        pub bad_start : u ≡ None → Opens (wanted_for wanted) c (Err BadStart)
+        unfolding is_some
+        bad_start q = refused-with BadStart (past-node (no _ (sym (ap is_some (start-none starts q))) refl))
 
-        pub bad_start : {r : Opening} → not first.ok ≡ true → r ≡ turned_down BadStart first.env call → Opens (wanted_for wanted) c r
-        bad_start wrong is = refused-with BadStart (past-node (no _ (start_test ∙ not-true first.ok wrong) refl)) is
+        module _ {env : Env} (q : u ≡ Some env) (over : Bool) (over-is : over ≡ not (in_limits env.count c.limits (length c.workspace))) where
+          reads : Reads c.file c.start env
+          reads = start-some starts q
 
-        module _ (good : not first.ok ≡ false) (over : Bool) (over-is : over ≡ not (in_limits first.env.count c.limits (length c.workspace))) where
           past-start : {x : Option Refusal} → first_broken limits-last ≡ x → against (wanted_for wanted) c ≡ x
-          past-start e = past-node (yes _ (start_test ∙ not-false first.ok good) ∙ e)
+          unfolding is_some
+          past-start e = past-node (yes _ (sym (ap is_some reads.is)) ∙ e)
 
           limits_test : not (in_limits (vars c.file) c.limits (length c.workspace)) ≡ over
-          limits_test = rw (← starts.count) (sym over-is)
+          limits_test = rw (← reads.count) (sym over-is)
 
-          pub bad_limits : {r : Opening} → over ≡ true → r ≡ turned_down BadLimits first.env call → Opens (wanted_for wanted) c r
-          bad_limits wrong is = refused-with BadLimits (past-start (no _ (not-true _ (limits_test ∙ wrong)) refl)) is
+          pub bad_limits : over ≡ true → Opens (wanted_for wanted) c (Err BadLimits)
+          bad_limits wrong = refused-with BadLimits (past-start (no _ (not-true _ (limits_test ∙ wrong)) refl))
 
-          pub opened : over ≡ false → call ≡ record { limits = c.limits; vars = first.env.count; asked = c.point } → Opens (wanted_for wanted) c (record { against = Nothing; env = first.env; call = call; cells = 2 * first.env.count * c.limits.room })
-          unfolding only_if refusal_in start_or started
-          opened fits call-is =
-              let limits = limits-are first.env.count c.limits (length c.workspace) (not-false _ (sym over-is ∙ fits)) in
-              let long = length-take-le (2 * first.env.count * c.limits.room) c.workspace limits.1 in
+          pub opened : over ≡ false → Opens (wanted_for wanted) c (Ok (record { env = env; call = record { limits = c.limits; vars = env.count; asked = c.point }; cells = 2 * env.count * c.limits.room }))
+          unfolding refusal_in start_or started
+          opened fits =
+              let limits = limits-are env.count c.limits (length c.workspace) (not-false _ (sym over-is ∙ fits)) in
+              let long = length-take-le (2 * env.count * c.limits.room) c.workspace limits.1 in
               record {
                 is = sym (past-start (yes _ (not-false _ (limits_test ∙ fits))));
                 opened = record {
-                  bindings = ap start_or (rw (not-false first.ok good) at starts.is);
-                  call = call-is ∙ ap (λ (v : ℕ). record { limits = c.limits; vars = v; asked = c.point }) starts.count;
-                  point = rw call-is (omega (arith, points-most passed));
-                  cells = ap (λ (v : ℕ). 2 * v * c.limits.room) starts.count;
+                  bindings = ap start_or reads.is;
+                  call = ap (λ (v : ℕ). record { limits = c.limits; vars = v; asked = c.point }) reads.count;
+                  point = omega (arith, points-most passed);
+                  cells = ap (λ (v : ℕ). 2 * v * c.limits.room) reads.count;
                   fits = limits.1;
-                  ready = rw call-is (record {
+                  ready = record {
                     checked = passed;
-                    vars = starts.count;
-                    sized = starts.sized;
+                    vars = reads.count;
+                    sized = reads.sized;
                     count = refl;
                     fit = record {
-                      vars = starts.sized.few;
+                      vars = reads.sized.few;
                       room = limits.0;
-                      wide = omega (arith, long, mul_comm c.limits.room (2 * first.env.count));
+                      wide = omega (arith, long, mul_comm c.limits.room (2 * env.count));
                     };
                     held = omega arith;
-                  });
+                  };
                 };
               }

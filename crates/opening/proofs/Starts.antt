@@ -26,6 +26,7 @@ use Rattle.tables.specs.declared.Value.TheVariants.{Null, Bool as Flag, Int, Dec
 use Rattle.tables.specs.Values.{meant}
 use Rattle.rows.specs.Laws.{env_length}
 use Rattle.rows.specs.Slots.{Sized, Becomes}
+use Rattle.std.specs.Prelude.{Some, None}
 use Rattle.opening.specs.Start.{Starts}
 
 -- ---- a value that is no Int
@@ -137,13 +138,8 @@ module _ (s start : List ℕ) where
   blank-sized : (v : ℕ) → v ≡ vars s → Checked s → Sized (blank v)
   blank-sized v e h = record { few = omega (arith, vars-most h); long = length-replicate {A = Binding} 16 free }
 
-  pub start-wrong-length : (v : ℕ) → v ≡ vars s → Checked s → (length start ≡ 2 * v → ⊥) → Starts s start (record { ok = false; env = blank v })
-  unfolding only_if
-  start-wrong-length v e h ne = record {
-    is = sym (start-many s (vars s) start (λ q. ne (omega arith)));
-    sized = blank-sized v e h;
-    count = e;
-  }
+  pub start-wrong-length : (v : ℕ) → v ≡ vars s → Checked s → (length start ≡ 2 * v → ⊥) → Starts s start None
+  start-wrong-length v e h ne = record { says = sym (start-many s (vars s) start (λ q. ne (omega arith))) }
 
   pub reading_none : (v : ℕ) → v ≡ vars s → Checked s → length start ≡ 2 * v → Reading s start (blank v) v
   unfolding start_row
@@ -161,12 +157,11 @@ module _ (s start : List ℕ) where
       }
 
 module _ {s start : List ℕ} {env : Env} {y : ℕ} (t : Reading s start env y) where
-  pub reading_all : y ≤ 0 → Starts s start (record { ok = true; env = env })
-  unfolding only_if
+  pub reading_all : y ≤ 0 → Starts s start (Some env)
   reading_all le =
       let e : y ≡ 0 = omega arith in
       let v : vars s - 0 ≡ vars s = omega arith in
-      record { is = sym (rw (e, v) at t.is); sized = t.sized; count = t.count }
+      record { says = record { is = sym (rw (e, v) at t.is); sized = t.sized; count = t.count } }
 
   -- the variable before
   module _ (some_left : 0 < y) where
@@ -200,12 +195,8 @@ module _ {s start : List ℕ} {env : Env} {y : ℕ} (t : Reading s start env y) 
             is = rw (m.bindings, drop-set (row_of env) x (in_cells tag bits) lt) (rw (← are, not-false formed good) at one_more);
           }
 
-      pub reading_bad : not formed ≡ true → Starts s start (record { ok = false; env = env })
+      pub reading_bad : not formed ≡ true → Starts s start None
       unfolding more_row only_if
       reading_bad bad =
           let v : x + (vars s - x) ≡ vars s = omega (arith, t.within) in
-          record {
-            is = sym (rw v at (start-later s x (vars s - x) start (rw (← are, not-true formed bad) at one_more)));
-            sized = t.sized;
-            count = t.count;
-          }
+          record { says = sym (rw v at (start-later s x (vars s - x) start (rw (← are, not-true formed bad) at one_more))) }

@@ -1,5 +1,5 @@
 -- What is against a call of a checked case, and what its walk starts with where nothing is
-use Rattle.std.specs.Prelude.{◌≡◌, Bool, ℕ, ◌*◌, ◌≤◌, ◌<◌, leb, length, take}
+use Rattle.std.specs.Prelude.{◌≡◌, Bool, ℕ, ◌*◌, ◌≤◌, ◌<◌, leb, length, take, Result, Ok, Err}
 use Rattle.std.proofs.Math.Option.{Option, none, some}
 use Rattle.meaning.specs.declared.Env.{Env}
 use Rattle.meaning.specs.declared.Limits.{Limits}
@@ -15,8 +15,6 @@ use Rattle.evaluator.specs.declared.Call.{Call as WalkCall}
 use Rattle.evaluator.specs.Asks.{Ready}
 use Rattle.opening.specs.declared.Wanted.{Wanted}
 use Rattle.opening.specs.declared.Wanted.TheVariants.{Answerable, Condition, LooksBack}
-use Rattle.opening.specs.declared.Against.{Against}
-use Rattle.opening.specs.declared.Against.TheVariants.{Nothing, Refused}
 use Rattle.opening.specs.declared.Opening.{Opening}
 
 unfoldable pub wanted_for : Wanted → Node → Bool
@@ -28,12 +26,9 @@ wanted_for LooksBack = looks_back
 abbrev pub in_limits : ℕ → Limits → ℕ → Bool
 in_limits v limits cells = leb limits.steps 1000000000 and leb limits.room 16384 and leb (2 * v * limits.room) cells
 
-unfoldable pub refusal_in : Against → Option Refusal
-refusal_in Nothing = none
-refusal_in (Refused n) = some n
-
-abbrev pub turned_down : Refusal → Env → WalkCall → Opening
-turned_down n env call = record { against = Refused n; env = env; call = call; cells = 0 }
+unfoldable pub refusal_in : Result Opening Refusal → Option Refusal
+refusal_in (Ok o) = none
+refusal_in (Err n) = some n
 
 -- the environment holds the starting bindings, the call is as asked, and the workspace has room
 pub record Opened (c : Call) (o : Opening) : Type 0 where
@@ -44,10 +39,10 @@ pub record Opened (c : Call) (o : Opening) : Type 0 where
   pub fits : o.cells ≤ length c.workspace
   pub ready : Ready c.file o.call o.env started (take o.cells c.workspace)
 
-abbrev pub OpenedBy : Call → Opening → Against → Type 0
-OpenedBy c o Nothing = Opened c o
-OpenedBy c o (Refused n) = Unit {0}
+abbrev pub OpenedBy : Call → Result Opening Refusal → Type 0
+OpenedBy c (Ok o) = Opened c o
+OpenedBy c (Err n) = Unit {0}
 
-pub record Opens (wanted : Node → Bool) (c : Call) (r : Opening) : Type 0 where
-  pub is : refusal_in r.against ≡ against wanted c
-  pub opened : OpenedBy c r r.against
+pub record Opens (wanted : Node → Bool) (c : Call) (r : Result Opening Refusal) : Type 0 where
+  pub is : refusal_in r ≡ against wanted c
+  pub opened : OpenedBy c r

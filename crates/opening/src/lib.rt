@@ -7,7 +7,7 @@ mod start;
 ghost use Rattle.std.specs.Prelude.{◌≡◌, Bool, not, ◌≤◌};
 ghost use Rattle.meaning.specs.Calls.{is_condition, is_aggregate, answerable};
 ghost use Rattle.meaning.specs.Check.{Checked};
-ghost use Rattle.opening.specs.Opening.{wanted_for, in_limits, turned_down, Opens};
+ghost use Rattle.opening.specs.Opening.{wanted_for, in_limits, Opens};
 
 use evaluator::Call;
 use meaning::{Env, Limits, Node, NodeNo, Refusal};
@@ -22,16 +22,9 @@ pub enum Wanted {
     LooksBack,
 }
 
-#[derive(Clone, Copy)]
-pub enum Against {
-    Nothing,
-    Refused(Refusal),
-}
-
-// what is against a call; where nothing is, the environment, what stays the same during the walk, and its cells of the workspace
+// where nothing is against a call: the environment, what stays the same during the walk, and its cells of the workspace
 #[derive(Clone, Copy)]
 pub struct Opening {
-    pub against: Against,
     pub env: Env,
     pub call: Call,
     pub cells: usize,
@@ -50,50 +43,31 @@ fn is_wanted(wanted: Wanted, node: Node) -> bool
 fn is_condition(node: Node) -> bool
     ensures { ◌≡◌ {A = Bool} result (is_condition node) }
 {
-    match node {
-        Node::And(_, _)
-        | Node::Or(_, _)
-        | Node::Not(_)
-        | Node::Formerly(_, _)
-        | Node::Previous(_, _)
-        | Node::Since(_, _, _)
-        | Node::Predicate {
-            namespace: _,
-            action: _,
-            kind: _,
-            arguments: _,
-        }
-        | Node::Comparison(_, _, _)
-        | Node::Exists(_, _)
-        | Node::Tp(_) => true,
-        _ => false,
-    }
+    matches!(
+        node,
+        Node::And(..)
+            | Node::Or(..)
+            | Node::Not(..)
+            | Node::Formerly(..)
+            | Node::Previous(..)
+            | Node::Since(..)
+            | Node::Predicate { .. }
+            | Node::Comparison(..)
+            | Node::Exists(..)
+            | Node::Tp(..)
+    )
 }
 
 pub fn is_aggregate(node: Node) -> bool
     ensures { ◌≡◌ {A = Bool} result (is_aggregate node) }
 {
-    match node {
-        Node::Sum {
-            variable: _,
-            binders: _,
-            body: _,
-        }
-        | Node::Count {
-            binders: _,
-            body: _,
-        } => true,
-        _ => false,
-    }
+    matches!(node, Node::Sum { .. } | Node::Count { .. })
 }
 
 fn is_answerable(node: Node) -> bool
     ensures { ◌≡◌ {A = Bool} result (answerable node) }
 {
-    if is_condition(node) {
-        return true;
-    }
-    is_aggregate(node)
+    is_condition(node) || is_aggregate(node)
 }
 
 // limits above their most, or a workspace too short for the rows
@@ -101,24 +75,7 @@ fn beyond(vars: usize, limits: Limits, cells: usize) -> bool
     requires { vars ≤ 16 }
     ensures { ◌≡◌ {A = Bool} result (not (in_limits vars limits cells)) }
 {
-    if 1000000000 < limits.steps {
-        return true;
-    }
-    if 16384 < limits.room {
-        return true;
-    }
-    cells < 2 * vars * limits.room
-}
-
-fn refused(refusal: Refusal, env: Env, call: Call) -> Opening
-    ensures { result ≡ turned_down refusal env call }
-{
-    Opening {
-        against: Against::Refused(refusal),
-        env,
-        call,
-        cells: 0,
-    }
+    1000000000 < limits.steps || (16384 < limits.room || cells < 2 * vars * limits.room)
 }
 
 // the lowest of 7 to 10 that is broken, or none
@@ -130,38 +87,30 @@ pub fn open(
     start: &[u64],
     limits: Limits,
     work: &[u64],
-) -> Opening
+) -> Result<Opening, Refusal>
     requires { Checked s.now }
     ensures { Opens (wanted_for wanted) (record { file = s.now; point = point; node = node.0; start = start.now; limits = limits; workspace = work.now }) result }
 {
-    let first = start_env(s, start);
-    let env = first.env;
+    if point_count(s) as usize <= point {
+        return Err(Refusal::NoSuchPoint);
+    }
+    // beyond the table a node is Broken, which no call is about
+    let asked = tables::node_at(s, node);
+    if !is_wanted(wanted, asked) {
+        return Err(Refusal::NoSuchNode);
+    }
+    let Some(env) = start_env(s, start) else {
+        return Err(Refusal::BadStart);
+    };
     let vars = env.count;
+    if beyond(vars, limits, work.len()) {
+        return Err(Refusal::BadLimits);
+    }
     let call = Call {
         limits,
         vars,
         asked: point,
     };
-    if point_count(s) as usize <= point {
-        return refused(Refusal::NoSuchPoint, env, call);
-    }
-    // beyond the table a node is Broken, which no call is about
-    let asked = tables::node_at(s, node);
-    let sorted = is_wanted(wanted, asked);
-    let started = first.ok;
-    if !sorted {
-        return refused(Refusal::NoSuchNode, env, call);
-    }
-    if !started {
-        return refused(Refusal::BadStart, env, call);
-    }
-    if beyond(vars, limits, work.len()) {
-        return refused(Refusal::BadLimits, env, call);
-    }
-    Opening {
-        against: Against::Nothing,
-        env,
-        call,
-        cells: 2 * vars * limits.room,
-    }
+    let cells = 2 * vars * limits.room;
+    Ok(Opening { env, call, cells })
 }

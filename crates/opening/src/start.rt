@@ -10,20 +10,12 @@ use rows::env::bind;
 use stringcheck::{string_count, value_count, var_count};
 use tables::Value;
 
-// an environment, if the cells are well formed and just so many
-#[derive(Clone, Copy)]
-pub struct Start {
-    pub ok: bool,
-    pub env: Env,
-}
-
 // whether a value is no Int
 fn is_no_int(s: &[u8], v: ValNo) -> bool
     requires { Checked s.now }
     ensures { ◌≡◌ {A = Bool} result (not (is_int (value_at s.now v.0))) }
 {
-    let value = tables::value_at(s, v);
-    match value {
+    match tables::value_at(s, v) {
         Value::Int(_) => false,
         _ => true,
     }
@@ -34,48 +26,36 @@ fn well_formed(s: &[u8], tag: u64, bits: u64) -> bool
     requires { Checked s.now }
     ensures { ◌≡◌ {A = Bool} result (well_formed s.now tag bits) }
 {
-    if tag == 0 {
-        return bits == 0;
+    match tag {
+        0 => bits == 0,
+        1 => true,
+        2 => bits < value_count(s) as u64 && is_no_int(s, ValNo(bits as u32)),
+        3 => bits < string_count(s) as u64,
+        _ => false,
     }
-    if tag == 1 {
-        return true;
-    }
-    if tag == 2 {
-        let values = value_count(s) as u64;
-        if bits < values {
-            return is_no_int(s, ValNo(bits as u32));
-        }
-        return false;
-    }
-    if tag == 3 {
-        let strings = string_count(s) as u64;
-        return bits < strings;
-    }
-    false
 }
 
-// the cells from the last variable down to the first
-pub fn start_env(s: &[u8], start: &[u64]) -> Start
+// the cells from the last variable down to the first: an environment, if they are well formed and just so many
+pub fn start_env(s: &[u8], start: &[u64]) -> Option<Env>
     requires { Checked s.now }
     ensures { Starts s.now start.now result }
 {
     let v = var_count(s) as usize;
-    let none = Binding { tag: 0, bits: 0 };
-    let slots = [none; 16];
-    let mut env = Env { slots, count: v };
     if start.len() != 2 * v {
-        return Start { ok: false, env };
+        return None;
     }
-    let mut x = v;
-    while 0 < x {
-        x -= 1;
-        let at = 2 * x;
-        let tag = start[at];
-        let bits = start[at + 1];
+    let none = Binding { tag: 0, bits: 0 };
+    let mut env = Env {
+        slots: [none; 16],
+        count: v,
+    };
+    for x in (0..v).rev() {
+        let tag = start[2 * x];
+        let bits = start[2 * x + 1];
         if !well_formed(s, tag, bits) {
-            return Start { ok: false, env };
+            return None;
         }
         env = bind(env, x, Binding { tag, bits });
     }
-    Start { ok: true, env }
+    Some(env)
 }

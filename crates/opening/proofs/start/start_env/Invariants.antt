@@ -3,6 +3,3 @@ use Rattle.opening.proofs.start.start_env.Given as goal
 
 abbrev pub invariant-loop-x : goal.invariant-loop-x
 invariant-loop-x l = Reading l.s l.start l.env l.x
-
-abbrev pub decreases-loop-x : goal.decreases-loop-x
-decreases-loop-x l = l.x

@@ -13,7 +13,6 @@ use Rattle.laws.specs.Tests.{yes, no as otherwise}
 use Rattle.meaning.specs.Text.{next, ended}
 use Rattle.meaning.specs.declared.Due.{Due}
 use Rattle.meaning.specs.declared.Due.TheVariants.{Nothing, One, Two, Three, AfterE0, AfterEd, AfterF0, AfterF4, Wrong as Never}
-use Rattle.jsontext.specs.declared.Fault.{Fault}
 use Rattle.jsontext.specs.declared.Fault.TheVariants.{NotJson}
 use Rattle.jsontext.specs.declared.Bad.{Bad}
 use Rattle.jsontext.specs.Reading.{Read, got, then, no, mapped, want, wrong}

@@ -11,7 +11,6 @@ use borrow.Author.Tests.{eq-eqb, ne_eqb, lt-ltb, le-ltb, le-leb, lt-leb, leb-tru
 use Rattle.meaning.specs.Tests.{◌or◌, choose}
 use Rattle.laws.specs.Tests.{both, yes, no as otherwise}
 use Rattle.meaning.specs.Equal.{is_digit}
-use Rattle.jsontext.specs.declared.Fault.{Fault}
 use Rattle.jsontext.specs.declared.Fault.TheVariants.{NotJson, BadNumber}
 use Rattle.jsontext.specs.declared.Bad.{Bad}
 use Rattle.jsontext.specs.Reading.{Read, got, fault, then, no, wrong}

@@ -1,6 +1,7 @@
 -- Two sides: bound or not, Ints or not, compared and combined
 use mathlib.Core.Path.{◌≡◌, refl, sym, ◌∙◌, ap}
 use mathlib.Core.Bool.{Bool, true, false, not}
+use Rattle.std.proofs.Common.{◌⊎◌, inl, inr}
 use mathlib.Core.List.{[], ◌∷◌}
 use mathlib.Core.Option.{Option, none, some}
 use Prim.Native.Nat.{ℕ, zero, suc}
@@ -48,16 +49,20 @@ unfolding combined
 combined_ints op t u t' u' v p q e h f g is =
     rw (int_of t u e h, int_of t' u' f g) (unfold in_cells pick in ap (λ (z : ℤ). some (int z)) is)
 
-pub combined-left : (op : ArithOp) (x y : Option ℤ) (p : Bool) → p ≡ is_some x → p ≡ false → in_cells 0 0 ≡ combined op x y
+combined-left : (op : ArithOp) (x y : Option ℤ) → is_some x ≡ false → in_cells 0 0 ≡ combined op x y
 unfolding combined is_some in_cells pick
-combined-left op none y p e h = refl
-combined-left op (some x) y p e h = cc
+combined-left op none y h = refl
+combined-left op (some x) y h = cc
 
-pub combined-right : (op : ArithOp) (x y : Option ℤ) (p : Bool) → p ≡ is_some y → p ≡ false → in_cells 0 0 ≡ combined op x y
+combined-right : (op : ArithOp) (x y : Option ℤ) → is_some y ≡ false → in_cells 0 0 ≡ combined op x y
 unfolding combined is_some in_cells pick
-combined-right op none y p e h = refl
-combined-right op (some x) none p e h = refl
-combined-right op (some x) (some y) p e h = cc
+combined-right op none y h = refl
+combined-right op (some x) none h = refl
+combined-right op (some x) (some y) h = cc
+
+pub combined-none : (op : ArithOp) (x y : Option ℤ) (p q : Bool) → p ≡ is_some x → q ≡ is_some y → ((p ≡ true) × (q ≡ false)) ⊎ (p ≡ false) → in_cells 0 0 ≡ combined op x y
+combined-none op x y p q e f (inl h) = combined-right op x y (sym f ∙ h.1)
+combined-none op x y p q e f (inr h) = combined-left op x y (sym e ∙ h)
 
 -- ---- both sides there, or not
 

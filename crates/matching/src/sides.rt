@@ -46,8 +46,7 @@ pub fn resolve_leaf(s: &[u8], asked: usize, env: Env, t: NodeNo) -> Binding
     requires sized { Sized env }
     ensures { in_cells result.tag result.bits ≡ leaf_value s.now asked env (node_at s.now t.0) }
 {
-    let node = tables::node_at(s, t);
-    leaf_of(s, asked, env, node)
+    leaf_of(s, asked, env, tables::node_at(s, t))
 }
 
 // the variable that a side is, where it is unbound
@@ -78,25 +77,19 @@ pub fn is_int(b: Binding) -> bool
 pub fn arithmetic(op: ArithOp, a: Binding, b: Binding) -> Binding
     ensures { in_cells result.tag result.bits ≡ combined op (integer_in (in_cells a.tag a.bits)) (integer_in (in_cells b.tag b.bits)) }
 {
-    if is_int(a) {
-        if is_int(b) {
-            let bits = numbers::calculate(op, a.bits, b.bits);
-            return Binding { tag: 1, bits };
-        }
+    if is_int(a) && is_int(b) {
+        let bits = numbers::calculate(op, a.bits, b.bits);
+        Binding { tag: 1, bits }
+    } else {
+        Binding { tag: 0, bits: 0 }
     }
-    Binding { tag: 0, bits: 0 }
 }
 
 // no where a side is no Int
 fn ordered_ints(op: CmpOp, left: Binding, right: Binding) -> bool
     ensures { ◌≡◌ {A = Bool} result (both (orders op) (integer_in (in_cells left.tag left.bits)) (integer_in (in_cells right.tag right.bits))) }
 {
-    if is_int(left) {
-        if is_int(right) {
-            return numbers::ordered(op, left.bits, right.bits);
-        }
-    }
-    false
+    is_int(left) && (is_int(right) && numbers::ordered(op, left.bits, right.bits))
 }
 
 fn compare_bound(s: &[u8], op: CmpOp, a: Binding, b: Binding) -> bool
@@ -117,10 +110,5 @@ pub fn compare(s: &[u8], op: CmpOp, a: Binding, b: Binding) -> bool
     requires { Checked s.now }
     ensures { ◌≡◌ {A = Bool} result (both (compared (case_of s.now) op) (in_cells a.tag a.bits) (in_cells b.tag b.bits)) }
 {
-    if rows::is_bound(a) {
-        if rows::is_bound(b) {
-            return compare_bound(s, op, a, b);
-        }
-    }
-    false
+    rows::is_bound(a) && (rows::is_bound(b) && compare_bound(s, op, a, b))
 }

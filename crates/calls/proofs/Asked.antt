@@ -7,6 +7,9 @@ use Prim.Native.Nat.{ℕ, ◌*◌, ◌≤◌, ◌<◌}
 use native.Mathlib.Omega.{arith}
 use lib.ListN.{length, take, drop, replicate, length-append}
 use lib.Seq.{length-take-le, drop_at}
+use mir.Val.{Fits}
+use mir.Facts.{of_z-to_z}
+use mir.Syntax.{w64}
 use Rattle.meaning.specs.declared.Env.{Env}
 use Rattle.meaning.specs.declared.Meter.{Meter}
 use Rattle.meaning.specs.declared.Limits.{Limits}
@@ -17,45 +20,45 @@ use Rattle.meaning.specs.Walk.{W, started, outcome}
 use Rattle.meaning.specs.Case.{case_of, node_at, vars}
 use Rattle.meaning.specs.Check.{Checked}
 use Rattle.meaning.specs.Meaning.{Meaning, Question, meaning, question}
-use Rattle.meaning.specs.Calls.{number_of, Call, Said, refuses, is_aggregate, against, walk_of, unless_refused, unless_against, told, cleared, workspace_after, result, Answer, verdict, saying, ask_call}
+use Rattle.meaning.specs.Calls.{number_of, Call, Said, refuses, is_aggregate, against, walk_of, unless_refused, unless_against, told, cleared, workspace_after, result, Answer, verdict, saying, gives, number, ask_call}
 use Rattle.meaning.specs.Calls.{asking as asking_of}
 use Rattle.laws.specs.Calls.{against-early, refused-early, walk_clears, saying_clears}
 use Rattle.matching.specs.Asking.{asking}
 use Rattle.evaluator.specs.declared.Call.{Call as WalkCall}
-use Rattle.evaluator.specs.declared.Verdict.{Verdict}
-use Rattle.evaluator.specs.declared.Number.{Number}
-use Rattle.evaluator.specs.Asks.{Ready, Decides, Numbers, node, walk_for, number_for}
+use Rattle.std.specs.Prelude.{Result as OkOr, Ok, Err}
+use Rattle.rows.specs.declared.Stopped.{Stopped}
+use Rattle.evaluator.specs.Asks.{said_verdict as outcome_verdict, said_number as outcome_number}
+use Rattle.evaluator.specs.Asks.{Verdict, Number, Ready, Decides, Numbers, node, walk_for, number_for}
 use Rattle.opening.specs.declared.Wanted.TheVariants.{Answerable}
-use Rattle.opening.specs.declared.Against.TheVariants.{Nothing, Refused}
 use Rattle.opening.specs.declared.Opening.{Opening}
-use Rattle.calls.specs.declared.SaidAnswer.{SaidAnswer}
-use Rattle.calls.specs.declared.SaidAnswer.TheVariants as Ans
-use Rattle.calls.specs.Promises.{call_of, as_answer, Answers}
 use Rattle.opening.specs.Opening.{wanted_for, refusal_in, Opened, OpenedBy, Opens}
-use Rattle.calls.specs.Given.{in_bits, TellsVerdict, TellsNumber, answer_from, TellsAnswer}
+use Rattle.calls.specs.declared.Spent.{Spent}
+use Rattle.calls.specs.declared.Answer.TheVariants as Ans
+use Rattle.calls.specs.Promises.{call_of, SaidAnswer, early, spent_in, stopped_as, as_answer, Answers}
+use Rattle.calls.specs.Given.{in_bits, answer_from, TellsAnswer}
 
 -- ---- the opening and the ending of every asking call
 
-pub opened : {wanted : Node → Bool} {c : Call} {o : Opening} → Opens wanted c o → o.against ≡ Nothing → Opened c o
-opened {wanted} {c} {o} opens is = subst (OpenedBy c o) is opens.opened
+pub opened : {wanted : Node → Bool} {c : Call} {u : OkOr Opening Refusal} {o : Opening} → Opens wanted c u → u ≡ Ok o → Opened c o
+opened {c = c} opens is = subst (OpenedBy c) is opens.opened
 
-module _ {s : List ℕ} {point n : ℕ} {start : List ℕ} {limits : Limits} {work : List ℕ} {wanted : Node → Bool} {o : Opening} (checked : Checked s) (opens : Opens wanted (call_of s point n start limits work) o) where
+module _ {s : List ℕ} {point n : ℕ} {start : List ℕ} {limits : Limits} {work : List ℕ} {wanted : Node → Bool} {u : OkOr Opening Refusal} (checked : Checked s) (opens : Opens wanted (call_of s point n start limits work) u) where
   -- refused by what is against it
-  pub said-not : {A : Type 0} (said : Said A) (k : Refusal) → o.against ≡ Refused k → unless_against wanted (call_of s point n start limits work) said ≡ refuses (number_of k) 0 0
+  pub said-not : {A : Type 0} (said : Said A) (k : Refusal) → u ≡ Err k → unless_against wanted (call_of s point n start limits work) said ≡ refuses (number_of k) 0 0
   unfolding unless_against unless_refused refusal_in
   said-not said k is =
       let e : against wanted (call_of s point n start limits work) ≡ some k = sym opens.is ∙ ap refusal_in is in rw (checked.passes, e) refl
 
-  pub asked-not : {A : Type 0} (manner : Meaning → Question → W A) (k : Refusal) → o.against ≡ Refused k → asking_of wanted manner (call_of s point n start limits work) ≡ refuses (number_of k) 0 0
+  pub asked-not : {A : Type 0} (manner : Meaning → Question → W A) (k : Refusal) → u ≡ Err k → asking_of wanted manner (call_of s point n start limits work) ≡ refuses (number_of k) 0 0
   unfolding asking_of
   asked-not manner k is = said-not _ k is
 
-  pub unwritten : (A : Type 0) (output : List ℕ) (k : Refusal) → o.against ≡ Refused k → result {A = A} (call_of s point n start limits work) (refuses (number_of k) 0 0) output ≡ record { said = refuses (number_of k) 0 0; workspace = work; output = output }
+  pub unwritten : (A : Type 0) (output : List ℕ) (k : Refusal) → u ≡ Err k → result {A = A} (call_of s point n start limits work) (refuses (number_of k) 0 0) output ≡ record { said = refuses (number_of k) 0 0; workspace = work; output = output }
   unfolding refusal_in
   unwritten A output k is =
       refused-early A (call_of s point n start limits work) k output (against-early wanted (call_of s point n start limits work) k (sym opens.is ∙ ap refusal_in is))
 
-  module _ (is : o.against ≡ Nothing) where
+  module _ {o : Opening} (is : u ≡ Ok o) where
     pub few-cells : o.cells ≤ length work
     few-cells = (opened opens is).fits
 
@@ -95,18 +98,36 @@ ready-started em r = rw em r
 
 -- ---- the walk for an answer
 
-module _ {s : List ℕ} {c : WalkCall} {e : Env} {n : ℕ} {before after : List ℕ} {r : SaidAnswer} {nd : Node} (is : nd ≡ node_at s n) where
-  pub answer-number : {v : Number} {b : Bool} {m : Meter} → b ≡ is_aggregate nd → b ≡ true → Numbers s c e n c.asked m before after v → m ≡ started → TellsNumber v r → TellsAnswer s c e n r
-  unfolding answer_from choose
-  answer-number sort is_one comes em tells =
-      let e : is_aggregate (node_at s n) ≡ true = ap is_aggregate (sym is) ∙ sym sort ∙ is_one in
-      record { is = rw e (tells.is ∙ ap (λ o. saying in_bits (told o)) (rw em at comes).comes.is) }
+module _ {s : List ℕ} {c : WalkCall} {e : Env} {n : ℕ} {before after : List ℕ} {nd : Node} {b : Bool} {m : Meter} (is : nd ≡ node_at s n) (sort : b ≡ is_aggregate nd) (em : m ≡ started) where
+  module _ (one : b ≡ true) {v : Number} (comes : Numbers s c e n c.asked m before after v) where
+    number-as : answer_from s c e n ≡ saying in_bits (told (outcome_number v))
+    unfolding answer_from choose
+    number-as =
+        let e : is_aggregate (node_at s n) ≡ true = ap is_aggregate (sym is) ∙ sym sort ∙ one in
+        rw e (sym (ap (λ o. saying in_bits (told o)) (rw em at comes).comes.is))
 
-  pub answer-verdict : {v : Verdict} {b : Bool} {m : Meter} → b ≡ is_aggregate nd → b ≡ false → Decides s c e (node n c.asked) m before after v → m ≡ started → TellsVerdict v r → TellsAnswer s c e n r
-  unfolding answer_from choose
-  answer-verdict sort is_none comes em tells =
-      let e : is_aggregate (node_at s n) ≡ false = ap is_aggregate (sym is) ∙ sym sort ∙ is_none in
-      record { is = rw e (tells.is ∙ ap (λ o. saying verdict (told o)) (rw em at comes).comes.is) }
+    pub answer-number : {u : ℕ} {m' : Meter} {sp : Spent} → v ≡ Ok (u, m') → Fits w64 u → sp ≡ spent_in m' → TellsAnswer s c e n (Ok (Ans.Number u, sp))
+    unfolding as_answer told saying
+    answer-number {m' = m'} q fits es = rw es (record { is = ap (λ (k : ℕ). gives (number k) m'.steps m'.most) (sym (of_z-to_z fits)) ∙ sym (number-as ∙ ap (λ (v : Number). saying in_bits (told (outcome_number v))) q) })
+
+    pub number-stopped : {z : Stopped} → v ≡ Err z → TellsAnswer s c e n (Err (stopped_as z))
+    unfolding as_answer told saying
+    number-stopped q = record { is = sym (number-as ∙ ap (λ (v : Number). saying in_bits (told (outcome_number v))) q) }
+
+  module _ (none : b ≡ false) {v : Verdict} (comes : Decides s c e (node n c.asked) m before after v) where
+    verdict-as : answer_from s c e n ≡ saying verdict (told (outcome_verdict v))
+    unfolding answer_from choose
+    verdict-as =
+        let e : is_aggregate (node_at s n) ≡ false = ap is_aggregate (sym is) ∙ sym sort ∙ none in
+        rw e (sym (ap (λ o. saying verdict (told o)) (rw em at comes).comes.is))
+
+    pub answer-verdict : {y : Bool} {m' : Meter} {sp : Spent} → v ≡ Ok (y, m') → sp ≡ spent_in m' → TellsAnswer s c e n (Ok (Ans.Verdict y, sp))
+    unfolding as_answer told saying
+    answer-verdict q es = rw es (record { is = sym (verdict-as ∙ ap (λ (v : Verdict). saying verdict (told (outcome_verdict v))) q) })
+
+    pub verdict-stopped : {z : Stopped} → v ≡ Err z → TellsAnswer s c e n (Err (stopped_as z))
+    unfolding as_answer told saying
+    verdict-stopped q = record { is = sym (verdict-as ∙ ap (λ (v : Verdict). saying verdict (told (outcome_verdict v))) q) }
 
 -- ---- the ask call
 
@@ -119,7 +140,7 @@ unfolding choose
 chosen true e e' = e
 chosen false e e' = e'
 
-pub ask_refused : {s : List ℕ} {point n : ℕ} {start : List ℕ} {limits : Limits} {work : List ℕ} {o : Opening} {k : Refusal} → Checked s → Opens (wanted_for Answerable) (call_of s point n start limits work) o → o.against ≡ Refused k → Answers (call_of s point n start limits work) work (Ans.Refuses k 0 0)
+pub ask_refused : {s : List ℕ} {point n : ℕ} {start : List ℕ} {limits : Limits} {work : List ℕ} {u : OkOr Opening Refusal} {k : Refusal} → Checked s → Opens (wanted_for Answerable) (call_of s point n start limits work) u → u ≡ Err k → Answers (call_of s point n start limits work) work (Err (early k))
 unfolding ask_call as_answer wanted_for
 ask_refused {s} {point} {n} {start} {limits} {work} {k = k} checked opens is =
     let c : Call = call_of s point n start limits work in
@@ -139,9 +160,9 @@ answer_clears c s w e n = go (is_aggregate (node_at s n))
     go true = saying_clears in_bits c _ ∙ walk_clears c w.limits (number_for s w e n w.asked)
     go false = saying_clears verdict c _ ∙ walk_clears c w.limits (walk_for s w e (node n w.asked))
 
-pub ask_told : {s : List ℕ} {point n : ℕ} {start : List ℕ} {limits : Limits} {work : List ℕ} {o : Opening} (part : List ℕ) {after : List ℕ} {r : SaidAnswer} → Checked s → Opens (wanted_for Answerable) (call_of s point n start limits work) o → o.against ≡ Nothing → TellsAnswer s o.call o.env n r → length part ≡ length (take o.cells work) → after ≡ cleared o.cells (part ++ drop o.cells work) → Answers (call_of s point n start limits work) after r
+pub ask_told : {s : List ℕ} {point n : ℕ} {start : List ℕ} {limits : Limits} {work : List ℕ} {u : OkOr Opening Refusal} {o : Opening} (part : List ℕ) {after : List ℕ} {r : SaidAnswer} → Checked s → Opens (wanted_for Answerable) (call_of s point n start limits work) u → u ≡ Ok o → TellsAnswer s o.call o.env n r → length part ≡ length (take o.cells work) → after ≡ cleared o.cells (part ++ drop o.cells work) → Answers (call_of s point n start limits work) after r
 unfolding ask_call result answer_from walk_for number_for wanted_for choose
-ask_told {s} {point} {n} {start} {limits} {work} {o} part checked opens is tells long after =
+ask_told {s} {point} {n} {start} {limits} {work} {o = o} part checked opens is tells long after =
     let c : Call = call_of s point n start limits work in
     let a = walked_as checked opens is (λ m q. m.number q) in
     let b = walked_as checked opens is (λ m q. m.verdict q) in

@@ -15,45 +15,43 @@ use Rattle.meaning.specs.Carried.{look_of, Shown, shown_at, Listed, listed, carr
 use Rattle.meaning.specs.Carried.{Carried as CarriedOf}
 use Rattle.evaluator.specs.declared.Call.{Call as WalkCall}
 use Rattle.carried.specs.declared.Carried.{Carried}
-use Rattle.carried.specs.declared.Carried.TheVariants as Fnd
+use Rattle.std.specs.Prelude.{Result as OkOr, Ok, Err}
+use Rattle.rows.specs.declared.Stopped.{Stopped}
 use Rattle.carried.specs.Shows.{Carries}
 use Rattle.carried.specs.Shows.{as_carried as found_as}
 use Rattle.carried.specs.Late.{listed_clears}
 use Rattle.opening.specs.declared.Wanted.TheVariants.{LooksBack}
-use Rattle.opening.specs.declared.Against.TheVariants.{Nothing, Refused}
 use Rattle.opening.specs.declared.Opening.{Opening}
-use Rattle.calls.specs.declared.SaidCarried.{SaidCarried}
-use Rattle.calls.specs.declared.SaidCarried.TheVariants as Car
-use Rattle.calls.specs.Promises.{call_of, as_carried, Carrying}
+use Rattle.calls.specs.Promises.{call_of, SaidCarried, nothing, early, stopped_as, as_carried, Carrying}
 use Rattle.opening.specs.Opening.{wanted_for, Opens}
 use Rattle.calls.specs.Given.{TellsCarried}
 use Rattle.calls.proofs.Asked.{opened, said-not, unwritten, said-as, workspace-as}
 
 -- ---- the scan
 
-module _ {s : List ℕ} {c : WalkCall} {e : Env} {n : ℕ} {list after : List ℕ} {v : Carried} (g : Carries s c e n list after v) where
-  pub scan_given : {b : Bool} {k : ℕ} → v ≡ Fnd.Gives b k → TellsCarried s c e n list after (Car.Gives b k 0 0)
+module _ {s : List ℕ} {c : WalkCall} {e : Env} {n : ℕ} {list after : List ℕ} {v : OkOr Carried Stopped} (g : Carries s c e n list after v) where
+  pub scan_given : {k : Carried} → v ≡ Ok k → TellsCarried s c e n list after (Ok (k, nothing))
   unfolding as_carried found_as
-  scan_given q = record { is = ap (λ (v : Carried). record { said = found_as v; list = after }) (sym q) ∙ g.is }
+  scan_given q = record { is = ap (λ (v : OkOr Carried Stopped). record { said = found_as v; list = after }) (sym q) ∙ g.is }
 
-  pub scan_refused : {k : Refusal} {steps most : ℕ} → v ≡ Fnd.Refuses k steps most → TellsCarried s c e n list after (Car.Refuses k steps most)
+  pub scan_refused : {z : Stopped} → v ≡ Err z → TellsCarried s c e n list after (Err (stopped_as z))
   unfolding as_carried found_as
-  scan_refused q = record { is = ap (λ (v : Carried). record { said = found_as v; list = after }) (sym q) ∙ g.is }
+  scan_refused q = record { is = ap (λ (v : OkOr Carried Stopped). record { said = found_as v; list = after }) (sym q) ∙ g.is }
 
 -- ---- the call
 
 abbrev put_out : Call → List ℕ → Said Shown → Result CarriedOf
 put_out c list said = result c (listed list said).said (listed list said).list
 
-pub carried-refused : {s : List ℕ} {point n : ℕ} {start : List ℕ} {limits : Limits} {work list : List ℕ} {o : Opening} {k : Refusal} → Checked s → Opens (wanted_for LooksBack) (call_of s point n start limits work) o → o.against ≡ Refused k → Carrying (call_of s point n start limits work) list work list (Car.Refuses k 0 0)
+pub carried-refused : {s : List ℕ} {point n : ℕ} {start : List ℕ} {limits : Limits} {work list : List ℕ} {u : OkOr Opening Refusal} {k : Refusal} → Checked s → Opens (wanted_for LooksBack) (call_of s point n start limits work) u → u ≡ Err k → Carrying (call_of s point n start limits work) list work list (Err (early k))
 unfolding carried_call listed as_carried wanted_for
 carried-refused {s} {point} {n} {start} {limits} {work} {list} {k = k} checked opens is = record {
   is = sym (ap (put_out (call_of s point n start limits work) list) (said-not checked opens _ k is) ∙ unwritten checked opens CarriedOf list k is);
 }
 
-pub carried-told : {s : List ℕ} {point n : ℕ} {start : List ℕ} {limits : Limits} {work list : List ℕ} {o : Opening} (part : List ℕ) {after filled : List ℕ} {r : SaidCarried} → Checked s → Opens (wanted_for LooksBack) (call_of s point n start limits work) o → o.against ≡ Nothing → TellsCarried s o.call o.env n list filled r → length part ≡ length (take o.cells work) → after ≡ cleared o.cells (part ++ drop o.cells work) → Carrying (call_of s point n start limits work) list after filled r
+pub carried-told : {s : List ℕ} {point n : ℕ} {start : List ℕ} {limits : Limits} {work list : List ℕ} {u : OkOr Opening Refusal} {o : Opening} (part : List ℕ) {after filled : List ℕ} {r : SaidCarried} → Checked s → Opens (wanted_for LooksBack) (call_of s point n start limits work) u → u ≡ Ok o → TellsCarried s o.call o.env n list filled r → length part ≡ length (take o.cells work) → after ≡ cleared o.cells (part ++ drop o.cells work) → Carrying (call_of s point n start limits work) list after filled r
 unfolding carried_call result wanted_for
-carried-told {s} {point} {n} {start} {limits} {work} {list} {o} part {after} {filled} {r} checked opens is tells long cleared-is =
+carried-told {s} {point} {n} {start} {limits} {work} {list} {o = o} part {after} {filled} {r} checked opens is tells long cleared-is =
     let c : Call = call_of s point n start limits work in
     let row : Row = start_or (start_row s (vars s) start) in
     let says : Said Shown = shown_at (case_of s) (point_at s) point row limits (look_of (node_at s n)) in

@@ -20,8 +20,9 @@ use Rattle.rows.specs.Table.{Fit, rows_in, Reduces, Variables}
 use Rattle.laws.specs.Writing.{Writing}
 use Rattle.rows.specs.Laws.{rows-many, top-is}
 use Rattle.rows.proofs.Out.{cells_of-length}
-use Rattle.calls.specs.declared.SaidRows.TheVariants.{Gives, Refuses}
-use Rattle.calls.specs.Promises.{as_rows}
+use Rattle.std.specs.Prelude.{Ok, Err}
+use Rattle.calls.specs.declared.Spent.{Spent}
+use Rattle.calls.specs.Promises.{spent_in, as_rows}
 use Rattle.calls.specs.Given.{kept_of, fitting, said_of, output_of, Given}
 
 -- ---- binders that are variables of the case
@@ -107,12 +108,12 @@ module _ (s : List ℕ) (shape : Shape) (m : Meter) (binders w out : List ℕ) w
   abbrev kept : List Row
   kept = kept_of s binders held
 
-  refused_as : fitting shape.vars binders out kept ≡ false → Given s shape.vars m binders held out out (Refuses BadOutput m.steps m.most)
+  refused_as : {sp : Spent} → sp ≡ spent_in m → fitting shape.vars binders out kept ≡ false → Given s shape.vars m binders held out out (Err (record { refusal = BadOutput; spent = sp }))
   unfolding as_rows said_of output_of
-  refused_as e = record { said = sym (ap (said_of kept m) e); written = sym (ap (output_of binders out kept) e) }
+  refused_as es e = rw es (record { said = sym (ap (said_of kept m) e); written = sym (ap (output_of binders out kept) e) })
 
-  pub given-not-under : {t : Bool} → t ≡ all_under shape.vars binders → not t ≡ true → Given s shape.vars m binders held out out (Refuses BadOutput m.steps m.most)
-  given-not-under {t} is wrong = refused_as (stop _ (sym is ∙ not-true t wrong))
+  pub given-not-under : {t : Bool} {sp : Spent} → t ≡ all_under shape.vars binders → not t ≡ true → sp ≡ spent_in m → Given s shape.vars m binders held out out (Err (record { refusal = BadOutput; spent = sp }))
+  given-not-under {t} is wrong es = refused_as es (stop _ (sym is ∙ not-true t wrong))
 
   module _ (n : ℕ) (w' : List ℕ) (fit : Fit shape w) (high : m.held ≤ shape.room) (reduces : Reduces (case_of s) (onto binders) 0 m.held n (rows_in shape w) (rows_in shape w')) where
     kept-many : n ≡ length kept
@@ -125,13 +126,13 @@ module _ (s : List ℕ) (shape : Shape) (m : Meter) (binders w out : List ℕ) w
     cells-many : length (filled binders kept) ≡ n * (2 * length binders)
     cells-many = filled-long binders kept ∙ ap (λ (k : ℕ). k * (2 * length binders)) (sym kept-many)
 
-    pub given_too_long : {t : Bool} → t ≡ leb (n * (2 * length binders)) (length out) → not t ≡ true → Given s shape.vars m binders held out out (Refuses BadOutput m.steps m.most)
-    given_too_long {t} is wrong = refused_as (skip _ (ap (λ (k : ℕ). leb k (length out)) cells-many ∙ sym is ∙ not-true t wrong))
+    pub given_too_long : {t : Bool} {sp : Spent} → t ≡ leb (n * (2 * length binders)) (length out) → not t ≡ true → sp ≡ spent_in m → Given s shape.vars m binders held out out (Err (record { refusal = BadOutput; spent = sp }))
+    given_too_long {t} is wrong es = refused_as es (skip _ (ap (λ (k : ℕ). leb k (length out)) cells-many ∙ sym is ∙ not-true t wrong))
 
-    pub given-written : {t u : Bool} {out' : List ℕ} → t ≡ all_under shape.vars binders → not t ≡ false → u ≡ leb (n * (2 * length binders)) (length out) → not u ≡ false
-        → Writing out out' 0 (filled binders (slice 0 n (rows_in shape w'))) → Given s shape.vars m binders held out out' (Gives n m.steps m.most)
+    pub given-written : {t u : Bool} {sp : Spent} {out' : List ℕ} → t ≡ all_under shape.vars binders → not t ≡ false → u ≡ leb (n * (2 * length binders)) (length out) → not u ≡ false
+        → Writing out out' 0 (filled binders (slice 0 n (rows_in shape w'))) → sp ≡ spent_in m → Given s shape.vars m binders held out out' (Ok (n, sp))
     unfolding as_rows said_of output_of
-    given-written {t} {u} {out'} isT yes_t is_u yes_u writing =
+    given-written {t} {u} {out' = out'} isT yes_t is_u yes_u writing es = rw es (
         let fits : fitting shape.vars binders out kept ≡ true = pass (sym isT ∙ not-false t yes_t) (ap (λ (k : ℕ). leb k (length out)) cells-many ∙ sym is_u ∙ not-false u yes_u) in
         record {
           said = ap (λ (k : ℕ). gives k m.steps m.most) kept-many ∙ sym (ap (said_of kept m) fits);
@@ -140,7 +141,7 @@ module _ (s : List ℕ) (shape : Shape) (m : Meter) (binders w out : List ℕ) w
               ∙ ap (λ (l : List Row). filled binders l ++ drop (0 + length (filled binders l)) out) reduces.rows
               ∙ ap (λ (k : ℕ). filled binders kept ++ drop k out) (zero-add (length (filled binders kept)))
               ∙ sym (ap (output_of binders out kept) fits);
-        }
+        })
 
     pub write-fit : length w' ≡ length w → Fit shape w'
     write-fit long = record { vars = fit.vars; room = fit.room; wide = omega (arith, fit.wide) }

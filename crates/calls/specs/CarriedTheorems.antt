@@ -19,21 +19,25 @@ use Rattle.laws.specs.Walk.{answers}
 use Rattle.laws.specs.Carried.{look-answer, shown-made, Fills, listed-fills, made-verdict}
 use Rattle.laws.specs.Later.{later-points_change_nothing}
 use Rattle.carried.specs.When.{look-goes, answered-goes, shown-goes, listed-short}
-use Rattle.calls.specs.declared.SaidCarried.{SaidCarried}
-use Rattle.calls.specs.declared.SaidCarried.TheVariants as Car
-use Rattle.calls.specs.Promises.{as_carried, Carrying}
-use Rattle.calls.specs.Theorems.{never, same-refusal}
+use Rattle.std.specs.Prelude.{Ok, Err}
+use Rattle.carried.specs.declared.Carried.{Carried as Listing}
+use Rattle.calls.specs.declared.Spent.{Spent}
+use Rattle.calls.specs.Promises.{SaidCarried, as_carried, Carrying}
+use Rattle.calls.specs.Theorems.{never, same-spent, same-refused}
 
 -- ---- any two outcomes that the promise allows are equal
 
 same-carried : (r r' : SaidCarried) → as_carried r ≡ as_carried r' → r ≡ r'
 unfolding as_carried
-same-carried (Car.Gives b k s m) (Car.Gives b' k' s' m') e =
-    let z : ◌≡◌ {A = CarriedOf} (record { verdict = b; filled = k }) (record { verdict = b'; filled = k' }) = cc in
-    cc (ap (λ (r : CarriedOf). r.verdict) z, ap (λ (r : CarriedOf). r.filled) z)
-same-carried (Car.Gives b k s m) (Car.Refuses n' s' m') e = absurd (never e)
-same-carried (Car.Refuses n s m) (Car.Gives b' k' s' m') e = absurd (never (sym e))
-same-carried (Car.Refuses n s m) (Car.Refuses n' s' m') e = cc (same-refusal n n' e)
+same-carried (Ok (r, s)) (Ok (r', s')) e =
+    let z : ◌≡◌ {A = CarriedOf} (record { verdict = r.verdict; filled = r.filled }) (record { verdict = r'.verdict; filled = r'.filled }) = cc in
+    let y : ◌≡◌ {A = Listing} (record { verdict = r.verdict; filled = r.filled }) (record { verdict = r'.verdict; filled = r'.filled }) = cc (ap (λ (r : CarriedOf). r.verdict) z, ap (λ (r : CarriedOf). r.filled) z) in
+    let x : r ≡ r' = y in
+    let w : s ≡ s' = same-spent s s' (cc) (cc) in
+    cc
+same-carried (Ok (r, s)) (Err n') e = absurd (never e)
+same-carried (Err n) (Ok (r', s')) e = absurd (never (sym e))
+same-carried (Err n) (Err n') e = ap Err (same-refused n n' e)
 
 pub one-carried : {c : Call} {list after after' filled filled' : List ℕ} {r r' : SaidCarried} → Carrying c list after filled r → Carrying c list after' filled' r' → (r ≡ r') × (after ≡ after') × (filled ≡ filled')
 one-carried {r = r} {r'} p q =
@@ -60,7 +64,7 @@ module _ {c : Call} {list after filled : List ℕ} {r : SaidCarried} (ok : Askab
       ap (λ (x : Said CarriedOf). record { said = x; list = filled }) (ap (λ (x : Result CarriedOf). x.said) (e ∙ z))
       ∙ ap (λ (x : List ℕ). record { said = (listed list says).said; list = x }) (ap (λ (x : Result CarriedOf). x.output) (e ∙ z))
 
-  module _ {b : Bool} {k steps most : ℕ} (gave : r ≡ Car.Gives b k steps most) where
+  module _ {b : Bool} {k steps most : ℕ} (gave : r ≡ Ok (record { verdict = b; filled = k }, record { steps = steps; most = most })) where
     shows : (sh : Shown) × (says ≡ gives sh steps most) × Fills list filled sh b k
     unfolding as_carried
     shows = listed-fills list filled says b k steps most (ap (λ (r : SaidCarried). record { said = as_carried r; list = filled }) (sym gave) ∙ listed-is)
@@ -86,8 +90,8 @@ module _ {c : Call} {list after filled : List ℕ} {r : SaidCarried} (ok : Askab
   the_verdict = walk_of (λ m q. m.verdict q) c.file c.point c.node c.start
 
   abbrev pub AnswersOr15 : SaidCarried → Type 0
-  AnswersOr15 (Car.Gives b k steps held) = (b ≡ the_verdict.answer) × (steps ≡ 0) × (held ≡ 0)
-  AnswersOr15 (Car.Refuses n steps held) = (n ≡ ListTooShort) × (steps ≡ 0) × (held ≡ 0)
+  AnswersOr15 (Ok (k, s)) = (k.verdict ≡ the_verdict.answer) × (s.steps ≡ 0) × (s.most ≡ 0)
+  AnswersOr15 (Err e) = (e.refusal ≡ ListTooShort) × (e.spent.steps ≡ 0) × (e.spent.most ≡ 0)
 
   module _ (hs : spent the_verdict ≤ c.limits.steps) (hr : most the_verdict ≤ c.limits.room) where
     given : (sh : Shown) × (says ok look is p ≡ gives sh 0 0)
@@ -101,13 +105,13 @@ module _ {c : Call} {list after filled : List ℕ} {r : SaidCarried} (ok : Askab
     carried_when = go r refl
       where
         go : (v : SaidCarried) → r ≡ v → AnswersOr15 v
-        go (Car.Gives b k steps held) e =
-            let z : ◌≡◌ {A = Said Shown} (gives given.0 0 0) (gives (shows ok look is p e).0 steps held) = sym given.1 ∙ (shows ok look is p e).1 in
+        go (Ok (k, sp)) e =
+            let z : ◌≡◌ {A = Said Shown} (gives given.0 0 0) (gives (shows ok look is p e).0 sp.steps sp.most) = sym given.1 ∙ (shows ok look is p e).1 in
             (carried_agrees ok look is p e, cc, cc)
-        go (Car.Refuses n steps held) e =
-            let z : ◌≡◌ {A = Listed} (record { said = refuses (number_of n) steps held; list = filled }) (listed list (gives given.0 0 0)) = ap (λ (r : SaidCarried). record { said = as_carried r; list = filled }) (sym e) ∙ listed-is ok look is p ∙ ap (listed list) given.1 in
-            let y = listed-short list filled given.0 (number_of n) steps held z in
-            (one-refusal n ListTooShort y.0, y.1, y.2)
+        go (Err e') e =
+            let z : ◌≡◌ {A = Listed} (record { said = refuses (number_of e'.refusal) e'.spent.steps e'.spent.most; list = filled }) (listed list (gives given.0 0 0)) = ap (λ (r : SaidCarried). record { said = as_carried r; list = filled }) (sym e) ∙ listed-is ok look is p ∙ ap (listed list) given.1 in
+            let y = listed-short list filled given.0 (number_of e'.refusal) e'.spent.steps e'.spent.most z in
+            (one-refusal e'.refusal ListTooShort y.0, y.1, y.2)
 
 -- ---- points after the one asked about change nothing
 

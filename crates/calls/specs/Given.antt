@@ -11,27 +11,15 @@ use Rattle.meaning.specs.Case.{case_of, point_at, node_at}
 use Rattle.meaning.specs.Rows.{Row, row_of, onto, add_new}
 use Rattle.meaning.specs.Carried.{Listed, look_of, shown_at, listed}
 use Rattle.meaning.specs.Calls.{number_of, Said, gives, refuses, told, is_aggregate, Answer, verdict, number, saying, filled, all_under}
-use Rattle.calls.specs.declared.SaidRows.{SaidRows}
-use Rattle.calls.specs.declared.SaidCarried.{SaidCarried}
-use Rattle.calls.specs.declared.SaidAnswer.{SaidAnswer}
-use Rattle.calls.specs.Promises.{as_answer, as_rows, as_carried}
+use Rattle.calls.specs.Promises.{SaidAnswer, SaidRows, SaidCarried, as_answer, as_rows, as_carried}
 use Rattle.evaluator.specs.declared.Call.{Call as WalkCall}
-use Rattle.evaluator.specs.declared.Verdict.{Verdict as WalkVerdict}
-use Rattle.evaluator.specs.declared.Number.{Number as WalkNumber}
-use Rattle.evaluator.specs.Asks.{node, walk_for, number_for, said_verdict as outcome_verdict, said_number as outcome_number}
+use Rattle.evaluator.specs.Asks.{node, walk_for, number_for}
 
 -- ---- an answer
 
 -- the bits of a number
 abbrev pub in_bits : ℤ → Answer
 in_bits z = number (of_z w64 z)
-
--- a walk's verdict, or its number, told
-pub record TellsVerdict (v : WalkVerdict) (r : SaidAnswer) : Type 0 where
-  pub is : as_answer r ≡ saying verdict (told (outcome_verdict v))
-
-pub record TellsNumber (v : WalkNumber) (r : SaidAnswer) : Type 0 where
-  pub is : as_answer r ≡ saying in_bits (told (outcome_number v))
 
 -- what the walk for an answer comes to, told: file, call, environment, node
 unfoldable pub answer_from : List ℕ → WalkCall → Env → ℕ → Said Answer

@@ -15,15 +15,13 @@ use Rattle.meaning.specs.Calls.{number_of, Call, Said, gives, refuses, Result, i
 use Rattle.meaning.specs.Demands.{Askable, Exhausted, Tells, SameUpTo, of_file}
 use Rattle.laws.specs.Calls.{answers_when, answers-only_when, condition-asked, aggregate-asked, rows_when, one-refusal}
 use Rattle.laws.specs.Later.{later-points_change_nothing}
+use Rattle.std.specs.Prelude.{Ok, Err}
 use Rattle.casecheck.specs.declared.Contents.{Contents}
-use Rattle.casecheck.specs.declared.Checking.{Checking}
-use Rattle.casecheck.specs.declared.Checking.TheVariants as Che
 use Rattle.casecheck.specs.Answer.{contents_of, answer, as_checking}
-use Rattle.calls.specs.declared.SaidAnswer.{SaidAnswer}
-use Rattle.calls.specs.declared.SaidAnswer.TheVariants as Ans
-use Rattle.calls.specs.declared.SaidRows.{SaidRows}
-use Rattle.calls.specs.declared.SaidRows.TheVariants as Rows
-use Rattle.calls.specs.Promises.{as_check, as_answer, as_rows, Checks, Answers, Rowed}
+use Rattle.calls.specs.declared.Spent.{Spent}
+use Rattle.calls.specs.declared.Refused.{Refused}
+use Rattle.calls.specs.declared.Answer.TheVariants as Ans
+use Rattle.calls.specs.Promises.{Checking, SaidAnswer, SaidRows, as_check, as_answer, as_rows, Checks, Answers, Rowed}
 
 -- ---- any two outcomes that a promise allows are equal
 
@@ -32,6 +30,16 @@ never e = let z : ◌≡◌ {A = ℕ} 0 1 = cc in omega arith
 
 pub same-refusal : {A : Type 0} (n n' : Refusal) {s m s' m' : ℕ} → ◌≡◌ {A = Said A} (refuses (number_of n) s m) (refuses (number_of n') s' m') → n ≡ n'
 same-refusal n n' e = one-refusal n n' cc
+
+pub same-spent : (s s' : Spent) → s.steps ≡ s'.steps → s.most ≡ s'.most → s ≡ s'
+same-spent s s' a b = let z : ◌≡◌ {A = Spent} (record { steps = s.steps; most = s.most }) (record { steps = s'.steps; most = s'.most }) = cc (a, b) in z
+
+pub same-refused : {A : Type 0} (e e' : Refused) → ◌≡◌ {A = Said A} (refuses (number_of e.refusal) e.spent.steps e.spent.most) (refuses (number_of e'.refusal) e'.spent.steps e'.spent.most) → e ≡ e'
+same-refused e e' q =
+    let n : e.refusal ≡ e'.refusal = same-refusal e.refusal e'.refusal q in
+    let s : e.spent ≡ e'.spent = same-spent e.spent e'.spent (cc) (cc) in
+    let z : ◌≡◌ {A = Refused} (record { refusal = e.refusal; spent = e.spent }) (record { refusal = e'.refusal; spent = e'.spent }) = cc (n, s) in
+    z
 
 -- ---- the check
 
@@ -54,10 +62,10 @@ same-contents k k' a b c d e =
 
 same_check : (r r' : Checking) → as_check r ≡ as_check r' → r ≡ r'
 unfolding as_check
-same_check (Che.Passes k) (Che.Passes k') e = ap Che.Passes (same-contents k k' (cc) (cc) (cc) (cc) (cc))
-same_check (Che.Passes k) (Che.Refused n') e = absurd (never e)
-same_check (Che.Refused n) (Che.Passes k') e = absurd (never (sym e))
-same_check (Che.Refused n) (Che.Refused n') e = ap Che.Refused (same-refusal n n' e)
+same_check (Ok k) (Ok k') e = ap Ok (same-contents k k' (cc) (cc) (cc) (cc) (cc))
+same_check (Ok k) (Err n') e = absurd (never e)
+same_check (Err n) (Ok k') e = absurd (never (sym e))
+same_check (Err n) (Err n') e = ap Err (same-refusal n n' e)
 
 pub one-check : {s : List ℕ} {r r' : Checking} → Checks s r → Checks s r' → r ≡ r'
 one-check {r = r} {r'} p q = same_check r r' (p.is ∙ sym q.is)
@@ -73,15 +81,15 @@ not-both e = let z : ◌≡◌ {A = ℕ} 0 1 = cc in omega arith
 
 same_answer : (r r' : SaidAnswer) → as_answer r ≡ as_answer r' → r ≡ r'
 unfolding as_answer
-same_answer (Ans.Verdict b s m) (Ans.Verdict b' s' m') e = cc
-same_answer (Ans.Verdict b s m) (Ans.Number u' s' m') e = absurd (not-both e)
-same_answer (Ans.Verdict b s m) (Ans.Refuses n' s' m') e = absurd (never e)
-same_answer (Ans.Number u s m) (Ans.Verdict b' s' m') e = absurd (not-both (sym e))
-same_answer (Ans.Number u s m) (Ans.Number u' s' m') e = cc
-same_answer (Ans.Number u s m) (Ans.Refuses n' s' m') e = absurd (never e)
-same_answer (Ans.Refuses n s m) (Ans.Verdict b' s' m') e = absurd (never (sym e))
-same_answer (Ans.Refuses n s m) (Ans.Number u' s' m') e = absurd (never (sym e))
-same_answer (Ans.Refuses n s m) (Ans.Refuses n' s' m') e = cc (same-refusal n n' e)
+same_answer (Ok (Ans.Verdict b, s)) (Ok (Ans.Verdict b', s')) e = let z : s ≡ s' = same-spent s s' (cc) (cc) in let y : b ≡ b' = cc in cc
+same_answer (Ok (Ans.Verdict b, s)) (Ok (Ans.Number u', s')) e = absurd (not-both e)
+same_answer (Ok (Ans.Verdict b, s)) (Err n') e = absurd (never e)
+same_answer (Ok (Ans.Number u, s)) (Ok (Ans.Verdict b', s')) e = absurd (not-both (sym e))
+same_answer (Ok (Ans.Number u, s)) (Ok (Ans.Number u', s')) e = let z : s ≡ s' = same-spent s s' (cc) (cc) in let y : u ≡ u' = cc in cc
+same_answer (Ok (Ans.Number u, s)) (Err n') e = absurd (never e)
+same_answer (Err n) (Ok (Ans.Verdict b', s')) e = absurd (never (sym e))
+same_answer (Err n) (Ok (Ans.Number u', s')) e = absurd (never (sym e))
+same_answer (Err n) (Err n') e = ap Err (same-refused n n' e)
 
 pub one_answer : {c : Call} {after after' : List ℕ} {r r' : SaidAnswer} → Answers c after r → Answers c after' r' → (r ≡ r') × (after ≡ after')
 one_answer {r = r} {r'} p q =
@@ -90,10 +98,10 @@ one_answer {r = r} {r'} p q =
 
 same_rows : (r r' : SaidRows) → as_rows r ≡ as_rows r' → r ≡ r'
 unfolding as_rows
-same_rows (Rows.Gives k s m) (Rows.Gives k' s' m') e = cc
-same_rows (Rows.Gives k s m) (Rows.Refuses n' s' m') e = absurd (never e)
-same_rows (Rows.Refuses n s m) (Rows.Gives k' s' m') e = absurd (never (sym e))
-same_rows (Rows.Refuses n s m) (Rows.Refuses n' s' m') e = cc (same-refusal n n' e)
+same_rows (Ok (k, s)) (Ok (k', s')) e = let z : s ≡ s' = same-spent s s' (cc) (cc) in let y : k ≡ k' = cc in cc
+same_rows (Ok (k, s)) (Err n') e = absurd (never e)
+same_rows (Err n) (Ok (k', s')) e = absurd (never (sym e))
+same_rows (Err n) (Err n') e = ap Err (same-refused n n' e)
 
 pub one-rows : {c : Call} {binders output after after' out out' : List ℕ} {r r' : SaidRows} → Rowed c binders output after out r → Rowed c binders output after' out' r' → (r ≡ r') × (after ≡ after') × (out ≡ out')
 one-rows {r = r} {r'} p q =

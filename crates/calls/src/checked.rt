@@ -6,34 +6,16 @@ ghost use Rattle.meaning.specs.Calls.{all_under};
 ghost use Rattle.rows.specs.Table.{Fit, rows_in};
 ghost use Rattle.evaluator.specs.Asks.{Ready, rows_for, node_rows};
 ghost use Rattle.calls.specs.Promises.{call_of, Answers, Rowed, Carrying};
-ghost use Rattle.calls.specs.Given.{TellsVerdict, TellsNumber, TellsAnswer, TellsRows, TellsCarried, Given};
+ghost use Rattle.calls.specs.Given.{TellsAnswer, TellsRows, TellsCarried, Given};
 
-use super::{SaidAnswer, SaidCarried, SaidRows};
+use super::{Answer, Refused, Said, Spent, cost_of};
 use evaluator::Call;
 use meaning::{Env, Limits, Meter, NodeNo, Refusal};
-use opening::{Against, Wanted, is_aggregate, open};
-use rows::{Relation, Shape};
-
-fn told_verdict(v: evaluator::Verdict) -> SaidAnswer
-    ensures { TellsVerdict v result }
-{
-    match v {
-        evaluator::Verdict::Answer(b, m) => SaidAnswer::Verdict(b, m.steps, m.most),
-        evaluator::Verdict::Refused(c, m) => SaidAnswer::Refuses(c, m.steps, m.most),
-    }
-}
-
-fn told_number(v: evaluator::Number) -> SaidAnswer
-    ensures { TellsNumber v result }
-{
-    match v {
-        evaluator::Number::Answer(u, m) => SaidAnswer::Number(u, m.steps, m.most),
-        evaluator::Number::Refused(c, m) => SaidAnswer::Refuses(c, m.steps, m.most),
-    }
-}
+use opening::{Wanted, is_aggregate, open};
+use rows::Shape;
 
 // the walk for an answer: an aggregate's number, else a condition's verdict
-fn walk_answer(s: &[u8], part: &mut [u64], call: Call, env: Env, node: NodeNo) -> SaidAnswer
+fn walk_answer(s: &[u8], part: &mut [u64], call: Call, env: Env, node: NodeNo) -> Said<Answer>
     requires ready { Ready s.now call env started part.old }
     requires asked_bound { call.asked < 16384 }
     ensures { TellsAnswer s.now call env node.0 result }
@@ -41,11 +23,11 @@ fn walk_answer(s: &[u8], part: &mut [u64], call: Call, env: Env, node: NodeNo) -
     let started = rows::meters::started();
     let asked = tables::node_at(s, node);
     if is_aggregate(asked) {
-        let v = evaluator::eval_agg_expr(s, part, call, env, node, call.asked, started);
-        return told_number(v);
+        let (bits, m) = evaluator::eval_agg_expr(s, part, call, env, node, call.asked, started)?;
+        return Ok((Answer::Number(bits), cost_of(m)));
     }
-    let v = evaluator::eval_condition(s, part, call, env, node, call.asked, started);
-    told_verdict(v)
+    let (yes, m) = evaluator::eval_condition(s, part, call, env, node, call.asked, started)?;
+    Ok((Answer::Verdict(yes), cost_of(m)))
 }
 
 pub fn ask(
@@ -55,7 +37,7 @@ pub fn ask(
     start: &[u64],
     limits: Limits,
     work: &mut [u64],
-) -> SaidAnswer
+) -> Said<Answer>
     requires { Checked file.now }
     ensures { Answers (call_of file.now point node.0 start.now limits work.old) work.new result }
 {
@@ -67,31 +49,22 @@ pub fn ask(
         start,
         limits,
         &work[..],
-    );
-    let against = opening.against;
-    match against {
-        Against::Refused(refusal) => SaidAnswer::Refuses(refusal, 0, 0),
-        Against::Nothing => {
-            let cells = opening.cells;
-            let said = walk_answer(file, &mut work[..cells], opening.call, opening.env, node);
-            workspace::clear(work, cells);
-            said
-        }
-    }
+    )?;
+    let cells = opening.cells;
+    let said = walk_answer(file, &mut work[..cells], opening.call, opening.env, node);
+    workspace::clear(work, cells);
+    said
 }
 
 // whether all binders are variables of the case
 fn all_under(vars: usize, binders: &[u32]) -> bool
     ensures { ◌≡◌ {A = Bool} result (all_under vars binders.now) }
 {
-    let n = binders.len();
-    let mut k = 0;
-    while k < n {
-        let x = tables::wide(binders[k]);
+    for x in binders {
+        let x = tables::wide(*x);
         if vars <= x {
             return false;
         }
-        k += 1;
     }
     true
 }
@@ -101,10 +74,7 @@ fn fits(rows: usize, binders: usize, cells: usize) -> bool
     requires { rows ≤ 16384 }
     ensures { ◌≡◌ {A = Bool} result (leb (rows * (2 * binders)) cells) }
 {
-    if rows == 0 {
-        return true;
-    }
-    binders <= cells / (2 * rows)
+    rows == 0 || binders <= cells / (2 * rows)
 }
 
 // the rows held, projected on the binders, put into the output
@@ -115,20 +85,26 @@ fn give_rows(
     m: Meter,
     binders: &[u32],
     output: &mut [u64],
-) -> SaidRows
+) -> Said<usize>
     requires checked { Checked s.now }
     requires fit { Fit shape work.old × (m.held ≤ shape.room) }
     ensures { Given s.now shape.vars m binders.now (take m.held (rows_in shape work.old)) output.old output.new result }
 {
     if !all_under(shape.vars, binders) {
-        return SaidRows::Refuses(Refusal::BadOutput, m.steps, m.most);
+        return Err(Refused {
+            refusal: Refusal::BadOutput,
+            spent: cost_of(m),
+        });
     }
     let kept = rows::project_dedup_on(s, work, shape, 0, m.held, binders);
     if !fits(kept, binders.len(), output.len()) {
-        return SaidRows::Refuses(Refusal::BadOutput, m.steps, m.most);
+        return Err(Refused {
+            refusal: Refusal::BadOutput,
+            spent: cost_of(m),
+        });
     }
     rows::output::write_rows(work, shape, 0, kept, binders, output);
-    SaidRows::Gives(kept, m.steps, m.most)
+    Ok((kept, cost_of(m)))
 }
 
 // the walk for rows, and what it gives
@@ -140,24 +116,18 @@ fn walk_rows(
     node: NodeNo,
     binders: &[u32],
     output: &mut [u64],
-) -> SaidRows
+) -> Said<usize>
     requires ready { Ready s.now call env started part.old }
     requires asked_bound { call.asked < 16384 }
     ensures { TellsRows s.now call.vars binders.now output.old (outcome call.limits started (rows_for s.now call env (node_rows node.0 call.asked))) output.new result }
 {
     let started = rows::meters::started();
-    let found = evaluator::match_occurrences(s, part, call, env, node, call.asked, started);
-    match found {
-        Relation::Held(m) => {
-            let limits = call.limits;
-            let shape = Shape {
-                vars: call.vars,
-                room: limits.room,
-            };
-            give_rows(s, part, shape, m, binders, output)
-        }
-        Relation::Refused(refusal, m) => SaidRows::Refuses(refusal, m.steps, m.most),
-    }
+    let m = evaluator::match_occurrences(s, part, call, env, node, call.asked, started)?;
+    let shape = Shape {
+        vars: call.vars,
+        room: call.limits.room,
+    };
+    give_rows(s, part, shape, m, binders, output)
 }
 
 pub fn rows(
@@ -169,7 +139,7 @@ pub fn rows(
     binders: &[u32],
     work: &mut [u64],
     output: &mut [u64],
-) -> SaidRows
+) -> Said<usize>
     requires { Checked file.now }
     ensures { Rowed (call_of file.now point node.0 start.now limits work.old) binders.now output.old work.new output.new result }
 {
@@ -181,18 +151,12 @@ pub fn rows(
         start,
         limits,
         &work[..],
-    );
-    let against = opening.against;
-    match against {
-        Against::Refused(refusal) => SaidRows::Refuses(refusal, 0, 0),
-        Against::Nothing => {
-            let cells = opening.cells;
-            let part = &mut work[..cells];
-            let said = walk_rows(file, part, opening.call, opening.env, node, binders, output);
-            workspace::clear(work, cells);
-            said
-        }
-    }
+    )?;
+    let cells = opening.cells;
+    let part = &mut work[..cells];
+    let said = walk_rows(file, part, opening.call, opening.env, node, binders, output);
+    workspace::clear(work, cells);
+    said
 }
 
 // the scan of a node that looks back, and what it lists
@@ -203,18 +167,13 @@ fn walk_carried(
     env: Env,
     node: NodeNo,
     list: &mut [u64],
-) -> SaidCarried
+) -> Said<carried::Carried>
     requires ready { Ready s.now call env started part.old }
     requires asked_bound { call.asked < 16384 }
     ensures { TellsCarried s.now call env node.0 list.old list.new result }
 {
-    let found = carried::answer(s, part, call, env, node, list);
-    match found {
-        carried::Carried::Gives(yes, filled) => SaidCarried::Gives(yes, filled, 0, 0),
-        carried::Carried::Refuses(refusal, steps, most) => SaidCarried::Refuses(
-            refusal, steps, most,
-        ),
-    }
+    let found = carried::answer(s, part, call, env, node, list)?;
+    Ok((found, Spent { steps: 0, most: 0 }))
 }
 
 pub fn carried(
@@ -225,7 +184,7 @@ pub fn carried(
     limits: Limits,
     work: &mut [u64],
     list: &mut [u64],
-) -> SaidCarried
+) -> Said<carried::Carried>
     requires { Checked file.now }
     ensures { Carrying (call_of file.now point node.0 start.now limits work.old) list.old work.new list.new result }
 {
@@ -237,16 +196,10 @@ pub fn carried(
         start,
         limits,
         &work[..],
-    );
-    let against = opening.against;
-    match against {
-        Against::Refused(refusal) => SaidCarried::Refuses(refusal, 0, 0),
-        Against::Nothing => {
-            let cells = opening.cells;
-            let part = &mut work[..cells];
-            let said = walk_carried(file, part, opening.call, opening.env, node, list);
-            workspace::clear(work, cells);
-            said
-        }
-    }
+    )?;
+    let cells = opening.cells;
+    let part = &mut work[..cells];
+    let said = walk_carried(file, part, opening.call, opening.env, node, list);
+    workspace::clear(work, cells);
+    said
 }

@@ -4,34 +4,69 @@
 
 pub mod checked;
 
-ghost use Rattle.calls.specs.Promises.{call_of, Checks, Answers, Rowed, Carrying};
+ghost use Rattle.std.specs.Prelude.{◌≡◌};
+ghost use Rattle.calls.specs.Promises.{call_of, early, stopped_as, spent_in, Checks, Answers, Rowed, Carrying};
 
-use casecheck::Checking;
-use meaning::{Limits, NodeNo, Refusal};
+use casecheck::Contents;
+use meaning::{Limits, Meter, NodeNo, Refusal};
+use rows::Stopped;
 
-// of a condition yes or no, of an aggregate its number's 64 bits, or a refusal; each with the steps spent and the greatest number of rows held
+// the steps spent, and the greatest number of rows held
 #[derive(Clone, Copy)]
-pub enum SaidAnswer {
-    Verdict(bool, u64, usize),
-    Number(u64, u64, usize),
-    Refuses(Refusal, u64, usize),
+pub struct Spent {
+    pub steps: u64,
+    pub most: usize,
 }
 
-// how many rows the output has
+// a refusal, and what was spent until it
 #[derive(Clone, Copy)]
-pub enum SaidRows {
-    Gives(usize, u64, usize),
-    Refuses(Refusal, u64, usize),
+pub struct Refused {
+    pub refusal: Refusal,
+    pub spent: Spent,
 }
 
-// a verdict, and how many cells of the list are filled
+pub type Said<T> = Result<(T, Spent), Refused>;
+
+// of a condition yes or no, of an aggregate its number's 64 bits
 #[derive(Clone, Copy)]
-pub enum SaidCarried {
-    Gives(bool, usize, u64, usize),
-    Refuses(Refusal, u64, usize),
+pub enum Answer {
+    Verdict(bool),
+    Number(u64),
 }
 
-pub fn check(file: &[u8]) -> Checking
+// refused before a walk
+impl From<Refusal> for Refused {
+    ghost from_gives = { λ n e. e ≡ early n };
+
+    fn from(refusal: Refusal) -> Refused {
+        Refused {
+            refusal,
+            spent: Spent { steps: 0, most: 0 },
+        }
+    }
+}
+
+impl From<Stopped> for Refused {
+    ghost from_gives = { λ z e. e ≡ stopped_as z };
+
+    fn from(stopped: Stopped) -> Refused {
+        Refused {
+            refusal: stopped.refusal,
+            spent: cost_of(stopped.meter),
+        }
+    }
+}
+
+fn cost_of(m: Meter) -> Spent
+    ensures { result ≡ spent_in m }
+{
+    Spent {
+        steps: m.steps,
+        most: m.most,
+    }
+}
+
+pub fn check(file: &[u8]) -> Result<Contents, Refusal>
     ensures { Checks file.now result }
 {
     casecheck::check(file)
@@ -44,15 +79,14 @@ pub fn ask(
     start: &[u64],
     limits: Limits,
     work: &mut [u64],
-) -> SaidAnswer
+) -> Said<Answer>
     ensures { Answers (call_of file.now point node.0 start.now limits work.old) work.new result }
 {
-    match casecheck::check(file) {
-        Checking::Passes(_) => checked::ask(file, point, node, start, limits, work),
-        Checking::Refused(refusal) => SaidAnswer::Refuses(refusal, 0, 0),
-    }
+    casecheck::check(file)?;
+    checked::ask(file, point, node, start, limits, work)
 }
 
+// how many rows the output has
 pub fn rows(
     file: &[u8],
     point: usize,
@@ -62,15 +96,11 @@ pub fn rows(
     binders: &[u32],
     work: &mut [u64],
     output: &mut [u64],
-) -> SaidRows
+) -> Said<usize>
     ensures { Rowed (call_of file.now point node.0 start.now limits work.old) binders.now output.old work.new output.new result }
 {
-    match casecheck::check(file) {
-        Checking::Passes(_) => checked::rows(
-            file, point, node, start, limits, binders, work, output,
-        ),
-        Checking::Refused(refusal) => SaidRows::Refuses(refusal, 0, 0),
-    }
+    casecheck::check(file)?;
+    checked::rows(file, point, node, start, limits, binders, work, output)
 }
 
 pub fn carried(
@@ -81,11 +111,9 @@ pub fn carried(
     limits: Limits,
     work: &mut [u64],
     list: &mut [u64],
-) -> SaidCarried
+) -> Said<carried::Carried>
     ensures { Carrying (call_of file.now point node.0 start.now limits work.old) list.old work.new list.new result }
 {
-    match casecheck::check(file) {
-        Checking::Passes(_) => checked::carried(file, point, node, start, limits, work, list),
-        Checking::Refused(refusal) => SaidCarried::Refuses(refusal, 0, 0),
-    }
+    casecheck::check(file)?;
+    checked::carried(file, point, node, start, limits, work, list)
 }

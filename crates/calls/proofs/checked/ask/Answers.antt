@@ -1,24 +1,22 @@
 use Rattle.std.proofs.Common.{rules}
 use Rattle.calls.proofs.Asked.{few-cells, part-long, point_in_lem, ready, clear_in, ask_refused, ask_told}
+use Rattle.evaluator.proofs.Walks.{passed}
 use Rattle.calls.proofs.checked.ask.Goals as goal
 
 pub slice_bounds-walk_answer-end : goal.slice_bounds-walk_answer-end
-slice_bounds-walk_answer-end c = search (few-cells, rules)
-
-pub slice_bounds-walk_answer-end-in-Nothing : goal.slice_bounds-walk_answer-end-in-Nothing
-slice_bounds-walk_answer-end-in-Nothing c = search (part-long, rules)
+slice_bounds-walk_answer-end c = search (few-cells, c.in_ok-opening.was, rules)
 
 pub walk_answer-said-requires-clause-ready : goal.walk_answer-said-requires-clause-ready
-walk_answer-said-requires-clause-ready c = search (ready, rules)
+walk_answer-said-requires-clause-ready c = search (ready, c.in_ok-opening.was, rules)
 
 pub walk_answer-said-requires-clause-asked_bound : goal.walk_answer-said-requires-clause-asked_bound
-walk_answer-said-requires-clause-asked_bound c = search (point_in_lem, rules)
+walk_answer-said-requires-clause-asked_bound c = search (point_in_lem, c.in_ok-opening.was, rules)
 
 pub clear-requires : goal.clear-requires
-clear-requires c = search (clear_in, rules)
+clear-requires c = search (clear_in, c.in_ok-opening.was, rules)
 
-pub returns-in-Refused : goal.returns-in-Refused
-returns-in-Refused c = search (ask_refused, rules)
+pub returns-in_err-opening : goal.returns-in_err-opening
+returns-in_err-opening c = rw (passed _ c.from_residual.ensures) (search (ask_refused, c.in_err-opening.was, rules))
 
-pub returns-in-Nothing : goal.returns-in-Nothing
-returns-in-Nothing c = search (ask_told, rules)
+pub returns : goal.returns
+returns c = search (ask_told, c.in_ok-opening.was, rules)

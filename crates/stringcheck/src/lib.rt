@@ -241,6 +241,7 @@ fn are_letters(t: &[u8]) -> bool
     ensures { ◌≡◌ {A = Bool} result (utf8 Due.Nothing t.now) }
 {
     let mut i = 0;
+    // a while: a letter has one to four bytes
     while i < t.len() {
         let n = letter_size(t, i);
         if n == 0 {

@@ -6,11 +6,11 @@ use Prim.Native.Nat.{ℕ, ◌+◌, ◌*◌, ◌-◌, ◌/◌, ◌%◌, ◌<◌, 
 use native.Mathlib.Omega.{arith}
 use lib.Dec.{ltb}
 use lib.ListN.{get_or, set}
-use borrow.Author.Tests.{ltb-false, le-leb, lt-leb}
-use Rattle.meaning.specs.Tests.{◌and◌, all_below, greatest}
+use borrow.Author.Tests.{ltb-false}
+use Rattle.meaning.specs.Tests.{all_below, greatest}
 use Rattle.meaning.specs.Case.{members, member_word, value_word}
-use Rattle.meaning.specs.Check.{bodies, mosts, in_table, depth, part_count, part_value}
-use Rattle.laws.specs.Tests.{Filled, Passing, passing-none, passing-more, passing-no, passing-block, passing-out, Growing, growing_none, growing_more, growing_all, said, denied, stop, after, greatest-same, all_same}
+use Rattle.meaning.specs.Check.{bodies, mosts, depth, part_count, part_value}
+use Rattle.laws.specs.Tests.{Filled, Passing, passing-none, passing-more, passing-no, passing-block, passing-out, Growing, growing_none, growing_more, growing_all, said, denied, greatest-same, all_same}
 use Rattle.laws.specs.Values.{Runs, leaf, holder}
 use Rattle.stringcheck.specs.Mosts.{value-most, member-most}
 use Rattle.valuecheck.specs.Blocks.{Lower, Depths, Marked}
@@ -148,17 +148,6 @@ module _ {s : List ℕ} {v at held h : ℕ} (i : ℕ) (l : Lower s v at 512) (hi
 
   pub held-depth : {table : List ℕ} → Filled 0 (depth s) table v → get_or table h 0 ≡ depth s (member_word s (at + i) 1)
   held-depth f = rw (q, e) (f.at _ (l.lower i hi))
-
-pub run_fits : (s : List ℕ) {first items m w f j : ℕ} → m ≡ members s → w ≡ m → f ≡ first → j ≡ items → f + j ≤ w → first + items ≤ members s
-run_fits s em ew ef ej h = omega arith
-
--- a run of members lies in its table, or does not
-module _ (s : List ℕ) {first items m w f j : ℕ} (rest : Bool) (em : m ≡ members s) (ew : w ≡ m) (ef : f ≡ first) (ej : j ≡ items) where
-  pub run_past : w < f + j → false ≡ (in_table (members s) 1 first items and rest)
-  run_past h = sym (stop rest (lt-leb (first + 1 * items) (members s) (omega arith)))
-
-  pub run_inside : {q : Bool} → f + j ≤ w → q ≡ rest → q ≡ (in_table (members s) 1 first items and rest)
-  run_inside h e = e ∙ sym (after (le-leb (first + 1 * items) (members s) (omega arith)))
 
 -- the block that starts at item i of a run is one of the table's
 pub in_tops : (s : List ℕ) (items : ℕ) {first i f j : ℕ} → f ≡ first → j ≡ i → bodies s ≡ true → mosts s ≡ true → first + items ≤ members s → ltb (items - i) 512 ≡ false → i < items → (f + j) / 512 < 1024

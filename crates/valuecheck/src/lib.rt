@@ -65,6 +65,7 @@ fn block_top(s: &[u8], at: usize) -> u32
     top
 }
 
+// block_tops, object_tops and listruns::list_tops: three lines each; one function of a closure needs a longer contract than all
 fn block_tops(s: &[u8]) -> [u32; 1024]
     requires s_value { bodies s.now ≡ true }
     requires s_value_2 { mosts s.now ≡ true }

@@ -16,9 +16,6 @@ use Rattle.listruns.proofs.Runs.{InLists, run_past, run_fits, run-whole}
 use Rattle.nodecheck.proofs.Blocks.{block_in, block-fits, block_at}
 use Rattle.nodecheck.proofs.argument_run.Goals as goal
 
-at-is : (s : List ℕ) (n : ℕ) {first i f j : ℕ} {r : Bool} → r ≡ argument_rule s n (f + 3 * j) → f ≡ first → j ≡ i → r ≡ argument_rule s n (first + 3 * i)
-at-is s n e a b = e ∙ rw (a, b) refl
-
 module _ {s : List ℕ} {first items i f j : ℕ} (r : InLists s 3 first items) (ef : f ≡ first) (ej : j ≡ i) (lt : i < items) (a : (f + 3 * j) % 384 < 3) (w : ltb (items - i) 128 ≡ false) {terms : List ℕ} (t : ArgumentTops s terms) {test : ℕ → Bool} (p : Passing test items i) (n : ℕ) (fits : n < 4294967296) (same : (x : ℕ) → test x ≡ argument_rule s n (first + 3 * x)) where
   block : ltb (get_or terms (3 * ((f + 3 * j) / 384) + (f + 3 * j) % 384) 0) n ≡ all_below 128 (λ x. test (i + x))
   block =
@@ -41,10 +38,10 @@ loop-i-init c = (search (passing-none, rules), search (run_fits, rules))
 
 pub returns-then-not-argument_rule : goal.returns-then-not-argument_rule
 unfolding argument_run
-returns-then-not-argument_rule c = search (fails-later, passing-no, at-is, rules)
+returns-then-not-argument_rule c = search (fails-later, passing-no, rules)
 
 pub loop-i-preserved-then-at-ge3 : goal.loop-i-preserved-then-at-ge3
-loop-i-preserved-then-at-ge3 c = (search (passing-more, at-is, rules), search rules)
+loop-i-preserved-then-at-ge3 c = (search (passing-more, rules), search rules)
 
 pub bounds-terms-k : goal.bounds-terms-k
 bounds-terms-k c = search (block_in, rules)

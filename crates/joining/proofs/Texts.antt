@@ -1,18 +1,18 @@
 -- A string's bytes, cut where text ends
-use Rattle.std.proofs.Common.{◌≡◌, ℕ, ◌+◌, ◌-◌, ◌<◌, ◌≤◌, Bool, true, false, ltb, List, length, take, drop, sym, refl, ap, ◌∙◌, arith, lit<, length-drop, drop_of_length-le, length-take-le, take_all, drop-drop, ltb-false, le-ltb, lt-ltb}
+use Rattle.std.proofs.Common.{min, ltb-true, ◌≡◌, ℕ, ◌+◌, ◌-◌, ◌<◌, ◌≤◌, Bool, true, false, ltb, List, length, take, drop, sym, refl, ap, ◌∙◌, arith, lit<, length-drop, drop_of_length-le, length-take-le, take_all, drop-drop, ltb-false}
 use Rattle.meaning.specs.Tests.{choose}
 use Rattle.meaning.specs.Case.{offset, size, body, string_word, text}
 use Rattle.meaning.specs.Check.{bodies}
 use Rattle.joining.specs.Order.{Least, Cut}
 use Rattle.laws.specs.Bodies.{cut, body-ends, body-length}
 
-pub least_first : {a b : ℕ} → a < b → Least a b a
+pub least_of : {a b r : ℕ} → r ≡ min a b → Least a b r
 unfolding choose
-least_first {a} {b} h = record { is = rw (lt-ltb a b h); low = omega arith; high = omega arith }
-
-pub least-second : {a b : ℕ} → b ≤ a → Least a b b
-unfolding choose
-least-second {a} {b} h = record { is = rw (le-ltb a b h); low = h; high = omega arith }
+least_of {a} {b} {r} e = record { is = go (ltb a b) refl; low = omega (arith, e); high = omega (arith, e) }
+  where
+    go : (t : Bool) → ltb a b ≡ t → r ≡ choose t a b
+    go true h = omega (arith, e, ltb-true a b h)
+    go false h = omega (arith, e, ltb-false a b h)
 
 -- no more than are there
 take-least : (l : List ℕ) (n : ℕ) → take n l ≡ take (choose (ltb n (length l)) n (length l)) l

@@ -11,7 +11,7 @@ ghost use Rattle.meaning.specs.Case.{text, strings};
 ghost use Rattle.meaning.specs.Check.{bodies};
 ghost use Rattle.encode.specs.Join.{insert_new};
 ghost use Rattle.encode.specs.Unsorted.{number, texts};
-ghost use Rattle.joining.specs.Order.{Least, Cut, Place, Stands, listed, InOrder, Joins, Sorted, Moved, Put};
+ghost use Rattle.joining.specs.Order.{Cut, Place, Stands, listed, InOrder, Joins, Sorted, Moved, Put};
 ghost use Rattle.joining.specs.Fresh.{Fresh, together, Floor, Roof, Beside, Keeps, Reaches, Ready, Merged, Upto};
 ghost use Rattle.joining.specs.Run.{onward, Run, Counted, Begun};
 ghost use Rattle.joining.specs.Guess.{Few, Follows, Repeats, Grows, Seen, Takes, IsKept, PutsNext, KeepsOne, Sifts};
@@ -22,12 +22,6 @@ use sift::{is_often, likely, tell_all};
 use stringcheck::{is_before, string_count};
 use tables::{offset_of, size_of, string_word, wide};
 
-fn least(a: usize, b: usize) -> usize
-    ensures { Least a b result }
-{
-    if a < b { a } else { b }
-}
-
 // the bytes of string n, cut where text ends
 pub fn text_in(s: &[u8], n: StrNo) -> &[u8]
     requires { bodies s.now ≡ true }
@@ -35,8 +29,8 @@ pub fn text_in(s: &[u8], n: StrNo) -> &[u8]
 {
     let size = wide(size_of(s, 6));
     let body = wide(offset_of(s, 6));
-    let from = least(wide(string_word(s, n, 0)), size);
-    let many = least(wide(string_word(s, n, 1)), size - from);
+    let from = wide(string_word(s, n, 0)).min(size);
+    let many = wide(string_word(s, n, 1)).min(size - from);
     let start = body + from;
     let end = start + many;
     &s[start..end]
@@ -530,17 +524,10 @@ fn turns(s: &[u8], all: u32) -> bool
     }
     let step = all / 16;
     let down = goes_on(s, 0, true);
-    let mut k = 0;
-    // a while: of a `step_by` it is not proved that it ends
-    while k < all {
+    for k in (0..all).step_by(step as usize) {
         if !goes_on(s, k, down) {
             return true;
         }
-        let rest = all - k;
-        if rest <= step {
-            return false;
-        }
-        k += step;
     }
     false
 }

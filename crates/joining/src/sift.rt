@@ -39,15 +39,9 @@ fn mixed_eights(x: &[u8], n: usize) -> u64
     requires le_n { 8 ≤ n }
 {
     let mut h = n as u64;
-    let mut i = 0;
-    // a while: of a `step_by` it is not proved that it ends
-    while i < n {
+    for i in (0..n).step_by(8) {
         let at = i.min(n - 8);
         h = mixed(h, four_at(x, at), four_at(x, at + 4));
-        if n - i <= 8 {
-            return h;
-        }
-        i += 8;
     }
     h
 }
@@ -133,39 +127,32 @@ fn is_repeated(s: &[u8], k: u32, step: u32) -> bool
     requires step_nonzero { 0 < step }
     requires step_bound { step ≤ 16384 }
 {
-    let mut j = 0;
-    // a while: of a `step_by` it is not proved that it ends
-    while j < k {
+    for j in (0..k).step_by(step as usize) {
         if text_in(s, StrNo(j)) == text_in(s, StrNo(k)) {
             return true;
         }
-        j += step;
     }
     false
 }
 
-// how many of the strings, a step apart, are
-fn repeated(s: &[u8], n: u32, step: u32) -> u32
+// is one of the strings, a step apart?
+fn has_repeated(s: &[u8], n: u32, step: u32) -> bool
     requires s_value { bodies s.now ≡ true }
     requires n_bound { n ≤ 16384 }
     requires step_nonzero { 0 < step }
     requires step_bound { step ≤ 16384 }
 {
-    let mut many = 0;
-    let mut k = 0;
-    // a while: of a `step_by` it is not proved that it ends
-    while k < n {
+    for k in (0..n).step_by(step as usize) {
         if is_repeated(s, k, step) {
-            many += 1;
+            return true;
         }
-        k += step;
     }
-    many
+    false
 }
 
 // where so many rise at the front: is it worth it to tell texts?
 pub fn is_often(s: &[u8], n: u32, rise: u32) -> bool
     requires { bodies s.now ≡ true }
 {
-    rise < n && (16384 < n || 32 <= n && 0 < repeated(s, n, n / 32))
+    rise < n && (16384 < n || 32 <= n && has_repeated(s, n, n / 32))
 }

@@ -1,5 +1,5 @@
 use Rattle.laws.specs.Bodies.{long}
-use Rattle.joining.proofs.Texts.{cut-ends, cut-read}
+use Rattle.joining.proofs.Texts.{least_of, cut-ends, cut-read}
 use Rattle.std.proofs.Common.{rules}
 use Rattle.joining.proofs.text_in.Goals as goal
 
@@ -13,4 +13,4 @@ pub slice_bounds-result-end : goal.slice_bounds-result-end
 slice_bounds-result-end c = search (cut-ends, rules)
 
 pub returns : goal.returns
-returns c = cut-read _ c.least-from.ensures c.least-many.ensures c.wide.ensures c.string_word.ensures c.wide-2.ensures c.string_word-2.ensures c.wide-size.ensures c.size_of.ensures c.wide-body.ensures c.offset_of.ensures (search rules) (search rules)
+returns c = cut-read _ (least_of c.min-from.ensures) (least_of c.min-many.ensures) c.wide.ensures c.string_word.ensures c.wide-2.ensures c.string_word-2.ensures c.wide-size.ensures c.size_of.ensures c.wide-body.ensures c.offset_of.ensures (search rules) (search rules)

@@ -11,14 +11,7 @@ use jsonroom::{Bodies, Next};
 use jsonruns::{first_part, part_after};
 
 // strings of a namespace, after the bracket, each named by a list word
-fn put_spaces(
-    line: &[u8],
-    at: usize,
-    out: &mut [u8],
-    marks: &mut [u8],
-    b: Bodies,
-    next: &mut Next,
-)
+fn put_spaces(line: &[u8], at: usize, out: &mut [u8], marks: &mut [u8], b: Bodies, next: &mut Next)
     requires { MarkDue line.now at (array text (drop at line.now)) out.old marks.old b next.old space_tables }
     ensures { SpacesWritten (array text (drop at line.now)) out.old out.new marks.old marks.new b next.old next.new }
 {

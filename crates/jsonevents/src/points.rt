@@ -5,7 +5,7 @@ ghost use Rattle.encode.specs.Words.{packed};
 ghost use Rattle.jsonpieces.specs.Parts.{QuadSmall, NamesSmall, ValuesSmall, name_words, value_words, PointRoom, PointPut};
 
 use jsonleaf::flats::{high_of, low_of};
-use jsonpieces::{Body, Values};
+use jsonpieces::{Body, EventValues};
 use jsonroom::{Bodies, Next, put_pair};
 
 // four words
@@ -37,7 +37,7 @@ fn put_heading(out: &mut [u8], at: usize, time: u64, n: Next, spaces: usize)
 }
 
 // the four values, and the entities
-fn put_ending(out: &mut [u8], at: usize, r: Values, list: usize, count: usize)
+fn put_ending(out: &mut [u8], at: usize, r: EventValues, list: usize, count: usize)
     requires at_in_bounds { at + 24 ≤ length out.old }
     requires values_small { ValuesSmall r list count }
     ensures { Writing out.old out.new at (packed (value_words r list count)) }

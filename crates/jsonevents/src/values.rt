@@ -4,7 +4,7 @@ ghost use Rattle.jsonentry.specs.Fields.{Stands, MayStand};
 ghost use Rattle.jsonpieces.specs.Parts.{OneDue, OneWritten, fields_tables, fields_word, maybe_tables, maybe_word, ValuesDue, ValuesWritten};
 
 use jsonentry::Fields;
-use jsonpieces::Values;
+use jsonpieces::EventValues;
 use jsonplace::{write_object, write_value};
 use jsonroom::{Bodies, Next};
 
@@ -54,7 +54,7 @@ pub fn put_values(
     out: &mut [u8],
     b: Bodies,
     next: &mut Next,
-) -> Values
+) -> EventValues
     requires { ValuesDue line.now f names.old out.old b next.old }
     ensures { ValuesWritten line.now names.old names.new out.old out.new b next.old next.new result }
 {
@@ -62,7 +62,7 @@ pub fn put_values(
     let context = put_fields(line, f.context, names, out, b, next);
     let principal = put_maybe(line, f.principal, names, out, b, next);
     let resource = put_maybe(line, f.resource, names, out, b, next);
-    Values {
+    EventValues {
         logged,
         context,
         principal,

@@ -7,6 +7,7 @@ use Prim.Native.Nat.{ℕ, zero, suc, ◌+◌, ◌-◌, ◌<◌, ◌≤◌}
 use native.Mathlib.Omega.{arith}
 use lib.Dec.{eqb}
 use lib.ListN.{length, drop, get_or, set, length-set, length-drop}
+use borrow.Author.Tests.{eq-eqb}
 use Rattle.std.proofs.Common.{Option as Maybe, Some, None}
 use Rattle.jsontext.specs.declared.Fault.TheVariants.{BadField}
 use Rattle.jsontext.specs.Reading.{got, blanks, want}

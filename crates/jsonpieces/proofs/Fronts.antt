@@ -30,7 +30,7 @@ use Rattle.jsonentry.specs.Marking.{mark-none, mark-then, mark-ready-first, mark
 use Rattle.jsonentry.specs.NoLists.{no-lists, no-lists-maybe, no-lists-then}
 use Rattle.jsonentities.specs.Lists.{ready-lists, mark-numbers}
 use Rattle.jsonfields.specs.Few.{cells-listed}
-use Rattle.jsonpieces.specs.declared.Values.{Values}
+use Rattle.jsonpieces.specs.declared.EventValues.{EventValues}
 use Rattle.jsonpieces.specs.Parts.{names_add, NamesDue, NamesWritten, fields_tables, fields_word, maybe_tables, maybe_word, both_tables, PairDue, PairWritten, records_add, parties_add, values_add, ValuesAre, ValuesDue, ValuesWritten, front_add, last_add, body_add, PieceDue, LastWritten, FrontIs, FrontWritten, BodyIs, BodyWritten}
 use Rattle.jsonpieces.proofs.Values.{shaped-fields, shaped_might}
 use Rattle.jsonpieces.proofs.Names.{shaped-names, inside_of, listed_below}
@@ -114,7 +114,7 @@ module _ {line : List ℕ} {f : Fields} {names file : List ℕ} {b : Bodies} {n 
       unfolding values_add
       values-added = adds_then records parties (shaped-records d.what (numbers n)) (shaped-parties d.what _) records-added parties-added
 
-      abbrev four : Values
+      abbrev four : EventValues
       four = record { logged = x-first; context = x-second; principal = y-first; resource = y-second }
 
       four_is : ValuesAre d.what (numbers n) four
@@ -175,7 +175,7 @@ module _ {line : List ℕ} {f : Fields} {names file marks : List ℕ} {b : Bodie
     }
 
 -- the numbers are known where it is known what was read
-module _ {line names names' file mid last marks marks' : List ℕ} {b : Bodies} {n next : Next} (p : NamesWritten line file mid marks marks' b n next) {m : Next} {r : Values} (q : ValuesWritten line names names' mid last b next m r) where
+module _ {line names names' file mid last marks marks' : List ℕ} {b : Bodies} {n next : Next} (p : NamesWritten line file mid marks marks' b n next) {m : Next} {r : EventValues} (q : ValuesWritten line names names' mid last b next m r) where
   pub front-from : n.list ≤ next.list
   front-from = p.from
 
@@ -308,7 +308,7 @@ module _ {line : List ℕ} {f : Fields} {names file marks : List ℕ} {b : Bodie
   pub body-front : PieceDue front_add line f names file marks b n
   body-front = record { what = d.what; rest = d.rest; is = d.is; fields = d.fields; ready = mark-ready-first fronted (ended (past (numbers n) fronted)) body-ready; cells = d.cells }
 
-  module _ {names₁ mid marks₁ : List ℕ} {m : Next} {spaces : ℕ} {r : Values} (p : FrontWritten line names names₁ file mid marks marks₁ b n m spaces r) where
+  module _ {names₁ mid marks₁ : List ℕ} {m : Next} {spaces : ℕ} {r : EventValues} (p : FrontWritten line names names₁ file mid marks marks₁ b n m spaces r) where
     pub body-last : length mid ≡ length file → PieceDue last_add line f names₁ mid marks₁ b m
     body-last l = record {
       what = d.what;
@@ -321,7 +321,7 @@ module _ {line : List ℕ} {f : Fields} {names file marks : List ℕ} {b : Bodie
       cells = let e : length names₁ ≡ length names = p.long in omega (arith, d.cells, e);
     }
 
-module _ {line names names₁ names₂ file mid last marks marks₁ marks₂ : List ℕ} {b : Bodies} {n : Next} {m : Next} {spaces : ℕ} {r : Values} (p : FrontWritten line names names₁ file mid marks marks₁ b n m spaces r) {s-next : Next} {s-count : ℕ} (q : LastWritten line names₁ names₂ mid last marks₁ marks₂ b m s-next s-count) where
+module _ {line names names₁ names₂ file mid last marks marks₁ marks₂ : List ℕ} {b : Bodies} {n : Next} {m : Next} {spaces : ℕ} {r : EventValues} (p : FrontWritten line names names₁ file mid marks marks₁ b n m spaces r) {s-next : Next} {s-count : ℕ} (q : LastWritten line names₁ names₂ mid last marks₁ marks₂ b m s-next s-count) where
   module _ (e : Event) (rest : List ℕ) (t : line_of line ≡ got e rest) where
     after_front : numbers m ≡ past (numbers n) (front_add e (numbers n))
     after_front = p.numbers-are e rest t

@@ -15,6 +15,7 @@ use Rattle.jsonroom.specs.declared.Bodies.{Bodies}
 use Rattle.jsonroom.specs.declared.Next.{Next}
 use Rattle.jsonlines.specs.Events.{line_length}
 use Rattle.jsonlines.proofs.Lines.{line_from, end-within, line-long, cut_line, line_by, lines-is, no_lines}
+use Rattle.jsonview.specs.Showing.{same_next}
 use Rattle.jsonview.specs.Room.{numbers}
 use Rattle.jsonentry.specs.Entries.{unwritten, LineDue, LineWritten, LogDue, LogWritten}
 use Rattle.jsonentry.specs.Marks.{MarkReady, MarkAdds}

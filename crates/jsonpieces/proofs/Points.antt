@@ -33,7 +33,7 @@ use Rattle.jsonentry.specs.Fields.{FieldsTold, FieldsStand}
 use Rattle.jsonentry.specs.Entries.{LineDue, LineWritten}
 use Rattle.jsonentry.specs.Marks.{MarkReady, MarkAdds}
 use Rattle.jsonentry.specs.Marking.{mark-none, mark-then, mark-ready-first, mark-ready-second}
-use Rattle.jsonpieces.specs.declared.Values.{Values}
+use Rattle.jsonpieces.specs.declared.EventValues.{EventValues}
 use Rattle.jsonpieces.specs.declared.Body.{Body}
 use Rattle.jsonpieces.specs.Parts.{names_add, fields_tables, fields_word, maybe_tables, maybe_word, both_tables, records_add, parties_add, values_add, front_add, last_add, body_add, PieceDue, BodyIs, BodyWritten, name_words, value_words, point_words, with_point, PointRoom, PointPut, words_of}
 use Rattle.jsonpieces.proofs.Fronts.{past-past, shaped-body, ordered-long}
@@ -50,7 +50,7 @@ heading_written {d} {w} {w'} {at} {x} {y} time n spaces h ex ey f g =
     (subst (λ (u : ℕ). Writing d w' at (packed (x ∷ u ∷ n.list ∷ spaces ∷ (n.string + spaces) ∷ (n.string + spaces + 1) ∷ []))) ey
     (words_more (at + 16) (x ∷ y ∷ n.list ∷ spaces ∷ []) ((n.string + spaces) ∷ (n.string + spaces + 1) ∷ []) (omega arith) (omega arith) f g))
 
-pub ending-written : {d w w' : List ℕ} {at : ℕ} (r : Values) (list count : ℕ) → at + 24 ≤ length d → Writing d w at (packed (r.logged ∷ r.context ∷ r.principal ∷ r.resource ∷ [])) → Writing w w' (at + 16) (packed (list ∷ count ∷ [])) → Writing d w' at (packed (value_words r list count))
+pub ending-written : {d w w' : List ℕ} {at : ℕ} (r : EventValues) (list count : ℕ) → at + 24 ≤ length d → Writing d w at (packed (r.logged ∷ r.context ∷ r.principal ∷ r.resource ∷ [])) → Writing w w' (at + 16) (packed (list ∷ count ∷ [])) → Writing d w' at (packed (value_words r list count))
 unfolding value_words
 ending-written {at = at} r list count h f g = words_more (at + 16) (r.logged ∷ r.context ∷ r.principal ∷ r.resource ∷ []) (list ∷ count ∷ []) (omega arith) (omega arith) f g
 

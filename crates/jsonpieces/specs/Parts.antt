@@ -13,7 +13,7 @@ use Rattle.jsonroom.specs.declared.Bodies.{Bodies}
 use Rattle.jsonroom.specs.declared.Next.{Next}
 use Rattle.jsonview.specs.Room.{Ready, Adds, numbers}
 use Rattle.jsonentry.specs.declared.Fields.{Fields}
-use Rattle.jsonpieces.specs.declared.Values.{Values}
+use Rattle.jsonpieces.specs.declared.EventValues.{EventValues}
 use Rattle.jsonpieces.specs.declared.Body.{Body}
 use Rattle.jsonentry.specs.Fields.{FieldsTold}
 use Rattle.jsonentry.specs.Marks.{MarkReady, MarkAdds}
@@ -109,13 +109,13 @@ parties_add e k = both_tables maybe_tables e.principal e.resource k
 unfoldable pub values_add : Event → Next-as_Trace → Tables
 values_add e k = records_add e k ⊕ parties_add e (past k (records_add e k))
 
-pub record ValuesAre (e : Event) (k : Next-as_Trace) (r : Values) : Type 0 where
+pub record ValuesAre (e : Event) (k : Next-as_Trace) (r : EventValues) : Type 0 where
   pub logged : r.logged ≡ fields_word e.logged k
   pub context : r.context ≡ fields_word e.context (past k (fields_tables e.logged k))
   pub principal : r.principal ≡ maybe_word e.principal (past k (records_add e k))
   pub resource : r.resource ≡ maybe_word e.resource (past (past k (records_add e k)) (maybe_tables e.principal (past k (records_add e k))))
 
-pub record AllSmall (r : Values) : Type 0 where
+pub record AllSmall (r : EventValues) : Type 0 where
   pub logged : r.logged ≤ 4294967295
   pub context : r.context ≤ 4294967295
   pub principal : r.principal ≤ 4294967295
@@ -129,7 +129,7 @@ pub record ValuesDue (line : List ℕ) (f : Fields) (names file : List ℕ) (b :
   pub ready : Ready file b n (values_add what (numbers n))
   pub cells : length line ≤ 4 * length names
 
-pub record ValuesWritten (line names names' before after : List ℕ) (b : Bodies) (n next : Next) (r : Values) : Type 0 where
+pub record ValuesWritten (line names names' before after : List ℕ) (b : Bodies) (n next : Next) (r : EventValues) : Type 0 where
   pub long : length names' ≡ length names
   pub small : AllSmall r
   pub numbers-are : (e : Event) (rest : List ℕ) → line_of line ≡ got e rest → numbers next ≡ past (numbers n) (values_add e (numbers n))
@@ -144,7 +144,7 @@ pub record QuadSmall (p q r s : ℕ) : Type 0 where
   pub three : r ≤ 4294967295
   pub four : s ≤ 4294967295
 
-pub record ValuesSmall (r : Values) (lists count : ℕ) : Type 0 where
+pub record ValuesSmall (r : EventValues) (lists count : ℕ) : Type 0 where
   pub four : AllSmall r
   pub list : lists ≤ 4294967295
   pub many : count ≤ 4294967295
@@ -170,15 +170,15 @@ pub record PieceDue (piece : Event → Next-as_Trace → Tables) (line : List �
   pub ready : MarkReady file marks b n (piece what (numbers n))
   pub cells : length line ≤ 4 * length names
 
-pub record FrontIs (e : Event) (k : Next-as_Trace) (spaces : ℕ) (r : Values) : Type 0 where
+pub record FrontIs (e : Event) (k : Next-as_Trace) (spaces : ℕ) (r : EventValues) : Type 0 where
   pub many : spaces ≡ length e.namespace
   pub four : ValuesAre e (past k (names_add e k)) r
 
-pub record FrontSmall (n : Next) (spaces : ℕ) (r : Values) : Type 0 where
+pub record FrontSmall (n : Next) (spaces : ℕ) (r : EventValues) : Type 0 where
   pub names : NamesSmall n spaces
   pub four : AllSmall r
 
-pub record FrontWritten (line names names' before after marks marks' : List ℕ) (b : Bodies) (n next : Next) (spaces : ℕ) (r : Values) : Type 0 where
+pub record FrontWritten (line names names' before after marks marks' : List ℕ) (b : Bodies) (n next : Next) (spaces : ℕ) (r : EventValues) : Type 0 where
   pub long : length names' ≡ length names
   pub small : FrontSmall n spaces r
   pub numbers-are : (e : Event) (rest : List ℕ) → line_of line ≡ got e rest → numbers next ≡ past (numbers n) (front_add e (numbers n))
@@ -213,7 +213,7 @@ pub record BodyWritten (line names names' before after marks marks' : List ℕ) 
 unfoldable pub name_words : ℕ → Next → ℕ → List ℕ
 name_words time n spaces = time % 4294967296 ∷ time / 4294967296 ∷ n.list ∷ spaces ∷ (n.string + spaces) ∷ (n.string + spaces + 1) ∷ []
 
-unfoldable pub value_words : Values → ℕ → ℕ → List ℕ
+unfoldable pub value_words : EventValues → ℕ → ℕ → List ℕ
 value_words r list count = r.logged ∷ r.context ∷ r.principal ∷ r.resource ∷ list ∷ count ∷ []
 
 unfoldable pub point_words : ℕ → Next → Body → List ℕ

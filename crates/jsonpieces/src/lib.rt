@@ -4,7 +4,7 @@
 
 // the words of an event's values
 #[derive(Clone, Copy)]
-pub struct Values {
+pub struct EventValues {
     pub logged: usize,
     pub context: usize,
     pub principal: usize,
@@ -15,7 +15,7 @@ pub struct Values {
 #[derive(Clone, Copy)]
 pub struct Body {
     pub spaces: usize,
-    pub values: Values,
+    pub values: EventValues,
     pub list: usize,
     pub count: usize,
 }

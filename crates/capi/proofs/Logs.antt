@@ -5,10 +5,8 @@ use Prim.Native.Nat.{ℕ, ◌<◌, ◌≤◌}
 use lib.ListN.{length, drop}
 use borrow.Author.Tests.{lt-ltb, le-ltb}
 use Rattle.laws.specs.Tests.{yes, no}
-use Rattle.jsontrace.specs.declared.Imported.{Imported}
-use Rattle.jsontrace.specs.declared.Exported.{Exported}
-use Rattle.jsontrace.specs.Import.{import_number}
-use Rattle.jsontrace.specs.Export.{export_number}
+use Rattle.jsontrace.specs.Import.{Imported, import_number}
+use Rattle.jsontrace.specs.Export.{Exported, export_number}
 use Rattle.jsonwrite.specs.Import.{Imports}
 use Rattle.jsonexport.specs.Call.{Exports}
 use Rattle.telling.specs.Seen.{too_few, seen, import_cells, import_seen_as, import_told_as, import_seen, ImportTells, export_cell, export_told_as, export_seen, ExportTells}

@@ -8,13 +8,9 @@ use Rattle.meaning.specs.declared.Refusal.{Refusal}
 use Rattle.laws.specs.Tests.{yes, no}
 use Rattle.meaning.specs.Calls.{number_of, Call, Said, Result, ask_call, rows_call}
 use Rattle.casecheck.specs.declared.Contents.{Contents}
-use Rattle.casecheck.specs.declared.Checking.TheVariants.{Passes, Refused}
-use Rattle.casecheck.specs.declared.Checking.{Checking}
-use Rattle.calls.specs.declared.SaidAnswer.{SaidAnswer}
 use Rattle.meaning.specs.Carried.{carried_call}
-use Rattle.calls.specs.declared.SaidRows.{SaidRows}
-use Rattle.calls.specs.declared.SaidCarried.{SaidCarried}
-use Rattle.calls.specs.Promises.{Answers, Rowed, Carrying, as_check, as_answer, as_rows, as_carried}
+use Rattle.std.specs.Prelude.{Ok, Err}
+use Rattle.calls.specs.Promises.{Checking, SaidAnswer, SaidRows, SaidCarried, Answers, Rowed, Carrying, as_check, as_answer, as_rows, as_carried}
 use Rattle.calls.specs.Promises.{Checks as CheckSays}
 use Rattle.telling.specs.declared.Telling.{Telling as Told}
 use Rattle.telling.specs.Telling.{cells_of, Telling}
@@ -53,10 +49,10 @@ module _ {s lent : List ℕ} {checking : Checking} (long : 5 ≤ length lent) (s
   unfolding check_seen
   seen_as e = record { is = sym (no _ (le-ltb (length lent) 5 long) (sym (e ∙ ap (λ (x : Said (List ℕ)). record { number = said_number x; contents = contents_after lent x }) said.is))) }
 
-  pub passes : {after : List ℕ} {k : Contents} {r : ℕ} → checking ≡ Passes k → r ≡ 0 → after ≡ (k.vars ∷ k.strings ∷ k.values ∷ k.points ∷ k.nodes ∷ []) ++ drop 5 lent → Checks s lent after r
+  pub passes : {after : List ℕ} {k : Contents} {r : ℕ} → checking ≡ Ok k → r ≡ 0 → after ≡ (k.vars ∷ k.strings ∷ k.values ∷ k.points ∷ k.nodes ∷ []) ++ drop 5 lent → Checks s lent after r
   unfolding as_check said_number contents_after
   passes e q a = seen_as (rw e (cc (q, a)))
 
-  pub refused : {n : Refusal} {r : ℕ} → checking ≡ Refused n → r ≡ number_of n → Checks s lent lent r
+  pub refused : {n : Refusal} {r : ℕ} → checking ≡ Err n → r ≡ number_of n → Checks s lent lent r
   unfolding as_check said_number contents_after
   refused e q = seen_as (rw e (cc q))

@@ -9,7 +9,7 @@ use Rattle.meaning.specs.declared.Refusal.{Refusal}
 use Rattle.laws.specs.Tests.{yes, no}
 use Rattle.encode.specs.Unsorted.{finished}
 use Rattle.encode.specs.Write.{write_refusal}
-use Rattle.casewrite.specs.declared.Written.{Written}
+use Rattle.std.specs.Prelude.{Result}
 use Rattle.casewrite.specs.Written.{written_as, Writes}
 use Rattle.telling.specs.Seen.{too_few, refusal_number, size_cell, write_seen, WriteTells, seen}
 use Rattle.telling.specs.Telling.{written_number, written_cell}
@@ -29,7 +29,7 @@ module _ (s marks room output lent : List ℕ) where
   unfolding write_seen
   unwritten h = record { is = sym (yes _ (lt-ltb (length lent) 1 h)) }
 
-pub write-told : {s marks room room' output output' lent told : List ℕ} {said : Written} {k : ℕ} → 1 ≤ length lent → Writes s marks room room' output output' said → (k ≡ written_number said) × (told ≡ written_cell said ∷ drop 1 lent) → WriteTells s marks room output lent (seen k room' output' told)
+pub write-told : {s marks room room' output output' lent told : List ℕ} {said : Result ℕ Refusal} {k : ℕ} → 1 ≤ length lent → Writes s marks room room' output output' said → (k ≡ written_number said) × (told ≡ written_cell said ∷ drop 1 lent) → WriteTells s marks room output lent (seen k room' output' told)
 unfolding write_seen
 write-told {s} {marks} {room} {output = output} {lent = lent} h says is = record {
   is = sym (no _ (le-ltb (length lent) 1 h) (sym (cc (is.0, is.1, says.is, says.holds, says.gives, number-as (length (finished s marks)) (write_refusal s marks room output), cell_as (length (finished s marks)) (write_refusal s marks room output)))));

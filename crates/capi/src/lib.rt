@@ -15,7 +15,6 @@ ghost use Rattle.telling.specs.Seen.{Checks, Tells, WriteTells, ImportTells, Exp
 ghost use Rattle.capi.specs.Window.{window_number};
 
 use calls::checked;
-use casecheck::Checking;
 use meaning::{ArithOp, Limits, NodeNo, Window};
 use telling::{
     of_answer, of_carried, of_rows, tell, tell_contents, tell_exported, tell_imported, tell_written,
@@ -40,10 +39,9 @@ pub extern "C" fn galivodern_check(file: &[u8], contents: &mut [u64]) -> u64
     if contents.len() < 5 {
         return TOO_FEW;
     }
-    let checking = calls::check(file);
-    match checking {
-        Checking::Passes(found) => tell_contents(found, contents),
-        Checking::Refused(refusal) => refusals::number(refusal),
+    match calls::check(file) {
+        Ok(found) => tell_contents(found, contents),
+        Err(refusal) => refusals::number(refusal),
     }
 }
 

@@ -2,7 +2,7 @@
 ghost use Rattle.std.specs.Prelude.{◌≡◌, length};
 ghost use Rattle.replay.specs.Known.{Known};
 
-use crate::input::{Taken, take, take_word};
+use crate::input::{take, take_word};
 use crate::listed::{Listed, answer_at, binders_at, filled_at, is_known, listed_call, size};
 use crate::said::{Said, said_by};
 use crate::tally::{Tally, another_case, broken, compared, nothing};
@@ -17,19 +17,11 @@ fn is_said(parts: &[u8], c: Listed, said: Said) -> bool
     requires { Known c }
 {
     let at = answer_at(c);
-    if said.refusal != c.refusal {
-        return false;
-    }
-    if said.answer != cell(parts, at) {
-        return false;
-    }
-    if said.steps != cell(parts, at + 2) {
-        return false;
-    }
-    if said.held != cell(parts, at + 4) {
-        return false;
-    }
-    said.sort == cell(parts, at + 6)
+    said.refusal == c.refusal
+        && said.answer == cell(parts, at)
+        && said.steps == cell(parts, at + 2)
+        && said.held == cell(parts, at + 4)
+        && said.sort == cell(parts, at + 6)
 }
 
 // fills the buffers, asks, and compares all with the answer listed
@@ -110,22 +102,19 @@ fn calls<R: Read>(
     before: Tally,
 ) -> io::Result<Tally> {
     let mut t = before;
-    let mut k = 0;
-    while k < n {
+    for _k in 0..n {
         t = call(rt, list, file, t)?;
         if !t.whole {
             return Ok(t);
         }
-        k += 1;
     }
     Ok(t)
 }
 
 fn calls_on<R: Read>(rt: &impl Print, list: &mut R, file: &[u8], t: Tally) -> io::Result<Tally> {
-    let taken = take_word(list)?;
-    match taken {
-        Taken::Word(n) => calls(rt, list, file, n, another_case(t)),
-        Taken::Nothing => Ok(broken(t)),
+    match take_word(list)? {
+        Some(n) => calls(rt, list, file, n, another_case(t)),
+        None => Ok(broken(t)),
     }
 }
 
@@ -151,23 +140,20 @@ fn case_of<R: Read>(rt: &impl Print, list: &mut R, bytes: u32, t: Tally) -> io::
 }
 
 fn case<R: Read>(rt: &impl Print, list: &mut R, t: Tally) -> io::Result<Tally> {
-    let taken = take_word(list)?;
-    match taken {
-        Taken::Word(bytes) => case_of(rt, list, bytes, t),
-        Taken::Nothing => Ok(broken(t)),
+    match take_word(list)? {
+        Some(bytes) => case_of(rt, list, bytes, t),
+        None => Ok(broken(t)),
     }
 }
 
 // the list's next n cases
 pub fn cases<R: Read>(rt: &impl Print, list: &mut R, n: u32) -> io::Result<Tally> {
     let mut t = nothing();
-    let mut k = 0;
-    while k < n {
+    for _k in 0..n {
         t = case(rt, list, t)?;
         if !t.whole {
             return Ok(t);
         }
-        k += 1;
     }
     Ok(t)
 }

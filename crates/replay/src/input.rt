@@ -13,21 +13,16 @@ pub fn take<R: Read>(list: &mut R, buf: &mut [u8], n: usize) -> io::Result<bool>
     Ok(got == n)
 }
 
-#[derive(Clone, Copy)]
-pub enum Taken {
-    Word(u32),
-    Nothing,
-}
-
-pub fn take_word<R: Read>(list: &mut R) -> io::Result<Taken> {
+// the next word, if the list does not end before
+pub fn take_word<R: Read>(list: &mut R) -> io::Result<Option<u32>> {
     let mut bytes = [0u8; 4];
     if take(list, &mut bytes, 4)? {
-        return Ok(Taken::Word(word(&bytes, 0)));
+        return Ok(Some(word(&bytes, 0)));
     }
-    Ok(Taken::Nothing)
+    Ok(None)
 }
 
-// whether the list has three words, and how many cases and calls the first two count
+// whether the list has three words, and how many cases and calls the first two count: no Option, since the report shows what there is of a header cut short
 #[derive(Clone, Copy)]
 pub struct Header {
     pub whole: bool,

@@ -36,11 +36,9 @@ fn kinds(rt: &impl Print, t: Tally) -> io::Result<()> {
 
 fn refusals(rt: &impl Print, t: Tally) -> io::Result<()> {
     text(rt, "refusal compared differ\n")?;
-    let mut r = 0;
-    while r < 14 {
+    for r in 0..14 {
         number(rt, r as u64)?;
         line(rt, t.refusals[r], t.refusals_differ[r])?;
-        r += 1;
     }
     Ok(())
 }
@@ -51,16 +49,7 @@ fn counted(rt: &impl Print, what: &str, n: u64, listed: u32) -> io::Result<()> {
 
 // whether the list could be read to its end, and had what its header counts
 fn is_complete(listed: Header, t: Tally, ended: bool) -> bool {
-    if !listed.whole {
-        return false;
-    }
-    if !t.whole {
-        return false;
-    }
-    if t.calls != listed.calls as u64 {
-        return false;
-    }
-    ended
+    listed.whole && t.whole && t.calls == listed.calls as u64 && ended
 }
 
 pub fn report(rt: &impl Print, listed: Header, t: Tally, ended: bool) -> io::Result<()> {

@@ -1,8 +1,7 @@
 // What a public call says, in the list's terms.
 use crate::listed::Listed;
-use calls::{SaidAnswer, SaidRows};
-use casecheck::Checking;
-use meaning::{Limits, NodeNo, Refusal};
+use calls::{Answer, Refused, Spent};
+use meaning::{Limits, NodeNo};
 
 // a refusal's number or 0, the answer's 64 bits, steps spent, greatest number of rows held, and 1 where the answer is a number
 #[derive(Clone, Copy)]
@@ -14,57 +13,47 @@ pub struct Said {
     pub sort: u64,
 }
 
-fn gives(answer: u64, steps: u64, held: usize) -> Said {
+fn gives(answer: u64, sort: u64, spent: Spent) -> Said {
     Said {
         refusal: 0,
         answer,
-        steps,
-        held: held as u64,
-        sort: 0,
+        steps: spent.steps,
+        held: spent.most as u64,
+        sort,
     }
 }
 
-fn refuses(refusal: Refusal, steps: u64, held: usize) -> Said {
+fn refuses(refused: Refused) -> Said {
     Said {
-        refusal: refusals::number(refusal) as usize,
+        refusal: refusals::number(refused.refusal) as usize,
         answer: 0,
-        steps,
-        held: held as u64,
+        steps: refused.spent.steps,
+        held: refused.spent.most as u64,
         sort: 0,
     }
 }
 
+// a check takes no steps
 fn by_check(file: &[u8]) -> Said {
-    let checking = calls::check(file);
-    match checking {
-        Checking::Passes(_) => gives(0, 0, 0),
-        Checking::Refused(r) => refuses(r, 0, 0),
+    let spent = Spent { steps: 0, most: 0 };
+    match calls::check(file) {
+        Ok(_) => gives(0, 0, spent),
+        Err(refusal) => refuses(Refused { refusal, spent }),
     }
 }
 
-fn of_answer(said: SaidAnswer) -> Said {
+fn of_answer(said: calls::Said<Answer>) -> Said {
     match said {
-        SaidAnswer::Verdict(yes, steps, held) => {
-            if yes {
-                return gives(1, steps, held);
-            }
-            gives(0, steps, held)
-        }
-        SaidAnswer::Number(bits, steps, held) => Said {
-            refusal: 0,
-            answer: bits,
-            steps,
-            held: held as u64,
-            sort: 1,
-        },
-        SaidAnswer::Refuses(r, steps, held) => refuses(r, steps, held),
+        Ok((Answer::Verdict(yes), spent)) => gives(u64::from(yes), 0, spent),
+        Ok((Answer::Number(bits), spent)) => gives(bits, 1, spent),
+        Err(refused) => refuses(refused),
     }
 }
 
-fn of_rows(said: SaidRows) -> Said {
+fn of_rows(said: calls::Said<usize>) -> Said {
     match said {
-        SaidRows::Gives(n, steps, held) => gives(n as u64, steps, held),
-        SaidRows::Refuses(r, steps, held) => refuses(r, steps, held),
+        Ok((n, spent)) => gives(n as u64, 0, spent),
+        Err(refused) => refuses(refused),
     }
 }
 

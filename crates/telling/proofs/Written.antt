@@ -6,15 +6,14 @@ use native.Mathlib.Omega.{arith}
 use lib.ListN.{length, drop, set}
 use Rattle.meaning.specs.declared.Refusal.{Refusal}
 use Rattle.meaning.specs.Calls.{number_of}
-use Rattle.casewrite.specs.declared.Written.{Written}
-use Rattle.casewrite.specs.declared.Written.TheVariants.{Wrote, Refused}
+use Rattle.std.specs.Prelude.{Result, Ok, Err}
 use Rattle.telling.specs.Telling.{written_number, written_cell}
 
 pub first : (a : ℕ) (s : List ℕ) → 1 ≤ length s → set s 0 a ≡ a ∷ drop 1 s
 first a [] h = absurd (omega (arith, h))
 first a (x ∷ s) h = refl
 
-module _ {said : Written} {size : ℕ} (e : said ≡ Wrote size) where
+module _ {said : Result ℕ Refusal} {size : ℕ} (e : said ≡ Ok size) where
   pub number-wrote : 0 ≡ written_number said
   unfolding written_number
   number-wrote = rw e refl
@@ -23,7 +22,7 @@ module _ {said : Written} {size : ℕ} (e : said ≡ Wrote size) where
   unfolding written_cell
   cell-wrote lent long = rw e (first size lent long)
 
-module _ {said : Written} {refusal : Refusal} (e : said ≡ Refused refusal) where
+module _ {said : Result ℕ Refusal} {refusal : Refusal} (e : said ≡ Err refusal) where
   pub number-refused : {n : ℕ} → n ≡ number_of refusal → n ≡ written_number said
   unfolding written_number
   number-refused q = rw e q

@@ -1,5 +1,5 @@
 -- What a caller in C sees of each call: the number returned, and every cell that it lent
-use Rattle.std.specs.Prelude.{◌≡◌, Bool, cond, List, [], ◌∷◌, ◌++◌, ℕ, ltb, length, drop}
+use Rattle.std.specs.Prelude.{◌≡◌, Bool, cond, List, [], ◌∷◌, ◌++◌, ℕ, ltb, length, drop, Ok, Err}
 use Rattle.std.proofs.Math.Option.{Option, none, some}
 use Rattle.meaning.specs.Tests.{choose}
 use Rattle.meaning.specs.Calls.{number_of, check_call, Said, gives, refuses, Result, Answer, verdict, number}
@@ -7,12 +7,9 @@ use Rattle.meaning.specs.Carried.{Carried}
 use Rattle.meaning.specs.declared.Refusal.{Refusal}
 use Rattle.encode.specs.Unsorted.{finished}
 use Rattle.encode.specs.Write.{make_refusal, room_after, write_refusal, output_after}
-use Rattle.jsontrace.specs.declared.Imported.{Imported}
-use Rattle.jsontrace.specs.declared.Imported.TheVariants.{Faulty, Written as Imports, Refused as ImportRefused}
-use Rattle.jsontrace.specs.declared.Exported.{Exported}
-use Rattle.jsontrace.specs.declared.Exported.TheVariants.{Ambiguous, Written as Exports, Refused as ExportRefused}
-use Rattle.jsontrace.specs.Import.{import_number, ImportResult, import_call}
-use Rattle.jsontrace.specs.Export.{export_number, ExportResult, export_call}
+use Rattle.jsontrace.specs.declared.ImportError.TheVariants.{Faulty, Refused}
+use Rattle.jsontrace.specs.Import.{Imported, import_number, ImportResult, import_call}
+use Rattle.jsontrace.specs.Export.{Exported, export_number, ExportResult, export_call}
 
 -- the layer's own complaint, which no document's refusal has: the cells for the answer are too few, and nothing was done
 abbrev pub too_few : ℕ
@@ -122,9 +119,9 @@ pub record WriteTells (s marks room output lent : List ℕ) (after : Seen) : Typ
 
 -- bytes of the trace and of its marks; the place of a fault, and of the first of two equal names: 0 elsewhere
 unfoldable pub import_cells : Imported → List ℕ
-import_cells (Imports bytes marks) = bytes ∷ marks ∷ 0 ∷ 0 ∷ []
-import_cells (Faulty w at first) = 0 ∷ 0 ∷ at ∷ first ∷ []
-import_cells (ImportRefused r) = 0 ∷ 0 ∷ 0 ∷ 0 ∷ []
+import_cells (Ok sizes) = sizes.0 ∷ sizes.1 ∷ 0 ∷ 0 ∷ []
+import_cells (Err (Faulty bad)) = 0 ∷ 0 ∷ bad.at ∷ bad.first ∷ []
+import_cells (Err (Refused r)) = 0 ∷ 0 ∷ 0 ∷ 0 ∷ []
 
 pub record ImportSeen : Type 0 where
   pub number : ℕ
@@ -150,9 +147,8 @@ pub record ImportTells (text work trace marks lent : List ℕ) (after : ImportSe
 -- ---- the export: the number returned, the output, and one cell with the bytes written
 
 unfoldable pub export_cell : Exported → ℕ
-export_cell (Exports bytes) = bytes
-export_cell Ambiguous = 0
-export_cell (ExportRefused r) = 0
+export_cell (Ok bytes) = bytes
+export_cell (Err e) = 0
 
 unfoldable pub export_told_as : ExportResult → List ℕ → Seen
 export_told_as r lent = seen (export_number r.said) [] r.output (export_cell r.said ∷ drop 1 lent)

@@ -1,8 +1,7 @@
 -- What is told of a call before it is written: the number to return, and four cells
-use Rattle.std.specs.Prelude.{◌≡◌, List, [], ◌∷◌, ℕ}
+use Rattle.std.specs.Prelude.{◌≡◌, List, [], ◌∷◌, ℕ, Result, Ok, Err}
 use Rattle.meaning.specs.Calls.{Said, number_of}
-use Rattle.casewrite.specs.declared.Written.{Written}
-use Rattle.casewrite.specs.declared.Written.TheVariants.{Wrote, Refused}
+use Rattle.meaning.specs.declared.Refusal.{Refusal}
 use Rattle.telling.specs.declared.Telling.{Telling as Told}
 use Rattle.telling.specs.Seen.{said_number, told_cells}
 
@@ -20,11 +19,11 @@ pub record Telling {A : Type 0} (cell fourth : A → ℕ) (said : Said A) (t : T
 -- ---- the writer
 
 -- 0 where bytes were written, or the refusal's number
-unfoldable pub written_number : Written → ℕ
-written_number (Wrote size) = 0
-written_number (Refused r) = number_of r
+unfoldable pub written_number : Result ℕ Refusal → ℕ
+written_number (Ok size) = 0
+written_number (Err r) = number_of r
 
 -- how many bytes were written
-unfoldable pub written_cell : Written → ℕ
-written_cell (Wrote size) = size
-written_cell (Refused r) = 0
+unfoldable pub written_cell : Result ℕ Refusal → ℕ
+written_cell (Ok size) = size
+written_cell (Err r) = 0

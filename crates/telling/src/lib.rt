@@ -10,11 +10,11 @@ ghost use Rattle.jsontrace.specs.Export.{export_number};
 ghost use Rattle.telling.specs.Seen.{yes_cell, answer_cell, sort_cell, count_cell, no_cell, carried_cell, filled_cell, import_cells, export_cell};
 ghost use Rattle.telling.specs.Telling.{cells_of, refusing, Telling as TellingOf, written_number, written_cell};
 
-use calls::{SaidAnswer, SaidCarried, SaidRows};
+use calls::{Answer, Refused, Said, Spent};
+use carried::Carried;
 use casecheck::Contents;
-use casewrite::Written;
 use jsontext::Fault;
-use jsontrace::{Exported, Imported};
+use jsontrace::{ExportError, ImportError};
 use meaning::Refusal;
 
 // the number to return, and the four cells
@@ -57,14 +57,14 @@ pub fn tell(t: Telling, lent: &mut [u64]) -> u64
     t.number
 }
 
-fn refuse(refusal: Refusal, steps: u64, most: usize) -> Telling
-    ensures { result ≡ refusing (number_of refusal) steps most }
+fn refuse(refused: Refused) -> Telling
+    ensures { result ≡ refusing (number_of refused.refusal) refused.spent.steps refused.spent.most }
 {
     Telling {
-        number: refusals::number(refusal),
+        number: refusals::number(refused.refusal),
         answer: 0,
-        steps,
-        most,
+        steps: refused.spent.steps,
+        most: refused.spent.most,
         fourth: 0,
     }
 }
@@ -75,75 +75,73 @@ fn yes_cell(yes: bool) -> u64
     if yes { 1 } else { 0 }
 }
 
-pub fn of_answer(said: SaidAnswer) -> Telling
+fn answered(answer: u64, spent: Spent, fourth: u64) -> Telling
+    ensures { result ≡ record { number = 0; answer = answer; steps = spent.steps; most = spent.most; fourth = fourth } }
+{
+    Telling {
+        number: 0,
+        answer,
+        steps: spent.steps,
+        most: spent.most,
+        fourth,
+    }
+}
+
+fn of_given(answer: Answer, spent: Spent) -> Telling
+    ensures { TellingOf answer_cell sort_cell (as_answer (Ok (answer, spent))) result }
+{
+    match answer {
+        Answer::Verdict(yes) => answered(yes_cell(yes), spent, 0),
+        Answer::Number(bits) => answered(bits, spent, 1),
+    }
+}
+
+pub fn of_answer(said: Said<Answer>) -> Telling
     ensures { TellingOf answer_cell sort_cell (as_answer said) result }
 {
     match said {
-        SaidAnswer::Verdict(yes, steps, most) => Telling {
-            number: 0,
-            answer: yes_cell(yes),
-            steps,
-            most,
-            fourth: 0,
-        },
-        SaidAnswer::Number(bits, steps, most) => Telling {
-            number: 0,
-            answer: bits,
-            steps,
-            most,
-            fourth: 1,
-        },
-        SaidAnswer::Refuses(refusal, steps, most) => refuse(refusal, steps, most),
+        Ok((answer, spent)) => of_given(answer, spent),
+        Err(refused) => refuse(refused),
     }
 }
 
-pub fn of_rows(said: SaidRows) -> Telling
+pub fn of_rows(said: Said<usize>) -> Telling
     ensures { TellingOf count_cell no_cell (as_rows said) result }
 {
     match said {
-        SaidRows::Gives(count, steps, most) => Telling {
-            number: 0,
-            answer: count as u64,
-            steps,
-            most,
-            fourth: 0,
-        },
-        SaidRows::Refuses(refusal, steps, most) => refuse(refusal, steps, most),
+        Ok((count, spent)) => answered(count as u64, spent, 0),
+        Err(refused) => refuse(refused),
     }
 }
 
-pub fn of_carried(said: SaidCarried) -> Telling
+pub fn of_carried(said: Said<Carried>) -> Telling
     ensures { TellingOf carried_cell filled_cell (as_carried said) result }
 {
     match said {
-        SaidCarried::Gives(yes, filled, steps, most) => Telling {
-            number: 0,
-            answer: yes_cell(yes),
-            steps,
-            most,
-            fourth: filled as u64,
-        },
-        SaidCarried::Refuses(refusal, steps, most) => refuse(refusal, steps, most),
+        Ok((carried, spent)) => {
+            answered(yes_cell(carried.verdict), spent, carried.filled as u64)
+        }
+        Err(refused) => refuse(refused),
     }
 }
 
-pub fn tell_written(said: Written, lent: &mut [u64]) -> u64
+pub fn tell_written(said: Result<usize, Refusal>, lent: &mut [u64]) -> u64
     requires { 1 ≤ length lent.old }
     ensures { (result ≡ written_number said) × (lent.new ≡ written_cell said ∷ drop 1 lent.old) }
 {
     match said {
-        Written::Wrote(size) => {
+        Ok(size) => {
             lent[0] = size as u64;
             0
         }
-        Written::Refused(refusal) => {
+        Err(refusal) => {
             lent[0] = 0;
             refusals::number(refusal)
         }
     }
 }
 
-// what is wrong with a JSON text, from 20 to 24
+// what is wrong with a JSON text, from 20 to 24; no From, since both Fault and u64 are of other crates
 fn fault_number(fault: Fault) -> u64
     ensures { result ≡ fault_number fault }
 {
@@ -156,42 +154,57 @@ fn fault_number(fault: Fault) -> u64
     }
 }
 
-pub fn tell_imported(said: Imported, lent: &mut [u64]) -> u64
+fn tell_no_import(error: ImportError, lent: &mut [u64]) -> u64
     requires { 4 ≤ length lent.old }
-    ensures { (result ≡ import_number said) × (lent.new ≡ import_cells said ++ drop 4 lent.old) }
+    ensures { (result ≡ import_number (Err error)) × (lent.new ≡ import_cells (Err error) ++ drop 4 lent.old) }
 {
-    match said {
-        Imported::Written(bytes, marks) => {
-            fill(lent, bytes as u64, marks as u64, 0, 0);
-            0
+    match error {
+        ImportError::Faulty(bad) => {
+            fill(lent, 0, 0, bad.at as u64, bad.first as u64);
+            fault_number(bad.fault)
         }
-        Imported::Faulty(fault, at, first) => {
-            fill(lent, 0, 0, at as u64, first as u64);
-            fault_number(fault)
-        }
-        Imported::Refused(refusal) => {
+        ImportError::Refused(refusal) => {
             fill(lent, 0, 0, 0, 0);
             refusals::number(refusal)
         }
     }
 }
 
-pub fn tell_exported(said: Exported, lent: &mut [u64]) -> u64
+pub fn tell_imported(said: Result<(usize, usize), ImportError>, lent: &mut [u64]) -> u64
+    requires { 4 ≤ length lent.old }
+    ensures { (result ≡ import_number said) × (lent.new ≡ import_cells said ++ drop 4 lent.old) }
+{
+    match said {
+        Ok((bytes, marks)) => {
+            fill(lent, bytes as u64, marks as u64, 0, 0);
+            0
+        }
+        Err(error) => tell_no_import(error, lent),
+    }
+}
+
+// 25 for an object that would be read as one of Cedar's forms
+fn export_number(error: ExportError) -> u64
+    ensures { result ≡ export_number (Err error) }
+{
+    match error {
+        ExportError::Ambiguous => 25,
+        ExportError::Refused(refusal) => refusals::number(refusal),
+    }
+}
+
+pub fn tell_exported(said: Result<usize, ExportError>, lent: &mut [u64]) -> u64
     requires { 1 ≤ length lent.old }
     ensures { (result ≡ export_number said) × (lent.new ≡ export_cell said ∷ drop 1 lent.old) }
 {
     match said {
-        Exported::Written(bytes) => {
+        Ok(bytes) => {
             lent[0] = bytes as u64;
             0
         }
-        Exported::Ambiguous => {
+        Err(error) => {
             lent[0] = 0;
-            25
-        }
-        Exported::Refused(refusal) => {
-            lent[0] = 0;
-            refusals::number(refusal)
+            export_number(error)
         }
     }
 }

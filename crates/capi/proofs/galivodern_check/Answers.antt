@@ -5,8 +5,8 @@ use Rattle.capi.proofs.galivodern_check.Goals as goal
 pub returns-then-contents-lt5 : goal.returns-then-contents-lt5
 returns-then-contents-lt5 c = search (unchecked, rules)
 
-pub returns-in-Passes : goal.returns-in-Passes
-returns-in-Passes c = search (passes, rules)
+pub returns-in-Ok : goal.returns-in-Ok
+returns-in-Ok c = search (passes, rules)
 
-pub returns-in-Refused : goal.returns-in-Refused
-returns-in-Refused c = search (refused, rules)
+pub returns-in-Err : goal.returns-in-Err
+returns-in-Err c = search (refused, rules)

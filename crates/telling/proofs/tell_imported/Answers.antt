@@ -1,12 +1,9 @@
 use Rattle.std.proofs.Common.{rules}
-use Rattle.telling.proofs.Logs.{number-imported, cells-imported, number-faulty, cells-faulty, number-no_import, cells-no_import}
+use Rattle.telling.proofs.Logs.{number-imported, cells-imported, number-import_error, cells-import_error}
 use Rattle.telling.proofs.tell_imported.Goals as goal
 
-pub returns-in-Written : goal.returns-in-Written
-returns-in-Written c = search (number-imported, cells-imported, rules)
+pub returns-in-Ok : goal.returns-in-Ok
+returns-in-Ok c = search (number-imported, cells-imported, rules)
 
-pub returns-in-Faulty : goal.returns-in-Faulty
-returns-in-Faulty c = search (number-faulty, cells-faulty, rules)
-
-pub returns-in-Refused : goal.returns-in-Refused
-returns-in-Refused c = search (number-no_import, cells-no_import, rules)
+pub returns-in-Err : goal.returns-in-Err
+returns-in-Err c = search (number-import_error, cells-import_error, rules)

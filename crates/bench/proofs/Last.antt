@@ -1,5 +1,5 @@
--- Which kinds of nodes are answered, and how far a number is from 0
-use mathlib.Core.Path.{◌≡◌, refl}
+-- Which kinds of nodes are answered
+use mathlib.Core.Path.{◌≡◌, refl, ◌∙◌}
 use mathlib.Core.Bool.{Bool, true, false}
 use mathlib.Core.List.{List}
 use Prim.Native.Nat.{ℕ, ◌+◌, ◌-◌, ◌≤◌, ◌<◌}
@@ -11,22 +11,12 @@ use Rattle.meaning.specs.Tests.{◌or◌, within}
 use Rattle.meaning.specs.Case.{node_at, node_word}
 use Rattle.meaning.specs.Calls.{is_condition, is_aggregate, answerable}
 use Rattle.laws.specs.Sorts.{condition-kinds, aggregate-kinds}
-use Rattle.bench.specs.Size.{size_of}
 
 module _ (s : List ℕ) (n : ℕ) {r : Bool} {kind : ℕ} (is : kind ≡ node_word s n 0) (e : r ≡ within 1 10 kind) where
-  pub condition-last : r ≡ true → true ≡ answerable (node_at s n)
+  pub condition-last : r ≡ true → r ≡ answerable (node_at s n)
   unfolding answerable is_condition ◌or◌
-  condition-last is_one = rw (← condition-kinds s n, ← is, ← e, is_one) refl
+  condition-last is_one = is_one ∙ rw (← condition-kinds s n, ← is, ← e, is_one) refl
 
   pub aggregate-last : {r' : Bool} → r ≡ false → r' ≡ within 30 31 kind → r' ≡ answerable (node_at s n)
   unfolding answerable is_condition is_aggregate ◌or◌
   aggregate-last is_none e' = rw (← condition-kinds s n, ← aggregate-kinds s n, ← is, ← e, is_none) e'
-
-module _ (bits : ℕ) where
-  pub size-up : bits < 9223372036854775808 → bits ≡ size_of (to_z w64 bits)
-  unfolding size_of
-  size-up h = rw (lt-ltb bits 9223372036854775808 h) refl
-
-  pub size-down : 9223372036854775808 ≤ bits → Fits w64 bits → 18446744073709551615 - bits + 1 ≡ size_of (to_z w64 bits)
-  unfolding size_of
-  size-down h top = rw (le-ltb bits 9223372036854775808 h) (omega (arith, top.fits))

@@ -1,3 +1,2 @@
 pub mod Last
 pub mod Plans
-pub mod Buffer

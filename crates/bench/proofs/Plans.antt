@@ -17,20 +17,16 @@ use Rattle.laws.specs.Checked.{vars-most}
 use Rattle.meaning.specs.Case.{nodes, vars, node_at}
 use Rattle.meaning.specs.Check.{check, Checked}
 use Rattle.meaning.specs.Calls.{answerable, ask_call}
-use Rattle.calls.specs.declared.SaidAnswer.{SaidAnswer}
-use Rattle.calls.specs.Promises.{call_of, Answers, Checks}
+use Rattle.std.specs.Prelude.{Ok, Err}
+use Rattle.calls.specs.Promises.{Checking, SaidAnswer, call_of, Answers, Checks}
 use Rattle.calls.specs.Theorems.{check-as}
-use Rattle.casecheck.specs.declared.Checking.{Checking}
 use Rattle.casecheck.specs.declared.Contents.{Contents}
-use Rattle.casecheck.specs.declared.Checking.TheVariants.{Passes, Refused}
 use Rattle.casecheck.specs.Answer.{contents_of, answer, as_checking, passed}
 use Rattle.bench.specs.declared.plan.Asking.{Asking}
-use Rattle.bench.specs.declared.plan.Plan.{Plan}
-use Rattle.bench.specs.declared.plan.Plan.TheVariants.{Ask, Refuse}
-use Rattle.bench.specs.Table.{asking_of, plan_checked, plan_after, plan_of, question_at}
+use Rattle.bench.specs.Table.{Plan, asking_of, plan_checked, plan_after, plan_of, question_at}
 
 module _ (s : List ℕ) (k : Contents) (same : k ≡ contents_of s) where
-  pub no_last : k.nodes ≡ 0 → Refuse NoSuchNode ≡ plan_checked s
+  pub no_last : k.nodes ≡ 0 → Err NoSuchNode ≡ plan_checked s
   unfolding plan_checked
   no_last h = sym (yes _ (eq-eqb (nodes s) 0 (sym (ap (λ (k : Contents). k.nodes) same) ∙ h)))
 
@@ -40,16 +36,16 @@ module _ (s : List ℕ) (k : Contents) (same : k ≡ contents_of s) where
   some-node : (k.nodes ≡ 0 → ⊥) → eqb (nodes s) 0 ≡ false
   some-node h = ne_eqb (nodes s) 0 (λ q. h (ap (λ (k : Contents). k.nodes) same ∙ q))
 
-  pub wrong-last : (r : Bool) → (k.nodes ≡ 0 → ⊥) → r ≡ answerable (node_at s (k.nodes - 1)) → not r ≡ true → Refuse NoSuchNode ≡ plan_checked s
+  pub wrong-last : (r : Bool) → (k.nodes ≡ 0 → ⊥) → r ≡ answerable (node_at s (k.nodes - 1)) → not r ≡ true → Err NoSuchNode ≡ plan_checked s
   unfolding plan_checked
   wrong-last r h e q = sym (no _ (some-node h) (no _ (kept e (not-true r q)) refl))
 
-  pub right-last : (r : Bool) → (k.nodes ≡ 0 → ⊥) → r ≡ answerable (node_at s (k.nodes - 1)) → not r ≡ false → Ask (record { node = record { 0 = k.nodes - 1 }; points = k.points; vars = k.vars }) ≡ plan_checked s
+  pub right-last : (r : Bool) → (k.nodes ≡ 0 → ⊥) → r ≡ answerable (node_at s (k.nodes - 1)) → not r ≡ false → Ok (record { node = record { 0 = k.nodes - 1 }; points = k.points; vars = k.vars }) ≡ plan_checked s
   unfolding plan_checked
-  right-last r h e q = sym (no _ (some-node h) (yes _ (kept e (not-false r q)) ∙ ap (λ (k : Contents). Ask (record { node = record { 0 = k.nodes - 1 }; points = k.points; vars = k.vars })) (sym same)))
+  right-last r h e q = sym (no _ (some-node h) (yes _ (kept e (not-false r q)) ∙ ap (λ (k : Contents). Ok (record { node = record { 0 = k.nodes - 1 }; points = k.points; vars = k.vars })) (sym same)))
 
 module _ (s : List ℕ) where
-  pub too_long : 65536 < length s → Refuse TooLarge ≡ plan_of s
+  pub too_long : 65536 < length s → Err TooLarge ≡ plan_of s
   unfolding plan_of
   too_long h = sym (yes _ (lt-ltb 65536 (length s) h))
 
@@ -58,20 +54,20 @@ module _ (s : List ℕ) where
   after_check h e = e ∙ sym (no _ (le-ltb 65536 (length s) h) refl)
 
   -- the check's answer and the plan go by the same refusal
-  refused-by : (r : Refusal) (o : Option Refusal) → Refused r ≡ answer o (contents_of s) → Refuse r ≡ plan_after o s
+  refused-by : (r : Refusal) (o : Option Refusal) → Err r ≡ answer o (contents_of s) → Err r ≡ plan_after o s
   unfolding answer plan_after
   refused-by r none e = let z : ◌≡◌ {A = ℕ} 0 1 = cc in absurd (omega arith)
-  refused-by r (some n) e = ap Refuse cc
+  refused-by r (some n) e = cc
 
-  unchecked-as : (r : Refusal) → length s ≤ 65536 → Refused r ≡ as_checking s → Refuse r ≡ plan_of s
+  unchecked-as : (r : Refusal) → length s ≤ 65536 → Err r ≡ as_checking s → Err r ≡ plan_of s
   unchecked-as r h e = after_check h (refused-by r (check s) (unfold as_checking in e))
 
   -- what the check said
   module _ {u : Checking} (g : Checks s u) where
-    pub unchecked : {r : Refusal} → u ≡ Refused r → length s ≤ 65536 → Refuse r ≡ plan_of s
+    pub unchecked : {r : Refusal} → u ≡ Err r → length s ≤ 65536 → Err r ≡ plan_of s
     unchecked {r} q h = unchecked-as r h (sym q ∙ check-as g)
 
-    module _ {k : Contents} (q : u ≡ Passes k) where
+    module _ {k : Contents} (q : u ≡ Ok k) where
       pub passes : Checked s
       passes = (passed s k (sym q ∙ check-as g)).0
 
@@ -84,25 +80,22 @@ module _ (s : List ℕ) where
 
   -- what is asked is asked of a checked case
   module _ (a : Asking) where
-    not-refused : (r : Refusal) → Ask a ≡ Refuse r → ⊥
-    not-refused r e = let z : ◌≡◌ {A = ℕ} 0 1 = cc in omega arith
-
-    asked-last : (b d : Bool) → Ask a ≡ choose b (Refuse NoSuchNode) (choose d (Ask (asking_of s)) (Refuse NoSuchNode)) → a ≡ asking_of s
+    asked-last : (b d : Bool) → Ok a ≡ choose b (Err NoSuchNode) (choose d (Ok (asking_of s)) (Err NoSuchNode)) → a ≡ asking_of s
     unfolding choose
-    asked-last true d e = absurd (not-refused _ e)
+    asked-last true d e = cc
     asked-last false true e = cc
-    asked-last false false e = absurd (not-refused _ e)
+    asked-last false false e = cc
 
-    asked_by : (b : Bool) (o : Option Refusal) → check s ≡ o → Ask a ≡ choose b (Refuse TooLarge) (plan_after o s) → Checked s × (a ≡ asking_of s)
+    asked_by : (b : Bool) (o : Option Refusal) → check s ≡ o → Ok a ≡ choose b (Err TooLarge) (plan_after o s) → Checked s × (a ≡ asking_of s)
     unfolding choose plan_after plan_checked
-    asked_by true o q e = absurd (not-refused _ e)
-    asked_by false (some r) q e = absurd (not-refused _ e)
+    asked_by true o q e = cc
+    asked_by false (some r) q e = cc
     asked_by false none q e = (record { passes = q }, asked-last (eqb (nodes s) 0) (answerable (node_at s (nodes s - 1))) e)
 
-    asked-as : Ask a ≡ plan_of s → Checked s × (a ≡ asking_of s)
+    asked-as : Ok a ≡ plan_of s → Checked s × (a ≡ asking_of s)
     asked-as e = asked_by (ltb 65536 (length s)) (check s) refl (unfold plan_of in e)
 
-    module _ {p : Plan} (h : p ≡ plan_of s) (q : p ≡ Ask a) where
+    module _ {p : Plan} (h : p ≡ plan_of s) (q : p ≡ Ok a) where
       pub asked-checked : Checked s
       asked-checked = (asked-as (sym q ∙ h)).0
 

@@ -4,13 +4,14 @@ ghost use Rattle.meaning.specs.Check.{Checked};
 ghost use Rattle.calls.specs.Promises.{Answers};
 ghost use Rattle.bench.specs.Table.{asking_of, question_at};
 
-use crate::plan::{Asking, Plan, plan_of};
+use crate::plan::{Asking, plan_of};
 use crate::print;
+use calls::{Answer, Said};
 use meaning::Limits;
 use std::io;
 
 // the last node at a point, all variables unbound
-fn at_point(case: &[u8], asking: Asking, point: usize, work: &mut [u64]) -> calls::SaidAnswer
+fn at_point(case: &[u8], asking: Asking, point: usize, work: &mut [u64]) -> Said<Answer>
     requires checked { Checked case.now }
     requires asking_value { asking ≡ asking_of case.now }
     ensures { Answers (question_at case.now point work.old) work.new result }
@@ -30,21 +31,18 @@ fn at_points(rt: &impl Print, case: &[u8], asking: Asking) -> io::Result<()>
     requires asking_value { asking ≡ asking_of case.now }
 {
     let mut work = [0u64; 8192];
-    let mut point = 0;
-    while point < asking.points {
+    for point in 0..asking.points {
         let said = at_point(case, asking, point, &mut work);
         print::line(rt, point, said)?;
-        point += 1;
     }
     Ok(())
 }
 
 // the table, or why there is none
 pub fn print_table(rt: &impl Print, case: &[u8]) -> io::Result<()> {
-    let planned = plan_of(case);
-    match planned {
-        Plan::Refuse(refusal) => print::refused(rt, refusal),
-        Plan::Ask(asking) => {
+    match plan_of(case) {
+        Err(refusal) => print::refused(rt, refusal),
+        Ok(asking) => {
             print::heading(rt)?;
             at_points(rt, case, asking)
         }

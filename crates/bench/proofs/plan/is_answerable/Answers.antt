@@ -6,8 +6,8 @@ use Rattle.bench.proofs.plan.is_answerable.Goals as goal
 pub node_word-kind-requires : goal.node_word-kind-requires
 node_word-kind-requires c = search (checked-bodies, rules)
 
-pub returns-then-both : goal.returns-then-both
-returns-then-both c = search (condition-last, rules)
+pub returns-then-is_within : goal.returns-then-is_within
+returns-then-is_within c = search (condition-last, rules)
 
-pub returns : goal.returns
-returns c = search (aggregate-last, rules)
+pub returns-else-is_within : goal.returns-else-is_within
+returns-else-is_within c = search (aggregate-last, rules)

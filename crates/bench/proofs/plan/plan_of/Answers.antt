@@ -8,8 +8,8 @@ returns-then-case-gt65536 c = search (too_long, rules)
 pub plan_checked-requires : goal.plan_checked-requires
 plan_checked-requires c = search (passes, contents, rules)
 
-pub returns-in-Refused : goal.returns-in-Refused
-returns-in-Refused c = search (unchecked, rules)
+pub returns-in-Err : goal.returns-in-Err
+returns-in-Err c = search (unchecked, rules)
 
-pub returns-in-Passes : goal.returns-in-Passes
-returns-in-Passes c = search (checked, rules)
+pub returns-in-Ok : goal.returns-in-Ok
+returns-in-Ok c = search (checked, rules)

@@ -7,8 +7,8 @@ use Rattle.jsonwrite.proofs.import.write_good.Goals as goal
 pub bodies_of-b-requires : goal.bodies_of-b-requires
 bodies_of-b-requires c = search (few, rules)
 
-pub returns-then-total-gt4294967295 : goal.returns-then-total-gt4294967295
-returns-then-total-gt4294967295 c = search (good-large, rules)
+pub returns-then-total-gt-LONGEST : goal.returns-then-total-gt-LONGEST
+returns-then-total-gt-LONGEST c = search (good-large, rules)
 
 pub returns-then-file-total : goal.returns-then-file-total
 returns-then-file-total c = search (good-short, rules)

@@ -2,11 +2,7 @@
 use mathlib.Core.Path.{◌≡◌, refl, ◌∙◌}
 use mathlib.Core.Bool.{Bool, true, false}
 use mathlib.Core.List.{List}
-use Prim.Native.Nat.{ℕ, ◌+◌, ◌-◌, ◌≤◌, ◌<◌}
-use native.Mathlib.Omega.{arith}
-use borrow.Author.Tests.{lt-ltb, le-ltb}
-use mir.Val.{to_z, Fits}
-use mir.Syntax.{w64}
+use Prim.Native.Nat.{ℕ}
 use Rattle.meaning.specs.Tests.{◌or◌, within}
 use Rattle.meaning.specs.Case.{node_at, node_word}
 use Rattle.meaning.specs.Calls.{is_condition, is_aggregate, answerable}

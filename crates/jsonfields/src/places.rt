@@ -24,11 +24,7 @@ pub struct Entry {
 fn first_place(old: usize, new: usize) -> usize
     ensures { result ≡ first_place old new }
 {
-    if old == 0 {
-        new
-    } else {
-        old
-    }
+    if old == 0 { new } else { old }
 }
 
 // the places of the nine fields, each under its name

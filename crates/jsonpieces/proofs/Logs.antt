@@ -91,7 +91,6 @@ whole_is : (es : List Event) → tables_of es ≡ all_add es (numbers unwritten)
 unfolding tables_of
 whole_is es = ap (λ (k : Next-as_Trace). all_add es k) (sym first-numbers)
 
-
 module _ {text names file marks : List ℕ} {b : Bodies} (d : LogDue text names file marks b) where
   starts : Logging text names names file file marks marks b unwritten 0
   starts = record {

@@ -48,10 +48,17 @@ pub fn seconds(within: Interval) -> u64
 pub fn window(span: u64, from: u64, to: u64) -> Window
     ensures { result ≡ windowed (to_z w64 span) (to_z w64 from) (to_z w64 to) }
 {
-    let past = from.cast_signed().saturating_sub(to.cast_signed());
-    if past < 0 {
-        Window::Later
-    } else if past <= span.cast_signed() {
+    let later = from.cast_signed();
+    let earlier = to.cast_signed();
+    if later < earlier {
+        return Window::Later;
+    }
+    // not by saturating_sub: a scan asks at each point, and knows here that the difference is not negative
+    let past = later
+        .abs_diff(earlier)
+        .min(i64::MAX.cast_unsigned())
+        .cast_signed();
+    if past <= span.cast_signed() {
         Window::Inside
     } else {
         Window::TooOld

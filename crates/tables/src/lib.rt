@@ -178,7 +178,8 @@ pub fn text_of(s: &[u8], n: StrNo) -> &[u8]
 pub fn halves(low: u32, high: u32) -> u64
     ensures { result ≡ low + 4294967296 * high }
 {
-    (low as u64) + ((high as u64) << 32)
+    // no shift: with one, a node's words are read byte by byte
+    u64::from(low) + 4294967296 * u64::from(high)
 }
 
 // ---- nodes

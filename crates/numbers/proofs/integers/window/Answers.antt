@@ -5,9 +5,9 @@ use Rattle.meaning.specs.Tests.{choose}
 use Rattle.numbers.proofs.Saturates.{clamp_is}
 use Rattle.numbers.proofs.integers.window.Goals as goal
 
-pub returns-then-past-lt0 : goal.returns-then-past-lt0
+pub returns-then-later-earlier : goal.returns-then-later-earlier
 unfolding window calculate choose
-returns-then-past-lt0 c = rw clamp_is (grind (arith, ints, to_z-of_z))
+returns-then-later-earlier c = rw clamp_is (grind (arith, ints, to_z-of_z))
 
 pub returns-then-past-cast_signed : goal.returns-then-past-cast_signed
 unfolding window calculate choose

@@ -1,14 +1,13 @@
 -- Names with dots: a text that joins names, the string behind a name, and the search from member to member
 use mathlib.Core.Path.{◌≡◌, refl, sym, ◌∙◌, ap, ap₂}
-use mathlib.Core.Bool.{Bool, true, false, not, ◌&&◌}
+use mathlib.Core.Bool.{Bool, true, false, not}
 use mathlib.Core.List.{List, [], ◌∷◌, ◌++◌, map}
 use Prim.Native.Nat.{ℕ, zero, suc, ◌+◌, ◌-◌, ◌<◌, ◌≤◌}
 use native.Mathlib.Omega.{arith}
 use lib.Dec.{eqb}
-use lib.ListN.{length, length-append, get_or, take, drop, length-drop}
-use lib.Seq.{drop-drop, take_all}
-use borrow.Author.Tests.{eqb-true, eqb-false, eq-eqb, ne_eqb, not-true, not-false}
-use Rattle.std.specs.List.{starts_with}
+use lib.ListN.{length, length-append, get_or, drop, length-drop}
+use lib.Seq.{drop-drop}
+use borrow.Author.Tests.{eqb-true, eq-eqb, ne_eqb, not-true, not-false}
 use Rattle.meaning.specs.declared.Run.{Run}
 use Rattle.meaning.specs.Tests.{◌and◌}
 use Rattle.meaning.specs.Case.{list, text, places, case_of}
@@ -58,18 +57,44 @@ module _ (s : List ℕ) (path : Run) where
 
 -- ---- whether a name stands in a text
 
-stands : (name t : List ℕ) → starts_with eqb t name ≡ begins name t
-unfolding begins
-stands [] t = refl
-stands (x ∷ name) [] = refl
-stands (x ∷ name) (y ∷ t) = go (eqb x y) refl (stands name t)
-  where
-    go : (b : Bool) → eqb x y ≡ b → starts_with eqb t name ≡ begins name t → (b && starts_with eqb t name) ≡ (eqb y x and begins name t)
-    go true e h = h ∙ sym (after (eq-eqb y x (sym (eqb-true x y e))))
-    go false e h = sym (stop _ (ne_eqb y x (λ q. eqb-false x y e (sym q))))
+-- the name's bytes from i on, held against those of t from i on
+pub record StandsFrom (t : List ℕ) (at : ℕ) (name : List ℕ) (i : ℕ) : Type 0 where
+  pub inside : i ≤ length name
+  pub room : length name ≤ length t - at
+  pub start : at ≤ length t
+  pub same : begins (drop i name) (drop (at + i) t) ≡ begins name (drop at t)
 
-pub stands-at : (t : List ℕ) (at : ℕ) (name : List ℕ) → starts_with eqb (take (length t - at) (drop at t)) name ≡ begins name (drop at t)
-stands-at t at name = ap (λ (l : List ℕ). starts_with eqb l name) (take_all (length t - at) (drop at t) (omega (arith, length-drop at t))) ∙ stands name (drop at t)
+longer : (name t : List ℕ) → length t < length name → begins name t ≡ false
+unfolding begins
+longer [] t h = absurd (omega arith)
+longer (x ∷ name) [] h = refl
+longer (x ∷ name) (y ∷ t) h = skip (eqb y x) (longer name t (omega arith))
+
+module _ (t : List ℕ) (at : ℕ) (name : List ℕ) where
+  pub stands-short : length t - at < length name → false ≡ begins name (drop at t)
+  stands-short h = sym (longer name (drop at t) (omega (arith, length-drop at t)))
+
+  pub stands-start : at ≤ length t → length name ≤ length t - at → StandsFrom t at name 0
+  stands-start h l =
+      let z : at + 0 ≡ at = omega arith in
+      record { inside = omega arith; room = l; start = h; same = rw z refl }
+
+  module _ {i : ℕ} (g : StandsFrom t at name i) where
+    byte : i < length name → begins (drop i name) (drop (at + i) t) ≡ (eqb (get_or t (at + i) 0) (get_or name i 0) and begins (drop (i + 1) name) (drop (at + (i + 1)) t))
+    unfolding begins
+    byte h =
+        let z : at + (i + 1) ≡ at + i + 1 = omega arith in
+        rw (open_at name i h, open_at t (at + i) (omega (arith, g.room, g.start)), z) refl
+
+    pub stands-no : i < length name → (get_or t (at + i) 0 ≡ get_or name i 0 → ⊥) → false ≡ begins name (drop at t)
+    stands-no h ne = sym (sym g.same ∙ byte h ∙ stop _ (ne_eqb _ _ ne))
+
+    pub stands-yes : i < length name → get_or t (at + i) 0 ≡ get_or name i 0 → StandsFrom t at name (i + 1)
+    stands-yes h e = record { inside = omega arith; room = g.room; start = g.start; same = sym (sym g.same ∙ byte h ∙ after (eq-eqb _ _ e)) }
+
+    pub stands-end : length name ≤ i → true ≡ begins name (drop at t)
+    unfolding begins
+    stands-end h = (rw (shut_at name i h) at g.same)
 
 -- ---- what is behind it
 

@@ -89,7 +89,16 @@ fn stands_at(t: &[u8], at: usize, name: &[u8]) -> bool
     requires { at ≤ length t.now }
     ensures { ◌≡◌ {A = Bool} result (begins name.now (drop at t.now)) }
 {
-    t[at..].starts_with(name)
+    if t.len() - at < name.len() {
+        return false;
+    }
+    // no starts_with: it is a call, which takes longer than the few bytes of a name
+    for i in 0..name.len() {
+        if t[at + i] != name[i] {
+            return false;
+        }
+    }
+    true
 }
 
 // what is behind a name that stands at byte `at` of t

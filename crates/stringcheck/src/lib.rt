@@ -140,18 +140,29 @@ fn end_to_end(s: &[u8]) -> bool
 fn first_due(b: u8) -> Due
     ensures { result ≡ first b }
 {
-    match b {
-        0..=127 => Due::Nothing,
-        128..=193 => Due::Wrong,
-        194..=223 => Due::One,
-        224 => Due::AfterE0,
-        225..=236 => Due::Two,
-        237 => Due::AfterEd,
-        238..=239 => Due::Two,
-        240 => Due::AfterF0,
-        241..=243 => Due::Three,
-        244 => Due::AfterF4,
-        _ => Due::Wrong,
+    // compares in a row, and no match on ranges: its jump table costs more where letters have three bytes
+    if b < 128 {
+        Due::Nothing
+    } else if b < 194 {
+        Due::Wrong
+    } else if b < 224 {
+        Due::One
+    } else if b < 225 {
+        Due::AfterE0
+    } else if b < 237 {
+        Due::Two
+    } else if b < 238 {
+        Due::AfterEd
+    } else if b < 240 {
+        Due::Two
+    } else if b < 241 {
+        Due::AfterF0
+    } else if b < 244 {
+        Due::Three
+    } else if b < 245 {
+        Due::AfterF4
+    } else {
+        Due::Wrong
     }
 }
 

@@ -1,4 +1,5 @@
-use Rattle.std.proofs.Common.{rules, ◌∙◌}
+use Rattle.std.proofs.Common.{rules, arith, ◌∙◌}
+use Rattle.std.proofs.lemmas.Bool.Decides.{nat_tests}
 use Rattle.std.proofs.lemmas.List.{length_push}
 use Rattle.std.proofs.lemmas.Slice.Zip.{zip_turn, zip_end}
 use Rattle.stringcheck.proofs.Orders.{order_unlike, order_same, order_ends}
@@ -7,7 +8,8 @@ use Rattle.stringcheck.proofs.bytes_before.Goals as goal
 pub returns-then-p-q : goal.returns-then-p-q
 returns-then-p-q c =
     let t = zip_turn c.args.x.now c.args.y.now c.loop-p.yielded _ c.loop-p.p-iterator c.next.new.self c.next.result (search rules) (search rules) c.loop-p.yielded_by (c.in-Some.p, c.in-Some.q) c.in-Some.is c.next.ensures.steps in
-    order_unlike _ _ _ c.loop-p.invariant t.0 t.1 (t.2 0) (t.3 0) c.if-p-q.true
+    let e = order_unlike _ _ _ c.loop-p.invariant t.0 t.1 (t.2 0) (t.3 0) c.if-p-q.true in
+    grind (arith, nat_tests, e)
 
 pub loop-p-preserved : goal.loop-p-preserved
 loop-p-preserved c =

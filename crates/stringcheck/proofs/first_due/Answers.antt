@@ -51,35 +51,35 @@ module _ (b : ℕ) where
   unfolding first choose
   due-245-255 l = rw (le-ltb b 128 (omega arith), le-ltb b 194 (omega arith), le-ltb b 224 (omega arith), le-ltb b 225 (omega arith), le-ltb b 237 (omega arith), le-ltb b 238 (omega arith), le-ltb b 240 (omega arith), le-ltb b 241 (omega arith), le-ltb b 244 (omega arith), le-ltb b 245 (omega arith)) refl
 
-pub returns-in-0-to-127 : goal.returns-in-0-to-127
-returns-in-0-to-127 c = due-0-127 c.args.b (omega arith)
+pub returns-then-b-lt128 : goal.returns-then-b-lt128
+returns-then-b-lt128 c = due-0-127 c.args.b (omega arith)
 
-pub returns-in-128-to-193 : goal.returns-in-128-to-193
-returns-in-128-to-193 c = due-128-193 c.args.b (omega arith) (omega arith)
+pub returns-then-b-lt194 : goal.returns-then-b-lt194
+returns-then-b-lt194 c = due-128-193 c.args.b (omega arith) (omega arith)
 
-pub returns-in-194-to-223 : goal.returns-in-194-to-223
-returns-in-194-to-223 c = due-194-223 c.args.b (omega arith) (omega arith)
+pub returns-then-b-lt224 : goal.returns-then-b-lt224
+returns-then-b-lt224 c = due-194-223 c.args.b (omega arith) (omega arith)
 
-pub returns-in-224 : goal.returns-in-224
-returns-in-224 c = due-224-224 c.args.b (omega arith) (omega arith)
+pub returns-then-b-lt225 : goal.returns-then-b-lt225
+returns-then-b-lt225 c = due-224-224 c.args.b (omega arith) (omega arith)
 
-pub returns-in-225-to-236 : goal.returns-in-225-to-236
-returns-in-225-to-236 c = due-225-236 c.args.b (omega arith) (omega arith)
+pub returns-then-b-lt237 : goal.returns-then-b-lt237
+returns-then-b-lt237 c = due-225-236 c.args.b (omega arith) (omega arith)
 
-pub returns-in-237 : goal.returns-in-237
-returns-in-237 c = due-237-237 c.args.b (omega arith) (omega arith)
+pub returns-then-b-lt238 : goal.returns-then-b-lt238
+returns-then-b-lt238 c = due-237-237 c.args.b (omega arith) (omega arith)
 
-pub returns-in-238-to-239 : goal.returns-in-238-to-239
-returns-in-238-to-239 c = due-238-239 c.args.b (omega arith) (omega arith)
+pub returns-then-b-lt240 : goal.returns-then-b-lt240
+returns-then-b-lt240 c = due-238-239 c.args.b (omega arith) (omega arith)
 
-pub returns-in-240 : goal.returns-in-240
-returns-in-240 c = due-240-240 c.args.b (omega arith) (omega arith)
+pub returns-then-b-lt241 : goal.returns-then-b-lt241
+returns-then-b-lt241 c = due-240-240 c.args.b (omega arith) (omega arith)
 
-pub returns-in-241-to-243 : goal.returns-in-241-to-243
-returns-in-241-to-243 c = due-241-243 c.args.b (omega arith) (omega arith)
+pub returns-then-b-lt244 : goal.returns-then-b-lt244
+returns-then-b-lt244 c = due-241-243 c.args.b (omega arith) (omega arith)
 
-pub returns-in-244 : goal.returns-in-244
-returns-in-244 c = due-244-244 c.args.b (omega arith) (omega arith)
+pub returns-then-b-lt245 : goal.returns-then-b-lt245
+returns-then-b-lt245 c = due-244-244 c.args.b (omega arith) (omega arith)
 
-pub returns-in_default : goal.returns-in_default
-returns-in_default c = due-245-255 c.args.b (omega arith)
+pub returns-else-b-lt245 : goal.returns-else-b-lt245
+returns-else-b-lt245 c = due-245-255 c.args.b (omega arith)

@@ -72,7 +72,9 @@ fn move_up(a: &mut [u32], from: usize, n: usize, by: usize)
     requires by_nonzero { 0 < by }
     ensures { Moved from n by a.old a.new }
 {
-    a.copy_within(from..n, from + by);
+    for j in (from..n).rev() {
+        a[j + by] = a[j];
+    }
 }
 
 // the place of the fresh one before the q-th

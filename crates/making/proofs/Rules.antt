@@ -14,7 +14,7 @@ use Rattle.meaning.specs.declared.Refusal.TheVariants.{BadContents, TooLarge, Ba
 use Rattle.meaning.specs.Tests.{◌and◌}
 use Rattle.meaning.specs.Case.{lists, values, points, nodes, vars}
 use Rattle.meaning.specs.Check.{bodies, mosts}
-use Rattle.laws.specs.Tests.{both, stop, after, skip, yes, no}
+use Rattle.laws.specs.Tests.{both, stop, skip, yes, no}
 use Rattle.laws.specs.Writing.{Writing}
 use Rattle.encode.specs.Encode.{flat}
 use Rattle.encode.specs.Unsorted.{texts, parts, finished}
@@ -71,16 +71,8 @@ summing_all {s} {marks} {k} {size} t h = record {
 
 -- ---- mosts
 
-pub le-and : {a m : ℕ} (b : Bool) → a ≤ m → b ≡ (leb a m and b)
-le-and {a} {m} b h = sym (after (le-leb a m h))
-
-pub gt-and : {a m : ℕ} (b : Bool) → m < a → leb a m ≡ (leb a m and b)
-gt-and {a} {m} b h = lt-leb a m h ∙ sym (stop b (lt-leb a m h))
-
-pub mosts-kept : {r r₂ r₃ r₄ r₅ : Bool} {n size a b d e : ℕ} (s marks : List ℕ) → r ≡ (leb size 4194304 and r₂) → r₂ ≡ (leb n 16384 and r₃) → r₃ ≡ (leb a 16384 and r₄) → r₄ ≡ (leb b 16384 and r₅) → r₅ ≡ (leb d 1024 and leb e 16) → a ≡ values s → b ≡ points s → d ≡ nodes s → e ≡ vars s → n ≡ length (texts s) → FinishedSize s marks size → bodies s ≡ true → r ≡ mosts (finished s marks)
-mosts-kept {r} {r₂} {r₃} {r₄} {r₅} {n} {size} {a} {b} {d} {e} s marks e1 e2 e3 e4 e5 va vb vd ve vn z h =
-    let zs : size ≡ length (finished s marks) = z.is in
-    cc (mosts-as s marks h)
+pub mosts-kept : {n size : ℕ} (s marks : List ℕ) → bodies s ≡ true → n ≡ length (texts s) → FinishedSize s marks size → mosts (finished s marks) ≡ (leb size 4194304 and leb n 16384 and leb (values s) 16384 and leb (points s) 16384 and leb (nodes s) 1024 and leb (vars s) 16)
+mosts-kept s marks h many z = rw (z.is, many) (mosts-as s marks h)
 
 -- ---- the strings in order
 

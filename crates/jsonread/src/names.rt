@@ -27,6 +27,7 @@ impl Cursor {
 }
 
 // a character's first byte, with the others left
+#[inline(always)]
 fn first_byte(u: u32, at: usize) -> (u8, Cursor)
     requires { u < 1114112 }
     ensures { Begins u at result }
@@ -71,7 +72,8 @@ fn first_byte(u: u32, at: usize) -> (u8, Cursor)
     )
 }
 
-// the next byte of a string that was read
+// the next byte of a string that was read; in its caller's body, where the cursor stays in registers
+#[inline(always)]
 pub fn next_byte(line: &[u8], c: Cursor) -> Option<(u8, Cursor)>
     ensures { NextTold line.now c result }
 {
@@ -129,18 +131,20 @@ fn compare_from(line: &[u8], a: usize, b: usize, k: usize) -> Ordering
     let mut x = Cursor::at(a + k);
     let mut y = Cursor::at(b + k);
     loop {
-        match (next_byte(line, x), next_byte(line, y)) {
-            (None, None) => return Ordering::Equal,
-            (None, Some(_)) => return Ordering::Less,
-            (Some(_), None) => return Ordering::Greater,
-            (Some((p, n)), Some((q, m))) => {
-                if p != q {
-                    return p.cmp(&q);
-                }
-                x = n;
-                y = m;
-            }
+        let Some((p, n)) = next_byte(line, x) else {
+            return match next_byte(line, y) {
+                None => Ordering::Equal,
+                Some(_) => Ordering::Less,
+            };
+        };
+        let Some((q, m)) = next_byte(line, y) else {
+            return Ordering::Greater;
+        };
+        if p != q {
+            return p.cmp(&q);
         }
+        x = n;
+        y = m;
     }
 }
 

@@ -6,7 +6,7 @@ use native.Mathlib.Omega.{arith}
 use lib.ListN.{length, drop, get_or}
 use mir.Val.{Fits}
 use mir.Syntax.{w64}
-use Rattle.std.proofs.Common.{Option, Some, None}
+use Rattle.std.specs.Prelude.{Result, Ok, Err}
 use Rattle.laws.specs.Writing.{Writing}
 use Rattle.encode.specs.Words.{packed}
 use Rattle.jsontext.specs.declared.Form.{Form}
@@ -33,11 +33,11 @@ use mathlib.Core.Bool.{true, false}
 -- ---- items
 
 -- so many items are members of the run; another stands at the part, or the bracket closes
-pub record Putting (levels : ℕ) (line : List ℕ) (at : ℕ) (names₀ names : List ℕ) (used : ℕ) (before file : List ℕ) (b : Bodies) (n : Next) (count : ℕ) (m : Next) (k : ℕ) (part : Option ℕ) : Type 0 where
-  pub next : (i : ℕ) → part ≡ Some i → Filling levels line at names₀ names used before file b n count m k i
+pub record Putting (levels : ℕ) (line : List ℕ) (at : ℕ) (names₀ names : List ℕ) (used : ℕ) (before file : List ℕ) (b : Bodies) (n : Next) (count : ℕ) (m : Next) (k : ℕ) (part : Result ℕ ℕ) : Type 0 where
+  pub next : (i : ℕ) → part ≡ Ok i → Filling levels line at names₀ names used before file b n count m k i
   pub long : length file ≡ length before
   pub kept : length names ≡ length names₀
-  pub told : part ≡ None → RunPlaced (array (value levels) (drop at line)) before file b n array_tables m used names₀ names
+  pub told : (e : ℕ) → part ≡ Err e → RunPlaced (array (value levels) (drop at line)) before file b n array_tables m used names₀ names
 
 module _ (levels : ℕ) {line : List ℕ} {at : ℕ} {file : List ℕ} {b : Bodies} {n : Next} {names : List ℕ} {used : ℕ} (d : PlaceDue line at (array (value levels) (drop at line)) file b n array_tables names used named_items) where
   pub items-signed : Signed line at
@@ -47,16 +47,16 @@ module _ (levels : ℕ) {line : List ℕ} {at : ℕ} {file : List ℕ} {b : Bodi
     pub items-run : n.member + count ≤ 4294967295
     items-run = Items.items-run levels d.due k
 
-    module _ {next : Next} (z : next ≡ leaving n count) {x : Option ℕ} (t : BeginTold line at 93 x) where
+    module _ {next : Next} (z : next ≡ leaving n count) {x : Result ℕ ℕ} (t : BeginTold line at 93 x) where
       pub items-begun : Putting levels line at names names used file file b n count next 0 x
       items-begun = record {
         next = λ i y. Items.items-start levels d.due k z t d.spare y;
         long = refl;
         kept = refl;
-        told = λ y. record { told = Items.items-none levels d.due k z t y; stays = Values.stays_self used names };
+        told = λ e y. record { told = Items.items-none levels d.due k z t y; stays = Values.stays_self used names };
       }
 
-module _ (levels : ℕ) {line : List ℕ} {at : ℕ} {names₀ names : List ℕ} {used : ℕ} {before file : List ℕ} {b : Bodies} {n : Next} {count : ℕ} {next : Next} {k i : ℕ} {y : Option ℕ} (start : Putting levels line at names₀ names used before file b n count next k y) (z : y ≡ Some i) where
+module _ (levels : ℕ) {line : List ℕ} {at : ℕ} {names₀ names : List ℕ} {used : ℕ} {before file : List ℕ} {b : Bodies} {n : Next} {count : ℕ} {next : Next} {k i : ℕ} {y : Result ℕ ℕ} (start : Putting levels line at names₀ names used before file b n count next k y) (z : y ≡ Ok i) where
   g : Filling levels line at names₀ names used before file b n count next k i
   g = start.next i z
 
@@ -77,27 +77,27 @@ module _ (levels : ℕ) {line : List ℕ} {at : ℕ} {names₀ names : List ℕ}
       pub item_room : MemberRoom after b (n.member + k) 4294967295 w-next
       item_room = record { fits = Items.item_room levels g p.told p.stays l; name-word = omega arith; some = Items.item-some levels g p.told p.stays l; value-word = Items.item-word levels g p.told p.stays l }
 
-      module _ {last : List ℕ} (m : Writing after last (b.members + 8 * (n.member + k)) (packed (4294967295 ∷ (w-next.value - 1) ∷ []))) (h : length last ≡ length after) {x : Option ℕ} (t : PartTold line w-end 93 x) where
+      module _ {last : List ℕ} (m : Writing after last (b.members + 8 * (n.member + k)) (packed (4294967295 ∷ (w-next.value - 1) ∷ []))) (h : length last ≡ length after) {x : Result ℕ ℕ} (t : PartTold line w-end 93 x) where
         pub items-again : Putting levels line at names₀ names' used before last b n count w-next (k + 1) x
         items-again = record {
           next = λ j q. Items.items-again levels g p.told p.stays l m h t q;
           long = Items.out-after levels g after last l h;
           kept = Items.names-after levels g p.stays;
-          told = λ q. record { told = Items.items-closed levels g p.told p.stays l m h t q; stays = Items.stays_after levels g p.stays };
+          told = λ e q. record { told = Items.items-closed levels g p.told p.stays l m h t q; stays = Items.stays_after levels g p.stays };
         }
 
         pub items-less : ahead line x < ahead line y
         items-less = ahead-less line z t p.told.from
 
-module _ {levels : ℕ} {line : List ℕ} {at : ℕ} {names₀ names : List ℕ} {used : ℕ} {before file : List ℕ} {b : Bodies} {n : Next} {count : ℕ} {next : Next} {k : ℕ} {x : Option ℕ} (g : Putting levels line at names₀ names used before file b n count next k x) where
+module _ {levels : ℕ} {line : List ℕ} {at : ℕ} {names₀ names : List ℕ} {used : ℕ} {before file : List ℕ} {b : Bodies} {n : Next} {count : ℕ} {next : Next} {k : ℕ} {x : Result ℕ ℕ} (g : Putting levels line at names₀ names used before file b n count next k x) where
   pub items-names : length names ≡ length names₀
   items-names = g.kept
 
   pub items-out : length file ≡ length before
   items-out = g.long
 
-  pub items-told : x ≡ None → RunPlaced (array (value levels) (drop at line)) before file b n array_tables next used names₀ names
-  items-told z = g.told z
+  pub items-told : {e : ℕ} → x ≡ Err e → RunPlaced (array (value levels) (drop at line)) before file b n array_tables next used names₀ names
+  items-told {e} z = g.told e z
 
 -- ---- members
 

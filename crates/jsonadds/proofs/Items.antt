@@ -9,7 +9,7 @@ use mir.Val.{Fits}
 use mir.Syntax.{w64}
 use lib.Dec.{eqb}
 use borrow.Author.Tests.{eq-eqb, ne_eqb, eqb-true, eqb-false}
-use Rattle.std.proofs.Common.{Option, Some, None}
+use Rattle.std.specs.Prelude.{Result, Ok, Err}
 use Rattle.meaning.specs.Case.{nothing}
 use Rattle.laws.specs.Writing.{Writing}
 use Rattle.encode.specs.Words.{packed}
@@ -112,26 +112,26 @@ module _ (levels : ℕ) {line : List ℕ} {at : ℕ} {file : List ℕ} {b : Bodi
     pub items-run : n.member + count ≤ 4294967295
     items-run = run-words roomy_of
 
-    module _ {next : Next} (z : next ≡ leaving n count) {x : Option ℕ} (t : BeginTold line at 93 x) where
+    module _ {next : Next} (z : next ≡ leaving n count) {x : Result ℕ ℕ} (t : BeginTold line at 93 x) where
       start-rows : Rows file file b n count (whole_of d.what n) (rest_of d.what (numbers next)) next n.member
       start-rows =
           let e : numbers next ≡ after_run (numbers n) (many (ordered_items (item_parts d.what))) =
           ap numbers z ∙ free n count ∙ ap (after_run (numbers n)) (k.is d.what d.rest d.is ∙ sym (many-items d.what)) in
           subst (λ (q : Next-as_Trace). Rows file file b n count (whole_of d.what n) (rest_of d.what q) next n.member) (sym e) (rows_start file b n count (whole_of d.what n) z)
 
-      pub items-none : x ≡ None → AddsTo (array (value levels) (drop at line)) file file b n array_tables next
+      pub items-none : {k : ℕ} → x ≡ Err k → AddsTo (array (value levels) (drop at line)) file file b n array_tables next
       unfolding items_tables items_add ordered_items item_parts
-      items-none y = record {
+      items-none {k} y = record {
         adds =
             λ what rest f.
-            let c = t.closed y in
+            let c = t.closed k y in
             let same = sym listed.byte ∙ c.is in
             let o : d.what ≡ [] = listed.none (eq-eqb listed.first 93 cc) in
             subst (λ (js : List J). Adds file file b n (array_tables js (numbers n)) next) (same-got d.is f)
             (rows_end roomy_of start-rows (rw o) (rw o));
       }
 
-      pub items-start : {names : List ℕ} {used i : ℕ} → Spare (array (value levels) (drop at line)) names used named_items → x ≡ Some i → Filling levels line at names names used file file b n count next 0 i
+      pub items-start : {names : List ℕ} {used i : ℕ} → Spare (array (value levels) (drop at line)) names used named_items → x ≡ Ok i → Filling levels line at names names used file file b n count next 0 i
       unfolding named
       items-start {names} {used} {i} s y =
           let c = t.next i y in
@@ -247,13 +247,13 @@ module _ (levels : ℕ) {line : List ℕ} {at : ℕ} {names₀ names : List ℕ}
           (rows_step nothing (last_value (numbers next) child) later.0 child later.1 g.roomy (shaped (ordered fill-turn.what) (numbers next)) here-rows next-is wrote
           (subst (λ (v : ℕ). Writing after last (b.members + 8 * (n.member + k)) (packed (nothing ∷ v ∷ []))) (sym number_is) m)))
 
-      module _ {x : Option ℕ} (t : PartTold line w-end 93 x) where
-        pub items-closed : x ≡ None → AddsTo (array (value levels) (drop at line)) before last b n array_tables w-next
+      module _ {x : Result ℕ ℕ} (t : PartTold line w-end 93 x) where
+        pub items-closed : {k : ℕ} → x ≡ Err k → AddsTo (array (value levels) (drop at line)) before last b n array_tables w-next
         unfolding items_tables items_add ordered_items item_parts
-        items-closed y = record {
+        items-closed {k} y = record {
           adds =
               λ what rest f.
-              let c = t.closed y in
+              let c = t.closed k y in
               let same = sym sign-here ∙ c.is in
               let z : fill-turn.sign ≡ 93 = cc in
               let o : head_of.others ≡ [] = let a = sym head_of.is ∙ fill-turn.alone z in cc in
@@ -261,7 +261,7 @@ module _ (levels : ℕ) {line : List ℕ} {at : ℕ} {names₀ names : List ℕ}
               (rows_end g.roomy next-rows (rw o) (rw o));
         }
 
-        pub items-again : {j : ℕ} → x ≡ Some j → Filling levels line at names₀ names' used before last b n count w-next (k + 1) j
+        pub items-again : {j : ℕ} → x ≡ Ok j → Filling levels line at names₀ names' used before last b n count w-next (k + 1) j
         unfolding named item_parts
         items-again {j} y =
             let c = t.next j y in

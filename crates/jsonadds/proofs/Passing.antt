@@ -6,12 +6,12 @@ use Prim.Native.Nat.{ℕ, ◌+◌, ◌-◌, ◌<◌, ◌≤◌}
 use native.Mathlib.Omega.{arith}
 use lib.ListN.{length, drop}
 use borrow.Author.Tests.{eq-eqb, ne_eqb}
-use Rattle.std.proofs.Common.{Option, Some, None}
+use Rattle.std.specs.Prelude.{Result, Ok, Err}
 use Rattle.jsontext.specs.Reading.{Read, got, blanks}
 use Rattle.jsontext.specs.Strings.{string}
 use Rattle.jsontext.specs.Values.{J, array, value}
-use Rattle.jsonruns.specs.Good.{Good, Ends, Signed, Past, Behind, Closes, BeginTold, PartTold}
-use Rattle.jsonruns.proofs.Signs.{closed-left, closed-signed, ahead, ahead-less}
+use Rattle.jsonruns.specs.Good.{Good, Ends, Signed, Past, BeginTold, PartTold}
+use Rattle.jsonruns.proofs.Signs.{ahead, ahead-less}
 use Rattle.jsonruns.specs.Run.{Run, Listed, Item, Member}
 use Rattle.jsonruns.proofs.Runs.{same-got, same_rest, Turn, turn, array-listed}
 use Rattle.jsonadds.specs.Place.{CountTold, MemberGood, MemberEnds}
@@ -40,13 +40,14 @@ module _ {A : Type 0} (close : ℕ) (Part : List ℕ → A → List ℕ → Type
     pub pass-signed : Signed line at
     pass-signed = record { within = g.within; sign = listed.first; rest = listed.others; is = listed.byte }
 
-    module _ {x : Option ℕ} (b : BeginTold line at close x) where
-      pub pass-none : x ≡ None → g.what ≡ []
-      pass-none z = let y = sym listed.byte ∙ (b.closed z).is in listed.none (eq-eqb listed.first close cc)
+    module _ {x : Result ℕ ℕ} (b : BeginTold line at close x) where
+      pub pass-none : {e : ℕ} → x ≡ Err e → g.what ≡ []
+      pass-none {e} z = let y = sym listed.byte ∙ (b.closed e z).is in listed.none (eq-eqb listed.first close cc)
 
-      pub pass-empty : {e : ℕ} → x ≡ None → Behind line at e → CountTold line at m (record { count = 0; end = e })
-      pass-empty {e} z h =
-          let k = closed-left (b.closed z) h in
+      pub pass-empty : {e : ℕ} → x ≡ Err e → CountTold line at m (record { count = 0; end = e })
+      pass-empty {e} z =
+          let h = b.closed e z in
+          let k = h.is in
           record {
             from = omega (arith, h.from);
             within = h.within;
@@ -58,7 +59,7 @@ module _ {A : Type 0} (close : ℕ) (Part : List ℕ → A → List ℕ → Type
             many_is = record { is = λ what rest f. sym (ap length (sym (same-got g.is f) ∙ pass-none z)) };
           }
 
-      abbrev pub pass-start : {i : ℕ} → x ≡ Some i → Passing line at m 0 i
+      abbrev pub pass-start : {i : ℕ} → x ≡ Ok i → Passing line at m 0 i
       pass-start {i} z =
           let k = b.next i z in
           record {
@@ -83,17 +84,18 @@ module _ {A : Type 0} (close : ℕ) (Part : List ℕ → A → List ℕ → Type
     pub pass-after : Signed line e
     pass-after = record { within = p.within; sign = now.sign; rest = now.others; is = sign-here }
 
-    module _ {x : Option ℕ} (b : PartTold line e close x) where
-      pub pass-last : x ≡ None → now-others.others ≡ []
-      pass-last y =
-          let same = sym sign-here ∙ (b.closed y).is in
+    module _ {x : Result ℕ ℕ} (b : PartTold line e close x) where
+      pub pass-last : {k : ℕ} → x ≡ Err k → now-others.others ≡ []
+      pass-last {k} y =
+          let same = sym sign-here ∙ (b.closed k y).is in
           let z : now.sign ≡ close = cc in
           let a = sym now-others.is ∙ now.alone z in
           cc
 
-      pub pass-closed : {k : ℕ} → x ≡ None → Behind line e k → CountTold line at m (record { count = count + 1; end = k })
-      pass-closed {k} y h =
-          let same = sym sign-here ∙ closed-left (b.closed y) h in
+      pub pass-closed : {k : ℕ} → x ≡ Err k → CountTold line at m (record { count = count + 1; end = k })
+      pass-closed {k} y =
+          let h = b.closed k y in
+          let same = sym sign-here ∙ h.is in
           let z : now.sign ≡ close = cc in
           record {
             from = omega (arith, g.from, p.from, h.from);
@@ -102,7 +104,7 @@ module _ {A : Type 0} (close : ℕ) (Part : List ℕ → A → List ℕ → Type
             many_is = record { is = λ what rest f. omega (arith, g.total, ap length (now.alone z), ap length (same-got f g.good.is)) };
           }
 
-      abbrev pub pass-again : {j : ℕ} → x ≡ Some j → Passing line at m (count + 1) j
+      abbrev pub pass-again : {j : ℕ} → x ≡ Ok j → Passing line at m (count + 1) j
       pass-again {j} y =
           let c = b.next j y in
           let o = now.next (c.other now.sign now.others sign-here) in
@@ -118,13 +120,11 @@ module _ {A : Type 0} (close : ℕ) (Part : List ℕ → A → List ℕ → Type
 
 -- ---- items
 
--- so many are counted; an item stands behind e, or the bracket closes there
-pub record ItemsPassing (levels : ℕ) (line : List ℕ) (at count e : ℕ) (part : Option ℕ) : Type 0 where
-  pub next : (i : ℕ) → part ≡ Some i → Passing 93 (Item (value levels)) line at (array (value levels) (drop at line)) count i
-  pub within : e ≤ length line
+-- so many are counted; an item is left, or the bracket closed
+pub record ItemsPassing (levels : ℕ) (line : List ℕ) (at count : ℕ) (part : Result ℕ ℕ) : Type 0 where
+  pub next : (i : ℕ) → part ≡ Ok i → Passing 93 (Item (value levels)) line at (array (value levels) (drop at line)) count i
   pub few : count ≤ length line + 1
-  pub closes : part ≡ None → Closes line e 93
-  pub told : part ≡ None → (k : ℕ) → Behind line e k → CountTold line at (array (value levels) (drop at line)) (record { count = count; end = k })
+  pub told : (k : ℕ) → part ≡ Err k → CountTold line at (array (value levels) (drop at line)) (record { count = count; end = k })
 
 items-law : (line : List ℕ) (at levels : ℕ) (what : List J) (rest : List ℕ) → array (value levels) (drop at line) ≡ got what rest → Listed 93 (Item (value levels)) (drop at line) what rest
 items-law line at levels what rest e = array-listed (value levels) (drop at line) e
@@ -133,16 +133,14 @@ module _ (levels : ℕ) {line : List ℕ} {at : ℕ} (g : Good line at (array (v
   pub count-signed : Signed line at
   count-signed = pass-signed 93 (Item (value levels)) (items-law line at levels) g
 
-  pub count-begun : {x : Option ℕ} → BeginTold line at 93 x → ItemsPassing levels line at 0 at x
+  pub count-begun : {x : Result ℕ ℕ} → BeginTold line at 93 x → ItemsPassing levels line at 0 x
   count-begun b = record {
     next = λ i z. pass-start 93 (Item (value levels)) (items-law line at levels) g b z;
-    within = g.within;
     few = omega arith;
-    closes = b.closed;
-    told = λ z k h. pass-empty 93 (Item (value levels)) (items-law line at levels) g b z h;
+    told = λ k z. pass-empty 93 (Item (value levels)) (items-law line at levels) g b z;
   }
 
-module _ (levels : ℕ) {line : List ℕ} {at count i e' : ℕ} {y : Option ℕ} (g : ItemsPassing levels line at count e' y) (z : y ≡ Some i) where
+module _ (levels : ℕ) {line : List ℕ} {at count i : ℕ} {y : Result ℕ ℕ} (g : ItemsPassing levels line at count y) (z : y ≡ Ok i) where
   pub count-good : Good line i (value levels (drop i line))
   count-good = let k = g.next i z in let n = turn 93 (Item (value levels)) k.parts in record { what = n.what; rest = n.after; within = k.within; is = n.part }
 
@@ -156,25 +154,19 @@ module _ (levels : ℕ) {line : List ℕ} {at count i e' : ℕ} {y : Option ℕ}
     pub count-after : Signed line e
     count-after = pass-after 93 (Item (value levels)) (g.next i z) item-ends
 
-    module _ {x : Option ℕ} (b : PartTold line e 93 x) where
-      pub count-again : ItemsPassing levels line at (count + 1) e x
+    module _ {x : Result ℕ ℕ} (b : PartTold line e 93 x) where
+      pub count-again : ItemsPassing levels line at (count + 1) x
       count-again = record {
         next = λ j q. pass-again 93 (Item (value levels)) (g.next i z) item-ends b q;
-        within = p.within;
         few = omega (arith, count-few);
-        closes = b.closed;
-        told = λ q k h. pass-closed 93 (Item (value levels)) (g.next i z) item-ends b q h;
+        told = λ k q. pass-closed 93 (Item (value levels)) (g.next i z) item-ends b q;
       }
 
       pub count_less : ahead line x < ahead line y
       count_less = ahead-less line z b p.from
 
-module _ {levels : ℕ} {line : List ℕ} {at count e : ℕ} {x : Option ℕ} (g : ItemsPassing levels line at count e x) (z : x ≡ None) where
-  pub count-shut : Signed line e
-  count-shut = closed-signed g.within (g.closes z)
-
-  pub count-told : {k : ℕ} → Behind line e k → CountTold line at (array (value levels) (drop at line)) (record { count = count; end = k })
-  count-told {k} h = g.told z k h
+pub count-told : {levels : ℕ} {line : List ℕ} {at count k : ℕ} {x : Result ℕ ℕ} → ItemsPassing levels line at count x → x ≡ Err k → CountTold line at (array (value levels) (drop at line)) (record { count = count; end = k })
+count-told {k = k} g z = g.told k z
 
 -- ---- a member
 

@@ -7,7 +7,7 @@ use Prim.Native.Nat.{ℕ, zero, suc, ◌+◌, ◌-◌, ◌<◌, ◌≤◌}
 use native.Mathlib.Omega.{arith}
 use lib.Dec.{eqb}
 use lib.ListN.{length, drop}
-use Rattle.std.proofs.Common.{Option as Maybe, Some, None}
+use Rattle.std.specs.Prelude.{Result, Ok, Err}
 use Rattle.meaning.specs.Tests.{choose}
 use Rattle.meaning.specs.Equal.{same_list}
 use Rattle.laws.specs.Text.{self_same}
@@ -22,8 +22,8 @@ use Rattle.jsonnames.specs.Merges.{Merged}
 use Rattle.jsonnames.specs.Runs.{Grown}
 use Rattle.jsonnames.proofs.Halves.{spells_one}
 use Rattle.jsonnames.proofs.Stays.{sorted_none}
-use Rattle.jsonruns.specs.Good.{Good, Signed, Behind, Closes, BeginTold, PartTold}
-use Rattle.jsonruns.proofs.Signs.{closed-signed, ahead, ahead-less}
+use Rattle.jsonruns.specs.Good.{Good, Signed, BeginTold, PartTold}
+use Rattle.jsonruns.proofs.Signs.{ahead, ahead-less}
 use Rattle.jsonruns.specs.Run.{Listed, Member}
 use Rattle.jsonruns.proofs.Runs.{same-got, then_of, after_of, Turn, turn, object-listed}
 use Rattle.jsoncount.specs.Sizes.{object_read}
@@ -145,21 +145,19 @@ pub record Sorting (levels : ℕ) (line : List ℕ) (at : ℕ) (names₀ names :
   pub within : i ≤ length line
   pub stop-within : used + count ≤ length names₀
 
--- a name stands behind e, or the bracket closes there
-pub record Collecting (levels : ℕ) (line : List ℕ) (at : ℕ) (names₀ names : List ℕ) (used count e : ℕ) (part : Maybe ℕ) : Type 0 where
-  pub next : (i : ℕ) → part ≡ Some i → Sorting levels line at names₀ names used count i
-  pub within : e ≤ length line
+-- a name is left, or the bracket closed
+pub record Collecting (levels : ℕ) (line : List ℕ) (at : ℕ) (names₀ names : List ℕ) (used count : ℕ) (part : Result ℕ ℕ) : Type 0 where
+  pub next : (i : ℕ) → part ≡ Ok i → Sorting levels line at names₀ names used count i
   pub long : length names ≡ length names₀
   pub few : count ≤ length line + 1
   pub fits : used + count ≤ length names₀
-  pub closes : part ≡ None → Closes line e 125
-  pub told : part ≡ None → (k : ℕ) → Behind line e k → CollectTold levels line at (object_read levels (drop at line)) names₀ names used (record { count = count; end = k })
+  pub told : (k : ℕ) → part ≡ Err k → CollectTold levels line at (object_read levels (drop at line)) names₀ names used (record { count = count; end = k })
 
 module _ (levels : ℕ) {line : List ℕ} {at : ℕ} (g : Good line at (object_read levels (drop at line))) where
   pub sort_signed : Signed line at
   sort_signed = pass-signed 125 (Part levels) (members-law line at levels) g
 
-  module _ {names : List ℕ} {used : ℕ} (s : Spare (object_read levels (drop at line)) names used named_members) {x : Maybe ℕ} (b : BeginTold line at 125 x) where
+  module _ {names : List ℕ} {used : ℕ} (s : Spare (object_read levels (drop at line)) names used named_members) {x : Result ℕ ℕ} (b : BeginTold line at 125 x) where
     all-spare : used + length g.what ≤ length names
     unfolding named
     all-spare = omega (arith, s.is g.what g.rest g.is, many-members g.what)
@@ -170,10 +168,10 @@ module _ (levels : ℕ) {line : List ℕ} {at : ℕ} (g : Good line at (object_r
     none_in : (used stop : ℕ) → used ≡ stop → Scattered levels line names used stop end
     none_in used stop e = record { all = λ n o a. absurd (among_none a); only = λ k f h. absurd (omega arith) }
 
-    sort_empty : {e : ℕ} → x ≡ None → Behind line at e → CollectTold levels line at (object_read levels (drop at line)) names names used (record { count = 0; end = e })
+    sort_empty : {e : ℕ} → x ≡ Err e → CollectTold levels line at (object_read levels (drop at line)) names names used (record { count = 0; end = e })
     unfolding ordered_members member_parts Ascends
-    sort_empty {e} z h =
-        let c = pass-empty 125 (Part levels) (members-law line at levels) g b z h in
+    sort_empty {e} z =
+        let c = pass-empty 125 (Part levels) (members-law line at levels) g b z in
         let n : (what : List (List ℕ × J)) (rest : List ℕ) → object_read levels (drop at line) ≡ got what rest → what ≡ [] = λ what rest f. sym (same-got g.is f) ∙ pass-none 125 (Part levels) (members-law line at levels) g b z in
         record {
           from = c.from;
@@ -187,7 +185,7 @@ module _ (levels : ℕ) {line : List ℕ} {at : ℕ} (g : Good line at (object_r
           stays = record { long = refl; same = λ k h. refl };
         }
 
-    sort_start : {i : ℕ} → x ≡ Some i → Sorting levels line at names names used 0 i
+    sort_start : {i : ℕ} → x ≡ Ok i → Sorting levels line at names names used 0 i
     unfolding Ascends
     sort_start {i} z =
         let p = pass-start 125 (Part levels) (members-law line at levels) g b z in
@@ -207,18 +205,16 @@ module _ (levels : ℕ) {line : List ℕ} {at : ℕ} (g : Good line at (object_r
           stop-within = omega (arith, all-spare);
         }
 
-    pub sort_begun : Collecting levels line at names names used 0 at x
+    pub sort_begun : Collecting levels line at names names used 0 x
     sort_begun = record {
       next = λ i z. sort_start z;
-      within = g.within;
       long = refl;
       few = omega arith;
       fits = omega (arith, all-spare);
-      closes = b.closed;
-      told = λ z k h. sort_empty z h;
+      told = λ k z. sort_empty z;
     }
 
-module _ (levels : ℕ) {line : List ℕ} {at : ℕ} {names₀ names : List ℕ} {used count i e' : ℕ} {y : Maybe ℕ} (start : Collecting levels line at names₀ names used count e' y) (z : y ≡ Some i) where
+module _ (levels : ℕ) {line : List ℕ} {at : ℕ} {names₀ names : List ℕ} {used count i : ℕ} {y : Result ℕ ℕ} (start : Collecting levels line at names₀ names used count y) (z : y ≡ Ok i) where
   abbrev pub g : Sorting levels line at names₀ names used count i
   g = start.next i z
 
@@ -291,11 +287,11 @@ module _ (levels : ℕ) {line : List ℕ} {at : ℕ} {names₀ names : List ℕ}
     put-table = subst (λ (e : ℕ). Sorted line after used e) more k.sorted
 
     module _ {e : ℕ} (m : MemberEnds levels line i e) where
-      module _ {x : Maybe ℕ} (b : PartTold line e 125 x) where
-        sort_closed : {p : ℕ} → x ≡ None → Behind line e p → CollectTold levels line at (object_read levels (drop at line)) names₀ after used (record { count = count + 1; end = p })
+      module _ {x : Result ℕ ℕ} (b : PartTold line e 125 x) where
+        sort_closed : {p : ℕ} → x ≡ Err p → CollectTold levels line at (object_read levels (drop at line)) names₀ after used (record { count = count + 1; end = p })
         unfolding member_parts insert_all tail head
-        sort_closed {p} y h =
-            let c = pass-closed 125 (Part levels) g.passing (ends m) b y h in
+        sort_closed {p} y =
+            let c = pass-closed 125 (Part levels) g.passing (ends m) b y in
             let o : tail.others ≡ [] = pass-last 125 (Part levels) g.passing (ends m) b y in
             record {
               from = c.from;
@@ -312,7 +308,7 @@ module _ (levels : ℕ) {line : List ℕ} {at : ℕ} {names₀ names : List ℕ}
             whole : tail.others ≡ [] → (what : List (List ℕ × J)) (rest : List ℕ) → object_read levels (drop at line) ≡ got what rest → insert_part name (ordered head.what.1) g.sorted ≡ ordered_members (member_parts what)
             whole o what rest f = ap (λ (ms : List (List ℕ × J)). insert_all (member_parts ms) (insert_part name (ordered head.what.1) g.sorted)) (sym o) ∙ split.goes ∙ ap (λ (ms : List (List ℕ × J)). ordered_members (member_parts ms)) (same-got g.passing.good.is f)
 
-        sort_next : {j : ℕ} → x ≡ Some j → Sorting levels line at names₀ after used (count + 1) j
+        sort_next : {j : ℕ} → x ≡ Ok j → Sorting levels line at names₀ after used (count + 1) j
         unfolding tail head
         sort_next {j} y = record {
           passing = pass-again 125 (Part levels) g.passing (ends m) b y;
@@ -330,29 +326,24 @@ module _ (levels : ℕ) {line : List ℕ} {at : ℕ} {names₀ names : List ℕ}
           stop-within = omega (arith, sort_room, g.stays.long);
         }
 
-        pub sort_again : Collecting levels line at names₀ after used (count + 1) e x
+        pub sort_again : Collecting levels line at names₀ after used (count + 1) x
         sort_again = record {
           next = λ j q. sort_next q;
-          within = m.within;
           long = put-stays.long;
           few = omega (arith, sort_few);
           fits = omega (arith, sort_room, g.stays.long);
-          closes = b.closed;
-          told = λ q k h. sort_closed q h;
+          told = λ k q. sort_closed q;
         }
 
         pub sort_less : ahead line x < ahead line y
         sort_less = ahead-less line z b m.from
 
-module _ {levels : ℕ} {line : List ℕ} {at : ℕ} {names₀ names : List ℕ} {used count e : ℕ} {x : Maybe ℕ} (g : Collecting levels line at names₀ names used count e x) where
+module _ {levels : ℕ} {line : List ℕ} {at : ℕ} {names₀ names : List ℕ} {used count : ℕ} {x : Result ℕ ℕ} (g : Collecting levels line at names₀ names used count x) where
   pub sort_long : length names ≡ length names₀
   sort_long = g.long
 
-  pub sort_shut : x ≡ None → Signed line e
-  sort_shut z = closed-signed g.within (g.closes z)
-
-  pub sort_told : {k : ℕ} → x ≡ None → Behind line e k → CollectTold levels line at (object_read levels (drop at line)) names₀ names used (record { count = count; end = k })
-  sort_told {k} z h = g.told z k h
+  pub sort_told : {k : ℕ} → x ≡ Err k → CollectTold levels line at (object_read levels (drop at line)) names₀ names used (record { count = count; end = k })
+  sort_told {k} z = g.told k z
 
 -- ---- the runs become one
 

@@ -5,12 +5,12 @@ use mathlib.Core.List.{List, [], ◌∷◌}
 use Prim.Native.Nat.{ℕ, ◌<◌}
 use native.Mathlib.Omega.{arith}
 use lib.ListN.{drop}
-use Rattle.std.proofs.Common.{Option, Some, None}
+use Rattle.std.specs.Prelude.{Result, Ok, Err}
 use Rattle.jsontext.specs.Reading.{got, blanks}
 use Rattle.jsontext.specs.Strings.{string}
 use Rattle.jsontext.specs.Values.{J, item_parts, member_parts, array, value}
 use Rattle.jsontrace.specs.Count.{Count, ◌⊞◌, a_string, a_value, a_member, counted, counted_items, counted_members}
-use Rattle.jsonruns.specs.Good.{Good, Signed, Past, Behind, BeginTold, PartTold}
+use Rattle.jsonruns.specs.Good.{Good, Signed, Past, BeginTold, PartTold}
 use Rattle.jsonruns.proofs.Signs.{ahead}
 use Rattle.jsonruns.specs.Run.{Item, Member, Listed}
 use Rattle.jsonruns.proofs.Runs.{turn, array-listed, object-listed}
@@ -18,7 +18,7 @@ use Rattle.jsoncount.specs.declared.tallies.Tally.{Tally}
 use Rattle.jsoncount.specs.Tally.{Adds, sizes, CountedTo}
 use Rattle.jsoncount.specs.Sizes.{item_size, array_size, member_size, object_size, object_read}
 use Rattle.jsoncount.proofs.Sums.{sum_assoc, adds_then}
-use Rattle.jsoncount.proofs.Looping.{Turning, PartTo, loop_signed, loop_begun, part-signed, loop_again, loop_less, loop_shut, loop_told, counted-as, counted-more}
+use Rattle.jsoncount.proofs.Looping.{Turning, PartTo, loop_signed, loop_begun, part-signed, loop_again, loop_less, loop_told, counted-as, counted-more}
 
 -- ---- items
 
@@ -27,8 +27,8 @@ unfolding sizes item_size counted item_parts
 sizes-items [] = refl
 sizes-items (j ∷ js) = ap (λ (c : Count). item_size j ⊞ c) (sizes-items js) ∙ sum_assoc a_member (counted j) (counted_items (item_parts js))
 
-abbrev pub Items : List ℕ → ℕ → ℕ → Tally → Tally → ℕ → Option ℕ → Type 0
-Items line at levels t tally e part = Turning 93 (Item (value levels)) item_size line at t (array (value levels) (drop at line)) tally e part
+abbrev pub Items : List ℕ → ℕ → ℕ → Tally → Tally → Result ℕ ℕ → Type 0
+Items line at levels t tally part = Turning 93 (Item (value levels)) item_size line at t (array (value levels) (drop at line)) tally part
 
 items-listed : (line : List ℕ) (at levels : ℕ) (what : List J) (rest : List ℕ) → array (value levels) (drop at line) ≡ got what rest → Listed 93 (Item (value levels)) (drop at line) what rest
 items-listed line at levels what rest e = array-listed (value levels) (drop at line) e
@@ -37,10 +37,10 @@ module _ (levels : ℕ) {line : List ℕ} {at : ℕ} (g : Good line at (array (v
   pub items-signed : Signed line at
   items-signed = loop_signed 93 (Item (value levels)) item_size (items-listed line at levels) g
 
-  pub items-begun : {t : Tally} {x : Option ℕ} → BeginTold line at 93 x → Items line at levels t t at x
+  pub items-begun : {t : Tally} {x : Result ℕ ℕ} → BeginTold line at 93 x → Items line at levels t t x
   items-begun b = loop_begun 93 (Item (value levels)) item_size (items-listed line at levels) g b
 
-module _ (levels : ℕ) {line : List ℕ} {at i e' : ℕ} {t tally : Tally} {y : Option ℕ} (g : Items line at levels t tally e' y) (z : y ≡ Some i) where
+module _ (levels : ℕ) {line : List ℕ} {at i : ℕ} {t tally : Tally} {y : Result ℕ ℕ} (g : Items line at levels t tally y) (z : y ≡ Ok i) where
   pub items-good : Good line i (value levels (drop i line))
   items-good = let k = g.next i z in let n = turn 93 (Item (value levels)) k.run in record { what = n.what; rest = n.after; within = k.within; is = n.part }
 
@@ -52,19 +52,15 @@ module _ (levels : ℕ) {line : List ℕ} {at i e' : ℕ} {t tally : Tally} {y :
     pub items-after : Signed line e
     items-after = part-signed 93 (Item (value levels)) item_size (g.next i z) one
 
-    module _ {x : Option ℕ} (b : PartTold line e 93 x) where
-      pub items-again : Items line at levels t r e x
+    module _ {x : Result ℕ ℕ} (b : PartTold line e 93 x) where
+      pub items-again : Items line at levels t r x
       items-again = loop_again 93 (Item (value levels)) item_size (g.next i z) one b
 
       pub items-less : ahead line x < ahead line y
       items-less = loop_less 93 (Item (value levels)) item_size (g.next i z) one b z
 
-module _ (levels : ℕ) {line : List ℕ} {at e : ℕ} {t tally : Tally} {x : Option ℕ} (g : Items line at levels t tally e x) (z : x ≡ None) where
-  pub items-shut : Signed line e
-  items-shut = loop_shut 93 (Item (value levels)) item_size g z
-
-  pub items-told : {v : Tally} {k : ℕ} → Adds tally a_value v → Behind line e k → CountedTo line at t v k (array (value levels) (drop at line)) array_size
-  items-told l h = counted-more (counted-as sizes-items (loop_told 93 (Item (value levels)) item_size g z h)) l
+pub items-told : (levels : ℕ) {line : List ℕ} {at k : ℕ} {t tally v : Tally} {x : Result ℕ ℕ} → Items line at levels t tally x → x ≡ Err k → Adds tally a_value v → CountedTo line at t v k (array (value levels) (drop at line)) array_size
+items-told levels g z l = counted-more (counted-as sizes-items (loop_told 93 (Item (value levels)) item_size g z)) l
 
 -- ---- members
 
@@ -79,8 +75,8 @@ sizes-members (m ∷ ms) =
     ∙ sum_assoc a_member (a_string m.0 ⊞ counted m.1) (counted_members (member_parts ms))
     ∙ ap (λ (c : Count). a_member ⊞ c) (sum_assoc (a_string m.0) (counted m.1) (counted_members (member_parts ms)))
 
-abbrev pub Members : List ℕ → ℕ → ℕ → Tally → Tally → ℕ → Option ℕ → Type 0
-Members line at levels t tally e part = Turning 125 (Part levels) member_size line at t (object_read levels (drop at line)) tally e part
+abbrev pub Members : List ℕ → ℕ → ℕ → Tally → Tally → Result ℕ ℕ → Type 0
+Members line at levels t tally part = Turning 125 (Part levels) member_size line at t (object_read levels (drop at line)) tally part
 
 members-listed : (line : List ℕ) (at levels : ℕ) (what : List (List ℕ × J)) (rest : List ℕ) → object_read levels (drop at line) ≡ got what rest → Listed 125 (Part levels) (drop at line) what rest
 unfolding object_read
@@ -90,10 +86,10 @@ module _ (levels : ℕ) {line : List ℕ} {at : ℕ} (g : Good line at (object_r
   pub members-signed : Signed line at
   members-signed = loop_signed 125 (Part levels) member_size (members-listed line at levels) g
 
-  pub members-begun : {t : Tally} {x : Option ℕ} → BeginTold line at 125 x → Members line at levels t t at x
+  pub members-begun : {t : Tally} {x : Result ℕ ℕ} → BeginTold line at 125 x → Members line at levels t t x
   members-begun b = loop_begun 125 (Part levels) member_size (members-listed line at levels) g b
 
-module _ (levels : ℕ) {line : List ℕ} {at i e' : ℕ} {t tally : Tally} {y : Option ℕ} (g : Members line at levels t tally e' y) (z : y ≡ Some i) where
+module _ (levels : ℕ) {line : List ℕ} {at i : ℕ} {t tally : Tally} {y : Result ℕ ℕ} (g : Members line at levels t tally y) (z : y ≡ Ok i) where
   pub members-name : Good line i (string (drop i line))
   members-name = let k = g.next i z in let n = turn 125 (Part levels) k.run in record { what = n.what.0; rest = n.part.after; within = k.within; is = n.part.name }
 
@@ -124,16 +120,12 @@ module _ (levels : ℕ) {line : List ℕ} {at i e' : ℕ} {t tally : Tally} {y :
         pub members-after : Signed line e
         members-after = part-signed 125 (Part levels) member_size (g.next i z) member-one
 
-        module _ {x : Option ℕ} (b : PartTold line e 125 x) where
-          pub members-again : Members line at levels t r e x
+        module _ {x : Result ℕ ℕ} (b : PartTold line e 125 x) where
+          pub members-again : Members line at levels t r x
           members-again = loop_again 125 (Part levels) member_size (g.next i z) member-one b
 
           pub members-less : ahead line x < ahead line y
           members-less = loop_less 125 (Part levels) member_size (g.next i z) member-one b z
 
-module _ (levels : ℕ) {line : List ℕ} {at e : ℕ} {t tally : Tally} {x : Option ℕ} (g : Members line at levels t tally e x) (z : x ≡ None) where
-  pub members-shut : Signed line e
-  members-shut = loop_shut 125 (Part levels) member_size g z
-
-  pub members-told : {v : Tally} {k : ℕ} → Adds tally a_value v → Behind line e k → CountedTo line at t v k (object_read levels (drop at line)) object_size
-  members-told l h = counted-more (counted-as sizes-members (loop_told 125 (Part levels) member_size g z h)) l
+pub members-told : (levels : ℕ) {line : List ℕ} {at k : ℕ} {t tally v : Tally} {x : Result ℕ ℕ} → Members line at levels t tally x → x ≡ Err k → Adds tally a_value v → CountedTo line at t v k (object_read levels (drop at line)) object_size
+members-told levels g z l = counted-more (counted-as sizes-members (loop_told 125 (Part levels) member_size g z)) l

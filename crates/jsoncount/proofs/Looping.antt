@@ -5,14 +5,14 @@ use Prim.Native.Nat.{ℕ, ◌<◌, ◌≤◌}
 use native.Mathlib.Omega.{arith}
 use lib.ListN.{length, drop}
 use borrow.Author.Tests.{eq-eqb, ne_eqb}
-use Rattle.std.proofs.Common.{Option, Some, None}
+use Rattle.std.specs.Prelude.{Result, Ok, Err}
 use Rattle.jsontext.specs.Reading.{Read, got, mapped, blanks}
 use Rattle.jsonread.proofs.Spelling.{came}
 use Rattle.jsontrace.specs.Count.{Count, ◌⊞◌}
-use Rattle.jsonruns.specs.Good.{Good, Signed, Behind, Closes, BeginTold, PartTold}
+use Rattle.jsonruns.specs.Good.{Good, Signed, BeginTold, PartTold}
 use Rattle.jsonruns.specs.Run.{Run, Listed}
 use Rattle.jsonruns.proofs.Runs.{same-got, same_rest, Turn, turn}
-use Rattle.jsonruns.proofs.Signs.{closed-left, closed-signed, ahead, ahead-less}
+use Rattle.jsonruns.proofs.Signs.{ahead, ahead-less}
 use Rattle.jsoncount.specs.declared.tallies.Tally.{Tally}
 use Rattle.jsoncount.specs.Tally.{Adds, sizes, CountedTo}
 use Rattle.jsoncount.proofs.Sums.{adds_then, adds_none, adds-as, sum-none}
@@ -38,16 +38,10 @@ module _ {A : Type 0} (close : ℕ) (Part : List ℕ → A → List ℕ → Type
     pub is : (a : A) (t : List ℕ) → Part (drop i line) a t → t ≡ drop e line
     pub adds : (a : A) (t : List ℕ) → Part (drop i line) a t → Adds tally (size a) after
 
-  -- all is counted, and the bracket closes past e
-  pub record Done (line : List ℕ) (at : ℕ) (t : Tally) (m : Read (List A)) (tally : Tally) (e : ℕ) : Type 0 where
-    pub within : e ≤ length line
-    pub closes : Closes line e close
-    pub told : (k : ℕ) → Behind line e k → CountedTo line at t tally k m (sizes size)
-
-  -- a part stands behind e, or the bracket closes there
-  pub record Turning (line : List ℕ) (at : ℕ) (t : Tally) (m : Read (List A)) (tally : Tally) (e : ℕ) (part : Option ℕ) : Type 0 where
-    pub next : (i : ℕ) → part ≡ Some i → Looping line at t m tally i
-    pub closed : part ≡ None → Done line at t m tally e
+  -- a part is left, or all is counted where the bracket closed
+  pub record Turning (line : List ℕ) (at : ℕ) (t : Tally) (m : Read (List A)) (tally : Tally) (part : Result ℕ ℕ) : Type 0 where
+    pub next : (i : ℕ) → part ≡ Ok i → Looping line at t m tally i
+    pub closed : (k : ℕ) → part ≡ Err k → CountedTo line at t tally k m (sizes size)
 
   module _ {line : List ℕ} {at : ℕ} {m : Read (List A)} (law : (what : List A) (rest : List ℕ) → m ≡ got what rest → Listed close Part (drop at line) what rest) (g : Good line at m) where
     listed : Listed close Part (drop at line) g.what g.rest
@@ -56,11 +50,12 @@ module _ {A : Type 0} (close : ℕ) (Part : List ℕ → A → List ℕ → Type
     pub loop_signed : Signed line at
     loop_signed = record { within = g.within; sign = listed.first; rest = listed.others; is = listed.byte }
 
-    module _ {x : Option ℕ} (b : BeginTold line at close x) where
-      loop_empty : {t : Tally} {k : ℕ} → x ≡ None → Behind line at k → CountedTo line at t t k m (sizes size)
+    module _ {x : Result ℕ ℕ} (b : BeginTold line at close x) where
+      loop_empty : {t : Tally} {k : ℕ} → x ≡ Err k → CountedTo line at t t k m (sizes size)
       unfolding sizes
-      loop_empty {t} {k} z h =
-          let c = closed-left (b.closed z) h in
+      loop_empty {t} {k} z =
+          let h = b.closed k z in
+          let c = h.is in
           record {
             from = omega (arith, h.from);
             within = h.within;
@@ -76,7 +71,7 @@ module _ {A : Type 0} (close : ℕ) (Part : List ℕ → A → List ℕ → Type
                 rw (l.none (eq-eqb l.first close cc)) (adds_none t);
           }
 
-      loop_start : {t : Tally} {i : ℕ} → x ≡ Some i → Looping line at t m t i
+      loop_start : {t : Tally} {i : ℕ} → x ≡ Ok i → Looping line at t m t i
       loop_start {t} {i} z =
           let k = b.next i z in
           record {
@@ -90,8 +85,8 @@ module _ {A : Type 0} (close : ℕ) (Part : List ℕ → A → List ℕ → Type
             adds = λ f h. h;
           }
 
-      pub loop_begun : {t : Tally} → Turning line at t m t at x
-      loop_begun = record { next = λ i z. loop_start z; closed = λ z. record { within = g.within; closes = b.closed z; told = λ k h. loop_empty z h } }
+      pub loop_begun : {t : Tally} → Turning line at t m t x
+      loop_begun = record { next = λ i z. loop_start z; closed = λ k z. loop_empty z }
 
   module _ {line : List ℕ} {at i e : ℕ} {t tally after : Tally} {m : Read (List A)} (g : Looping line at t m tally i) (p : PartTo line i tally e after) where
     now : Turn close Part (drop i line) g.left g.rest
@@ -103,11 +98,12 @@ module _ {A : Type 0} (close : ℕ) (Part : List ℕ → A → List ℕ → Type
     pub part-signed : Signed line e
     part-signed = record { within = p.within; sign = now.sign; rest = now.others; is = sign-here }
 
-    module _ {x : Option ℕ} (b : PartTold line e close x) where
-      loop_closed : {k : ℕ} → x ≡ None → Behind line e k → CountedTo line at t after k m (sizes size)
+    module _ {x : Result ℕ ℕ} (b : PartTold line e close x) where
+      loop_closed : {k : ℕ} → x ≡ Err k → CountedTo line at t after k m (sizes size)
       unfolding sizes
-      loop_closed {k} y h =
-          let same = sym sign-here ∙ closed-left (b.closed y) h in
+      loop_closed {k} y =
+          let h = b.closed k y in
+          let same = sym sign-here ∙ h.is in
           let z : now.sign ≡ close = cc in
           let added : Adds tally (sizes size g.left) after = rw (now.alone z) (rw (sum-none (size now.what)) (p.adds now.what now.after now.part)) in
           record {
@@ -117,7 +113,7 @@ module _ {A : Type 0} (close : ℕ) (Part : List ℕ → A → List ℕ → Type
             adds = λ what rest f. subst (λ (w : List A). Adds t (sizes size w) after) (same-got g.is f) (g.adds after added);
           }
 
-      loop_next : {j : ℕ} → x ≡ Some j → Looping line at t m after j
+      loop_next : {j : ℕ} → x ≡ Ok j → Looping line at t m after j
       unfolding sizes
       loop_next {j} y =
           let c = b.next j y in
@@ -133,19 +129,15 @@ module _ {A : Type 0} (close : ℕ) (Part : List ℕ → A → List ℕ → Type
             adds = λ f h. g.adds f (rw o.all-is (adds_then (p.adds now.what now.after now.part) h));
           }
 
-      pub loop_again : Turning line at t m after e x
-      loop_again = record { next = λ j y. loop_next y; closed = λ y. record { within = p.within; closes = b.closed y; told = λ k h. loop_closed y h } }
+      pub loop_again : Turning line at t m after x
+      loop_again = record { next = λ j y. loop_next y; closed = λ k y. loop_closed y }
 
-      pub loop_less : {y : Option ℕ} → y ≡ Some i → ahead line x < ahead line y
+      pub loop_less : {y : Result ℕ ℕ} → y ≡ Ok i → ahead line x < ahead line y
       loop_less z = ahead-less line z b p.from
 
   -- the bracket closes
-  module _ {line : List ℕ} {at e : ℕ} {t tally : Tally} {m : Read (List A)} {x : Option ℕ} (g : Turning line at t m tally e x) (z : x ≡ None) where
-    pub loop_shut : Signed line e
-    loop_shut = closed-signed (g.closed z).within (g.closed z).closes
-
-    pub loop_told : {k : ℕ} → Behind line e k → CountedTo line at t tally k m (sizes size)
-    loop_told {k} h = (g.closed z).told k h
+  pub loop_told : {line : List ℕ} {at k : ℕ} {t tally : Tally} {m : Read (List A)} {x : Result ℕ ℕ} → Turning line at t m tally x → x ≡ Err k → CountedTo line at t tally k m (sizes size)
+  loop_told {k = k} g z = g.closed k z
 
 -- the same counts, said otherwise
 pub counted-as : {A : Type 0} {line : List ℕ} {at e : ℕ} {t u : Tally} {m : Read A} {f h : A → Count} → ((a : A) → f a ≡ h a) → CountedTo line at t u e m f → CountedTo line at t u e m h

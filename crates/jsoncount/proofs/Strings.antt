@@ -3,12 +3,12 @@ use mathlib.Core.Path.{◌≡◌, refl, ap, ◌∙◌}
 use mathlib.Core.List.{List, [], ◌∷◌}
 use Prim.Native.Nat.{ℕ, ◌<◌}
 use lib.ListN.{length, drop}
-use Rattle.std.proofs.Common.{Option, Some, None}
+use Rattle.std.specs.Prelude.{Result, Ok, Err}
 use Rattle.jsontext.specs.Reading.{got}
 use Rattle.jsontext.specs.Strings.{string}
 use Rattle.jsontext.specs.Values.{text, array}
 use Rattle.jsontrace.specs.Count.{Count, nothing, ◌⊞◌, a_string, list_words, counted_strings}
-use Rattle.jsonruns.specs.Good.{Good, Signed, Behind, BeginTold, PartTold}
+use Rattle.jsonruns.specs.Good.{Good, Signed, BeginTold, PartTold}
 use Rattle.jsonruns.proofs.Signs.{ahead}
 use Rattle.jsonruns.specs.Run.{Item, Listed}
 use Rattle.jsonruns.proofs.Runs.{turn, text-string, array-listed}
@@ -16,7 +16,7 @@ use Rattle.jsoncount.specs.declared.tallies.Tally.{Tally}
 use Rattle.jsoncount.specs.Tally.{Adds, sizes, CountedTo}
 use Rattle.jsoncount.specs.Sizes.{text_size, texts_size}
 use Rattle.jsoncount.proofs.Sums.{sum-swap, words_more, adds_then}
-use Rattle.jsoncount.proofs.Looping.{Turning, PartTo, loop_signed, loop_begun, part-signed, loop_again, loop_less, loop_shut, loop_told, counted-as}
+use Rattle.jsoncount.proofs.Looping.{Turning, PartTo, loop_signed, loop_begun, part-signed, loop_again, loop_less, loop_told, counted-as}
 
 sizes-texts : (ts : List (List ℕ)) → sizes text_size ts ≡ texts_size ts
 unfolding sizes text_size counted_strings
@@ -26,8 +26,8 @@ sizes-texts (t ∷ ts) =
     ∙ sum-swap (a_string t) (list_words 1) (counted_strings ts) (list_words (length ts))
     ∙ ap (λ (c : Count). (a_string t ⊞ counted_strings ts) ⊞ c) (words_more (length ts))
 
-abbrev pub Texts : List ℕ → ℕ → Tally → Tally → ℕ → Option ℕ → Type 0
-Texts line at t tally e part = Turning 93 (Item text) text_size line at t (array text (drop at line)) tally e part
+abbrev pub Texts : List ℕ → ℕ → Tally → Tally → Result ℕ ℕ → Type 0
+Texts line at t tally part = Turning 93 (Item text) text_size line at t (array text (drop at line)) tally part
 
 module _ (line : List ℕ) (at : ℕ) where
   listed : (what : List (List ℕ)) (rest : List ℕ) → array text (drop at line) ≡ got what rest → Listed 93 (Item text) (drop at line) what rest
@@ -37,10 +37,10 @@ module _ {line : List ℕ} {at : ℕ} (g : Good line at (array text (drop at lin
   pub texts-signed : Signed line at
   texts-signed = loop_signed 93 (Item text) text_size (listed line at) g
 
-  pub texts-begun : {t : Tally} {x : Option ℕ} → BeginTold line at 93 x → Texts line at t t at x
+  pub texts-begun : {t : Tally} {x : Result ℕ ℕ} → BeginTold line at 93 x → Texts line at t t x
   texts-begun b = loop_begun 93 (Item text) text_size (listed line at) g b
 
-module _ {line : List ℕ} {at i e' : ℕ} {t tally : Tally} {y : Option ℕ} (g : Texts line at t tally e' y) (z : y ≡ Some i) where
+module _ {line : List ℕ} {at i : ℕ} {t tally : Tally} {y : Result ℕ ℕ} (g : Texts line at t tally y) (z : y ≡ Ok i) where
   pub texts-good : Good line i (string (drop i line))
   texts-good = let k = g.next i z in let n = turn 93 (Item text) k.run in record { what = n.what; rest = n.after; within = k.within; is = text-string (drop i line) n.part }
 
@@ -57,16 +57,12 @@ module _ {line : List ℕ} {at i e' : ℕ} {t tally : Tally} {y : Option ℕ} (g
     pub texts-after : Signed line e
     texts-after = part-signed 93 (Item text) text_size (g.next i z) one
 
-    module _ {x : Option ℕ} (b : PartTold line e 93 x) where
-      pub texts-again : Texts line at t u e x
+    module _ {x : Result ℕ ℕ} (b : PartTold line e 93 x) where
+      pub texts-again : Texts line at t u x
       texts-again = loop_again 93 (Item text) text_size (g.next i z) one b
 
       pub texts-less : ahead line x < ahead line y
       texts-less = loop_less 93 (Item text) text_size (g.next i z) one b z
 
-module _ {line : List ℕ} {at e : ℕ} {t tally : Tally} {x : Option ℕ} (g : Texts line at t tally e x) (z : x ≡ None) where
-  pub texts-shut : Signed line e
-  texts-shut = loop_shut 93 (Item text) text_size g z
-
-  pub texts-told : {k : ℕ} → Behind line e k → CountedTo line at t tally k (array text (drop at line)) texts_size
-  texts-told h = counted-as sizes-texts (loop_told 93 (Item text) text_size g z h)
+pub texts-told : {line : List ℕ} {at k : ℕ} {t tally : Tally} {x : Result ℕ ℕ} → Texts line at t tally x → x ≡ Err k → CountedTo line at t tally k (array text (drop at line)) texts_size
+texts-told g z = counted-as sizes-texts (loop_told 93 (Item text) text_size g z)

@@ -6,7 +6,7 @@ use Prim.Native.Nat.{ℕ, ◌+◌, ◌<◌, ◌≤◌}
 use native.Mathlib.Omega.{arith}
 use lib.Dec.{eqb}
 use lib.ListN.{length, drop, length-drop}
-use Rattle.std.proofs.Common.{Option, Some, None}
+use Rattle.std.specs.Prelude.{Result, Ok, Err}
 use Rattle.meaning.specs.Tests.{choose}
 use Rattle.jsontext.specs.declared.Fault.TheVariants.{BadField}
 use Rattle.jsontext.specs.declared.Form.{Form}
@@ -27,7 +27,7 @@ use Rattle.jsoncount.specs.declared.tallies.Tally.{Tally}
 use Rattle.jsoncount.specs.Tally.{Adds, sizes, CountedTo}
 use Rattle.jsoncount.specs.Sizes.{object_size, object_read, fields_size, entity_read, entity_size}
 use Rattle.jsoncount.proofs.Sums.{sum_assoc, adds_then, adds-as}
-use Rattle.jsoncount.proofs.Looping.{Turning, PartTo, loop_signed, loop_begun, part-signed, loop_again, loop_less, loop_shut, loop_told, counted-as}
+use Rattle.jsoncount.proofs.Looping.{Turning, PartTo, loop_signed, loop_begun, part-signed, loop_again, loop_less, loop_told, counted-as}
 
 -- what stands at a place that holds a known byte, and behind it
 pub byte-below : (line : List ℕ) (at : ℕ) {c : ℕ} {s : List ℕ} → drop at line ≡ c ∷ s → at < length line
@@ -220,8 +220,8 @@ sizes-entities (i ∷ others) =
     ∙ ap (λ (c : Count). a_string i.type ⊞ c) (sum_assoc (a_string i.id) (counted (Object i.attributes) ⊞ list_words 3) (counted_entities others))
     ∙ ap (λ (c : Count). a_string i.type ⊞ a_string i.id ⊞ c) (sum_assoc (counted (Object i.attributes)) (list_words 3) (counted_entities others))
 
-abbrev pub Entities : List ℕ → ℕ → Tally → Tally → ℕ → Option ℕ → Type 0
-Entities line at t tally e part = Turning 93 (ItemOf entity_read) entity_size line at t (array entity_read (drop at line)) tally e part
+abbrev pub Entities : List ℕ → ℕ → Tally → Tally → Result ℕ ℕ → Type 0
+Entities line at t tally part = Turning 93 (ItemOf entity_read) entity_size line at t (array entity_read (drop at line)) tally part
 
 listed : (line : List ℕ) (at : ℕ) (what : List Item) (rest : List ℕ) → array entity_read (drop at line) ≡ got what rest → Listed 93 (ItemOf entity_read) (drop at line) what rest
 listed line at what rest e = array-listed entity_read (drop at line) e
@@ -230,10 +230,10 @@ module _ {line : List ℕ} {at : ℕ} (g : Good line at (array entity_read (drop
   pub entities-signed : Signed line at
   entities-signed = loop_signed 93 (ItemOf entity_read) entity_size (listed line at) g
 
-  pub entities-begun : {t : Tally} {x : Option ℕ} → BeginTold line at 93 x → Entities line at t t at x
+  pub entities-begun : {t : Tally} {x : Result ℕ ℕ} → BeginTold line at 93 x → Entities line at t t x
   entities-begun b = loop_begun 93 (ItemOf entity_read) entity_size (listed line at) g b
 
-module _ {line : List ℕ} {at i e' : ℕ} {t tally : Tally} {y : Option ℕ} (g : Entities line at t tally e' y) (z : y ≡ Some i) where
+module _ {line : List ℕ} {at i : ℕ} {t tally : Tally} {y : Result ℕ ℕ} (g : Entities line at t tally y) (z : y ≡ Ok i) where
   pub entities-good : Good line i (entity_read (drop i line))
   entities-good = let k = g.next i z in let n = turn 93 (ItemOf entity_read) k.run in record { what = n.what; rest = n.after; within = k.within; is = n.part }
 
@@ -244,16 +244,12 @@ module _ {line : List ℕ} {at i e' : ℕ} {t tally : Tally} {y : Option ℕ} (g
     pub entities-after : Signed line e
     entities-after = part-signed 93 (ItemOf entity_read) entity_size (g.next i z) one
 
-    module _ {x : Option ℕ} (b : PartTold line e 93 x) where
-      pub entities-again : Entities line at t r e x
+    module _ {x : Result ℕ ℕ} (b : PartTold line e 93 x) where
+      pub entities-again : Entities line at t r x
       entities-again = loop_again 93 (ItemOf entity_read) entity_size (g.next i z) one b
 
       pub entities-less : ahead line x < ahead line y
       entities-less = loop_less 93 (ItemOf entity_read) entity_size (g.next i z) one b z
 
-module _ {line : List ℕ} {at e : ℕ} {t tally : Tally} {x : Option ℕ} (g : Entities line at t tally e x) (z : x ≡ None) where
-  pub entities-shut : Signed line e
-  entities-shut = loop_shut 93 (ItemOf entity_read) entity_size g z
-
-  pub entities-told : {k : ℕ} → Behind line e k → CountedTo line at t tally k (array entity_read (drop at line)) counted_entities
-  entities-told h = counted-as sizes-entities (loop_told 93 (ItemOf entity_read) entity_size g z h)
+pub entities-told : {line : List ℕ} {at k : ℕ} {t tally : Tally} {x : Result ℕ ℕ} → Entities line at t tally x → x ≡ Err k → CountedTo line at t tally k (array entity_read (drop at line)) counted_entities
+entities-told g z = counted-as sizes-entities (loop_told 93 (ItemOf entity_read) entity_size g z)

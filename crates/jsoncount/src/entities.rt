@@ -36,11 +36,10 @@ pub fn count_entities(line: &[u8], at: usize, tally: &mut Tally) -> usize
     requires { Good line.now at (array entity_read (drop at line.now)) }
     ensures { CountedTo line.now at tally.old tally.new result (array entity_read (drop at line.now)) counted_entities }
 {
-    let mut end = at;
     let mut part = first_part(line, at, b']');
-    while let Some(i) = part {
-        end = count_entity(line, i, tally);
+    while let Ok(i) = part {
+        let end = count_entity(line, i, tally);
         part = part_after(line, end, b']');
     }
-    sign_end(line, end)
+    part.unwrap_err()
 }

@@ -10,7 +10,7 @@ use super::forms::count_form;
 use super::scalars::count_scalar;
 use super::tallies::Tally;
 use jsonread::forms::form_at;
-use jsonruns::{after_sign, first_part, part_after, sign_end};
+use jsonruns::{after_sign, first_part, part_after};
 use jsontext::Form;
 
 // items, after the bracket
@@ -19,15 +19,14 @@ fn count_items(line: &[u8], at: usize, levels: u32, tally: &mut Tally) -> usize
     requires { Good line.now at (array (value levels) (drop at line.now)) }
     ensures { CountedTo line.now at tally.old tally.new result (array (value levels) (drop at line.now)) array_size }
 {
-    let mut end = at;
     let mut part = first_part(line, at, b']');
-    while let Some(i) = part {
+    while let Ok(i) = part {
         tally.add_member();
-        end = count_value(line, i, levels, tally);
+        let end = count_value(line, i, levels, tally);
         part = part_after(line, end, b']');
     }
     tally.add_value();
-    sign_end(line, end)
+    part.unwrap_err()
 }
 
 // members, after the brace
@@ -36,16 +35,15 @@ pub fn count_members(line: &[u8], at: usize, levels: u32, tally: &mut Tally) -> 
     requires { Good line.now at (object_read levels (drop at line.now)) }
     ensures { CountedTo line.now at tally.old tally.new result (object_read levels (drop at line.now)) object_size }
 {
-    let mut end = at;
     let mut part = first_part(line, at, b'}');
-    while let Some(i) = part {
+    while let Ok(i) = part {
         tally.add_member();
         let name_end = tally.add_string(line, i);
-        end = count_value(line, after_sign(line, name_end), levels, tally);
+        let end = count_value(line, after_sign(line, name_end), levels, tally);
         part = part_after(line, end, b'}');
     }
     tally.add_value();
-    sign_end(line, end)
+    part.unwrap_err()
 }
 
 // an object or a form, after the brace

@@ -7,7 +7,7 @@ use native.Mathlib.Omega.{arith}
 use lib.Dec.{ltb}
 use lib.ListN.{length, drop, get_or}
 use borrow.Author.Tests.{ltb-true, ltb-false}
-use Rattle.std.proofs.Common.{Option as Maybe, Some, None}
+use Rattle.std.specs.Prelude.{Result, Ok, Err}
 use Rattle.laws.specs.Lists.{Every}
 use Rattle.jsontext.specs.Reading.{got}
 use Rattle.jsontext.specs.Values.{array}
@@ -138,11 +138,11 @@ pub record Sorting (line : List ℕ) (at : ℕ) (names₀ names : List ℕ) (cou
   pub stop-within : count ≤ length names₀
 
 -- an entity stands at the part, or the bracket closes
-pub record Collecting (line : List ℕ) (at : ℕ) (names₀ names : List ℕ) (count : ℕ) (part : Maybe ℕ) : Type 0 where
-  pub next : (i : ℕ) → part ≡ Some i → Sorting line at names₀ names count i
+pub record Collecting (line : List ℕ) (at : ℕ) (names₀ names : List ℕ) (count : ℕ) (part : Result ℕ ℕ) : Type 0 where
+  pub next : (i : ℕ) → part ≡ Ok i → Sorting line at names₀ names count i
   pub long : length names ≡ length names₀
   pub few : count ≤ length names₀
-  pub told : part ≡ None → Sorted line (array entity_read (drop at line)) names₀ names count
+  pub told : (e : ℕ) → part ≡ Err e → Sorted line (array entity_read (drop at line)) names₀ names count
 
 -- as many cells as entities, at least
 items-named : (is : List Item) → length is ≤ named_entities is
@@ -157,8 +157,8 @@ module _ {line : List ℕ} {at : ℕ} {names : List ℕ} (d : SortDue line at (a
   pub sort_signed : Signed line at
   sort_signed = pass-signed 93 Entity (law line at) d.good
 
-  module _ {x : Maybe ℕ} (b : BeginTold line at 93 x) where
-    sort_empty : x ≡ None → Sorted line (array entity_read (drop at line)) names names 0
+  module _ {x : Result ℕ ℕ} (b : BeginTold line at 93 x) where
+    sort_empty : {e : ℕ} → x ≡ Err e → Sorted line (array entity_read (drop at line)) names names 0
     unfolding ordered_entities
     sort_empty z =
         let n : (what : List Item) (rest : List ℕ) → array entity_read (drop at line) ≡ got what rest → what ≡ [] = λ what rest f. sym (same-got d.good.is f) ∙ pass-none 93 Entity (law line at) d.good b z in
@@ -168,7 +168,7 @@ module _ {line : List ℕ} {at : ℕ} {names : List ℕ} (d : SortDue line at (a
           cells = λ what rest f. rw (n what rest f) none;
         }
 
-    sort_start : {i : ℕ} → x ≡ Some i → Sorting line at names names 0 i
+    sort_start : {i : ℕ} → x ≡ Ok i → Sorting line at names names 0 i
     unfolding Rises
     sort_start {i} z =
         let p = pass-start 93 Entity (law line at) d.good b z in
@@ -187,9 +187,9 @@ module _ {line : List ℕ} {at : ℕ} {names : List ℕ} (d : SortDue line at (a
         }
 
     pub sort_begun : Collecting line at names names 0 x
-    sort_begun = record { next = λ i z. sort_start z; long = refl; few = omega arith; told = λ z. sort_empty z }
+    sort_begun = record { next = λ i z. sort_start z; long = refl; few = omega arith; told = λ e z. sort_empty z }
 
-module _ {line : List ℕ} {at : ℕ} {names₀ names : List ℕ} {count i : ℕ} {y : Maybe ℕ} (start : Collecting line at names₀ names count y) (z : y ≡ Some i) where
+module _ {line : List ℕ} {at : ℕ} {names₀ names : List ℕ} {count i : ℕ} {y : Result ℕ ℕ} (start : Collecting line at names₀ names count y) (z : y ≡ Ok i) where
   abbrev g : Sorting line at names₀ names count i
   g = start.next i z
 
@@ -222,11 +222,11 @@ module _ {line : List ℕ} {at : ℕ} {names₀ names : List ℕ} {count i : ℕ
     pub sort_after : Signed line e
     sort_after = pass-after 93 Entity g.passing ends
 
-    module _ {after : List ℕ} (p : ItemPut line names after count i) {x : Maybe ℕ} (b : PartTold line e 93 x) where
+    module _ {after : List ℕ} (p : ItemPut line names after count i) {x : Result ℕ ℕ} (b : PartTold line e 93 x) where
       put-cells : ItemCells line after 0 (insert_behind (arranged_item head.what) g.sorted)
       put-cells = cells-put p stands 0 g.sorted (omega arith) (omega (arith, g.many_is)) g.cells
 
-      sort_closed : x ≡ None → Sorted line (array entity_read (drop at line)) names₀ after (count + 1)
+      sort_closed : {k : ℕ} → x ≡ Err k → Sorted line (array entity_read (drop at line)) names₀ after (count + 1)
       unfolding insert_items tail head
       sort_closed y =
           let o : tail.others ≡ [] = pass-last 93 Entity g.passing ends b y in
@@ -238,7 +238,7 @@ module _ {line : List ℕ} {at : ℕ} {names₀ names : List ℕ} {count i : ℕ
                 subst (λ (is : List Item). ItemCells line after 0 is) z put-cells;
           }
 
-      sort_next : {j : ℕ} → x ≡ Some j → Sorting line at names₀ after (count + 1) j
+      sort_next : {j : ℕ} → x ≡ Ok j → Sorting line at names₀ after (count + 1) j
       unfolding tail head
       sort_next {j} y = record {
         passing = pass-again 93 Entity g.passing ends b y;
@@ -259,15 +259,15 @@ module _ {line : List ℕ} {at : ℕ} {names₀ names : List ℕ} {count i : ℕ
         next = λ j q. sort_next q;
         long = p.inserted.long ∙ g.long;
         few = omega (arith, sort_room, g.long);
-        told = λ q. sort_closed q;
+        told = λ k q. sort_closed q;
       }
 
-    pub sort_less : {x : Maybe ℕ} → PartTold line e 93 x → ahead line x < ahead line y
+    pub sort_less : {x : Result ℕ ℕ} → PartTold line e 93 x → ahead line x < ahead line y
     sort_less b = ahead-less line z b m.from
 
-module _ {line : List ℕ} {at : ℕ} {names₀ names : List ℕ} {count : ℕ} {x : Maybe ℕ} (g : Collecting line at names₀ names count x) where
+module _ {line : List ℕ} {at : ℕ} {names₀ names : List ℕ} {count : ℕ} {x : Result ℕ ℕ} (g : Collecting line at names₀ names count x) where
   pub sort_long : length names ≡ length names₀
   sort_long = g.long
 
-  pub sort_told : x ≡ None → Sorted line (array entity_read (drop at line)) names₀ names count
-  sort_told z = g.told z
+  pub sort_told : {e : ℕ} → x ≡ Err e → Sorted line (array entity_read (drop at line)) names₀ names count
+  sort_told {e} z = g.told e z

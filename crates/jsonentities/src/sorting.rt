@@ -98,7 +98,7 @@ pub fn sort_entities(line: &[u8], at: usize, names: &mut [u64]) -> usize
 {
     let mut count = 0;
     let mut part = first_part(line, at, b']');
-    while let Some(i) = part {
+    while let Ok(i) = part {
         part = part_after(line, entity_end(line, i), b']');
         keep_entity(line, names, count, i);
         count += 1;

@@ -16,7 +16,7 @@ fn put_spaces(line: &[u8], at: usize, out: &mut [u8], marks: &mut [u8], b: Bodie
     ensures { SpacesWritten (array text (drop at line.now)) out.old out.new marks.old marks.new b next.old next.new }
 {
     let mut part = first_part(line, at, b']');
-    while let Some(i) = part {
+    while let Ok(i) = part {
         let end = put_named(line, i, out, marks, b, next);
         part = part_after(line, end, b']');
     }

@@ -8,7 +8,7 @@ use native.Mathlib.Omega.{arith}
 use lib.Dec.{eqb}
 use lib.ListN.{length, drop, get_or, set, length-set, length-drop}
 use borrow.Author.Tests.{eq-eqb}
-use Rattle.std.proofs.Common.{Option as Maybe, Some, None}
+use Rattle.std.specs.Prelude.{Result, Ok, Err}
 use Rattle.jsontext.specs.declared.Fault.TheVariants.{BadField}
 use Rattle.jsontext.specs.Reading.{got, blanks, want}
 use Rattle.jsontext.specs.Numbers.{number}
@@ -17,7 +17,7 @@ use Rattle.jsontext.specs.Events.{Event, Field, Time, Namespace, Action, Kind, L
 use Rattle.jsonread.specs.Told.{Blanks}
 use Rattle.jsonread.proofs.Places.{byte_at}
 use Rattle.jsonread.proofs.Spelling.{never}
-use Rattle.jsonruns.specs.Good.{Good, Signed, Closes, BeginTold, PartTold}
+use Rattle.jsonruns.specs.Good.{Good, Signed, ClosedAt, BeginTold, PartTold}
 use Rattle.jsonruns.proofs.Signs.{ahead, ahead-less}
 use Rattle.jsonruns.specs.Run.{Run}
 use Rattle.jsonruns.proofs.Runs.{then_of, due_of, wanted, same-got, object-listed, Turn, turn}
@@ -118,10 +118,10 @@ pub record Placing (line : List ℕ) (at i : ℕ) (places : List ℕ) : Type 0 w
   pub kept : (k : ℕ) → SlotKept line (get_or places k 0) k all left
 
 -- a member stands at the part, or the bracket closes and all are placed
-pub record PlacingAt (line : List ℕ) (at : ℕ) (part : Maybe ℕ) (places : List ℕ) : Type 0 where
-  pub next : (i : ℕ) → part ≡ Some i → Placing line at i places
+pub record PlacingAt (line : List ℕ) (at : ℕ) (part : Result ℕ ℕ) (places : List ℕ) : Type 0 where
+  pub next : (i : ℕ) → part ≡ Ok i → Placing line at i places
   pub nine : length places ≡ 9
-  pub told : part ≡ None → EventTold line at (fields_from places)
+  pub told : (e : ℕ) → part ≡ Err e → EventTold line at (fields_from places)
 
 zeros : (k : ℕ) → ◌≡◌ {A = ℕ} (get_or (0 ∷ 0 ∷ 0 ∷ 0 ∷ 0 ∷ 0 ∷ 0 ∷ 0 ∷ 0 ∷ []) k 0) 0
 zeros zero = refl
@@ -172,7 +172,7 @@ module _ {line : List ℕ} {at : ℕ} (g : Good line at (event_of (drop at line)
       record { within = g.within; sign = l.first; rest = l.others; is = l.byte }
 
   -- an event has members
-  place-some : Closes line at 125 → ⊥
+  place-some : {e : ℕ} → ClosedAt line at 125 e → ⊥
   unfolding event_of
   place-some c =
       let o = then_of (object (is_field field_readers) (field_by field_readers) (drop at line)) g.is in
@@ -182,14 +182,14 @@ module _ {line : List ℕ} {at : ℕ} (g : Good line at (event_of (drop at line)
       let n : o.what ≡ [] = l.none (eq-eqb l.first 125 cc) in
       no-event (sym (ap (λ (ms : List (List ℕ × Field)). whole (found ms)) n) ∙ m)
 
-  pub place-begun : {x : Maybe ℕ} → BeginTold line at 125 x → PlacingAt line at x (0 ∷ 0 ∷ 0 ∷ 0 ∷ 0 ∷ 0 ∷ 0 ∷ 0 ∷ 0 ∷ [])
+  pub place-begun : {x : Result ℕ ℕ} → BeginTold line at 125 x → PlacingAt line at x (0 ∷ 0 ∷ 0 ∷ 0 ∷ 0 ∷ 0 ∷ 0 ∷ 0 ∷ 0 ∷ [])
   place-begun b = record {
     next = λ i z. let c = b.next i z in place-start g (record { from = c.from; within = c.within; is = c.is });
     nine = refl;
-    told = λ z. absurd (place-some (b.closed z));
+    told = λ e z. absurd (place-some (b.closed e z));
   }
 
-module _ {line : List ℕ} {at i : ℕ} {places : List ℕ} {y : Maybe ℕ} (start : PlacingAt line at y places) (z₀ : y ≡ Some i) where
+module _ {line : List ℕ} {at i : ℕ} {places : List ℕ} {y : Result ℕ ℕ} (start : PlacingAt line at y places) (z₀ : y ≡ Ok i) where
   abbrev g : Placing line at i places
   g = start.next i z₀
 
@@ -216,14 +216,14 @@ module _ {line : List ℕ} {at i : ℕ} {places : List ℕ} {y : Maybe ℕ} (sta
           (keep_all {all = g.all} {others = others} t entry places g.long
           (λ n. subst (λ (ms : List (List ℕ × Field)). SlotKept line (get_or places n 0) n g.all ms) z (g.kept n)) k)
 
-      module _ {x : Maybe ℕ} (b : PartTold line r.end 125 x) where
-        place-closed : {f : Fields} → x ≡ None → f ≡ fields_from (set places r.field p) → EventTold line at f
-        place-closed {f} u z =
-            let same = sym sign-here ∙ (b.closed u).is in
+      module _ {x : Result ℕ ℕ} (b : PartTold line r.end 125 x) where
+        place-closed : {f : Fields} {k : ℕ} → x ≡ Err k → f ≡ fields_from (set places r.field p) → EventTold line at f
+        place-closed {f} {k} u z =
+            let same = sym sign-here ∙ (b.closed k u).is in
             let last : now.sign ≡ 125 = cc in
             record { is = λ v rest h. subst (λ (u : Event). FieldsStand line f u) (same-got g.is h) (rw z (fields-stand (set places r.field p) g.made (kept-now (now.alone last)))) }
 
-        place-next : {j : ℕ} → x ≡ Some j → Placing line at j (set places r.field p)
+        place-next : {j : ℕ} → x ≡ Ok j → Placing line at j (set places r.field p)
         place-next {j} u =
             let c = b.next j u in
             let o = now.next (c.other now.sign now.others sign-here) in
@@ -242,15 +242,15 @@ module _ {line : List ℕ} {at i : ℕ} {places : List ℕ} {y : Maybe ℕ} (sta
             }
 
         pub place-again : PlacingAt line at x (set places r.field p)
-        place-again = record { next = λ j u. place-next u; nine = length-set places r.field p ∙ g.long; told = λ u. place-closed u refl }
+        place-again = record { next = λ j u. place-next u; nine = length-set places r.field p ∙ g.long; told = λ k u. place-closed u refl }
 
         pub place-less : ahead line x < ahead line y
         place-less = ahead-less line z₀ b (omega (arith, t.far, t.from))
 
-pub place-told : {line places : List ℕ} {at : ℕ} {x : Maybe ℕ} {f : Fields} → PlacingAt line at x places → x ≡ None → f ≡ fields_from places → EventTold line at f
-place-told g z e = rw e (g.told z)
+pub place-told : {line places : List ℕ} {at : ℕ} {x : Result ℕ ℕ} {f : Fields} {k : ℕ} → PlacingAt line at x places → x ≡ Err k → f ≡ fields_from places → EventTold line at f
+place-told {k = k} g z e = rw e (g.told k z)
 
-pub place-nine : {line places : List ℕ} {at : ℕ} {x : Maybe ℕ} → PlacingAt line at x places → length places ≡ 9
+pub place-nine : {line places : List ℕ} {at : ℕ} {x : Result ℕ ℕ} → PlacingAt line at x places → length places ≡ 9
 place-nine g = g.nine
 
 -- ---- a line

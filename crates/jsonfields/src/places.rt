@@ -65,7 +65,7 @@ fn event_fields(line: &[u8], at: usize) -> Fields
 {
     let mut places = [0; 9];
     let mut part = first_part(line, at, b'}');
-    while let Some(i) = part {
+    while let Ok(i) = part {
         let m = entry_of(line, i);
         places[m.field] = first_place(places[m.field], m.value);
         part = part_after(line, m.end, b'}');

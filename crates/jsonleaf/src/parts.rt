@@ -10,7 +10,7 @@ use jsonadds::Many;
 use jsonends::value_end;
 use jsonnames::runs::gather;
 use jsonroom::Next;
-use jsonruns::{after_sign, first_part, part_after, sign_end, string_end};
+use jsonruns::{after_sign, first_part, part_after, string_end};
 use jsonsort::keep;
 
 // the run of so many parts is left free
@@ -27,16 +27,15 @@ pub fn count_items(line: &[u8], at: usize, levels: u32) -> Many
     ensures { CountTold line.now at (array (value levels) (drop at line.now)) result }
 {
     let mut count = 0;
-    let mut end = at;
     let mut part = first_part(line, at, b']');
-    while let Some(i) = part {
+    while let Ok(i) = part {
         count += 1;
-        end = value_end(line, i, levels);
+        let end = value_end(line, i, levels);
         part = part_after(line, end, b']');
     }
     Many {
         count,
-        end: sign_end(line, end),
+        end: part.unwrap_err(),
     }
 }
 
@@ -55,17 +54,16 @@ fn collect_names(line: &[u8], at: usize, levels: u32, names: &mut [u64], used: u
     ensures { CollectTold levels line.now at (object_read levels (drop at line.now)) names.old names.new used result }
 {
     let mut count = 0;
-    let mut end = at;
     let mut part = first_part(line, at, b'}');
-    while let Some(i) = part {
-        end = member_end(line, i, levels);
+    while let Ok(i) = part {
+        let end = member_end(line, i, levels);
         part = part_after(line, end, b'}');
         keep(line, names, used, used + count, i);
         count += 1;
     }
     Many {
         count,
-        end: sign_end(line, end),
+        end: part.unwrap_err(),
     }
 }
 

@@ -8,7 +8,7 @@ use lib.ListN.{length, drop, length-append, length-map}
 use mir.Val.{Fits}
 use mir.Syntax.{w64}
 use borrow.Author.Tests.{eq-eqb, ne_eqb}
-use Rattle.std.proofs.Common.{Option, Some, None}
+use Rattle.std.specs.Prelude.{Result, Ok, Err}
 use Rattle.meaning.specs.Case.{places}
 use Rattle.encode.proofs.Laws.Unsorted.{places-long}
 use Rattle.jsontext.specs.declared.Fault.TheVariants.{BadField}
@@ -64,14 +64,14 @@ adds-nothing file marks b n = mark-none empty refl (adds_none file b n)
 -- ---- the loop
 
 -- what is written from here on is written of the whole
-pub record Spacing (line : List ℕ) (at : ℕ) (before file marks₀ marks : List ℕ) (b : Bodies) (n next : Next) (part : Option ℕ) : Type 0 where
+pub record Spacing (line : List ℕ) (at : ℕ) (before file marks₀ marks : List ℕ) (b : Bodies) (n next : Next) (part : Result ℕ ℕ) : Type 0 where
   what : List (List ℕ)
   rest : List ℕ
   is : array text (drop at line) ≡ got what rest
   left : List (List ℕ)
-  none : part ≡ None → left ≡ []
-  within : (i : ℕ) → part ≡ Some i → i ≤ length line
-  run : (i : ℕ) → part ≡ Some i → Run 93 (Item text) (drop i line) left rest
+  none : (e : ℕ) → part ≡ Err e → left ≡ []
+  within : (i : ℕ) → part ≡ Ok i → i ≤ length line
+  run : (i : ℕ) → part ≡ Ok i → Run 93 (Item text) (drop i line) left rest
   ready : MarkReady file marks b next (space_tables left (numbers next))
   adds : (after marks' : List ℕ) (m : Next) → MarkAdds file after marks marks' b next (space_tables left (numbers next)) m → MarkAdds before after marks₀ marks' b n (space_tables what (numbers n)) m
   out-long : length file ≡ length before
@@ -84,13 +84,13 @@ module _ {line : List ℕ} {at : ℕ} {file marks : List ℕ} {b : Bodies} {n : 
   pub spaces-signed : Signed line at
   spaces-signed = record { within = d.within; sign = all_listed.first; rest = all_listed.others; is = all_listed.byte }
 
-  pub spaces-start : {x : Option ℕ} → BeginTold line at 93 x → Spacing line at file file marks marks b n n x
+  pub spaces-start : {x : Result ℕ ℕ} → BeginTold line at 93 x → Spacing line at file file marks marks b n n x
   spaces-start t = record {
     what = d.what;
     rest = d.rest;
     is = d.is;
     left = d.what;
-    none = λ y. let same = sym all_listed.byte ∙ (t.closed y).is in all_listed.none (eq-eqb all_listed.first 93 cc);
+    none = λ e y. let same = sym all_listed.byte ∙ (t.closed e y).is in all_listed.none (eq-eqb all_listed.first 93 cc);
     within = λ i y. (t.next i y).within;
     run = λ i y. let c = t.next i y in subst (λ (u : List ℕ). Run 93 (Item text) u d.what d.rest) (sym c.is) (all_listed.run (ne_eqb all_listed.first 93 (c.other all_listed.first all_listed.others all_listed.byte)));
     ready = d.ready;
@@ -99,23 +99,23 @@ module _ {line : List ℕ} {at : ℕ} {file marks : List ℕ} {b : Bodies} {n : 
     marks-long = refl;
   }
 
-module _ {line : List ℕ} {at : ℕ} {before file marks₀ marks : List ℕ} {b : Bodies} {n next : Next} {part : Option ℕ} (g : Spacing line at before file marks₀ marks b n next part) where
+module _ {line : List ℕ} {at : ℕ} {before file marks₀ marks : List ℕ} {b : Bodies} {n next : Next} {part : Result ℕ ℕ} (g : Spacing line at before file marks₀ marks b n next part) where
   pub spaces-long : length file ≡ length before
   spaces-long = g.out-long
 
   pub spaces-marks : length marks ≡ length marks₀
   spaces-marks = g.marks-long
 
-  pub spaces-end : part ≡ None → SpacesWritten (array text (drop at line)) before file marks₀ marks b n next
-  spaces-end y = record {
+  pub spaces-end : {e : ℕ} → part ≡ Err e → SpacesWritten (array text (drop at line)) before file marks₀ marks b n next
+  spaces-end {e} y = record {
     adds =
         λ what rest f.
-        let u : space_tables g.left (numbers next) ≡ empty = ap (λ (ts : List (List ℕ)). space_tables ts (numbers next)) (g.none y) ∙ space-none (numbers next) in
+        let u : space_tables g.left (numbers next) ≡ empty = ap (λ (ts : List (List ℕ)). space_tables ts (numbers next)) (g.none e y) ∙ space-none (numbers next) in
         subst (λ (ts : List (List ℕ)). MarkAdds before file marks₀ marks b n (space_tables ts (numbers n)) next) (same-got g.is f)
         (g.adds file marks next (subst (λ (v : Tables). MarkAdds file file marks marks b next v next) (sym u) (adds-nothing file marks b next)));
   }
 
-  module _ {i : ℕ} (y : part ≡ Some i) where
+  module _ {i : ℕ} (y : part ≡ Ok i) where
     here : Turn 93 (Item text) (drop i line) g.left g.rest
     here = turn 93 (Item text) (g.run i y)
 
@@ -163,15 +163,15 @@ module _ {line : List ℕ} {at : ℕ} {before file marks₀ marks : List ℕ} {b
           (mark-then now (later (past (numbers next) now)) (shaped-name here.what (numbers next)) (shaped-spaces more.others _) named-adds
           (subst (λ (c : Next-as_Trace). MarkAdds after last marks' marks'' b m (later c) k) next-numbers p)))
 
-      module _ {x : Option ℕ} (t : PartTold line e 93 x) where
-        over : x ≡ None → more.others ≡ []
-        over z =
-            let same = sym sign-here ∙ (t.closed z).is in
+      module _ {x : Result ℕ ℕ} (t : PartTold line e 93 x) where
+        over : (k : ℕ) → x ≡ Err k → more.others ≡ []
+        over k z =
+            let same = sym sign-here ∙ (t.closed k z).is in
             let c : here.sign ≡ 93 = cc in
             let a = sym more.is ∙ here.alone c in
             cc
 
-        goes-run : (j : ℕ) → x ≡ Some j → Run 93 (Item text) (drop j line) more.others g.rest
+        goes-run : (j : ℕ) → x ≡ Ok j → Run 93 (Item text) (drop j line) more.others g.rest
         goes-run j h =
             let c = t.next j h in
             let o = here.next (c.other here.sign here.others sign-here) in

@@ -38,7 +38,7 @@ fn put_items(
     after_run(next, count);
     let mut k = 0;
     let mut part = first_part(line, at, b']');
-    while let Some(i) = part {
+    while let Ok(i) = part {
         let end = write_value(line, i, levels, names, used, out, b, next);
         put_part(out, b, first + k, NO_NAME, *next);
         k += 1;

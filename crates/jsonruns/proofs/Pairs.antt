@@ -8,6 +8,7 @@ use native.Mathlib.Omega.{arith}
 use lib.Dec.{eqb}
 use lib.ListN.{length, drop}
 use Rattle.std.proofs.Common.{IsSome, Option as Place, Some, None, unwrap_or}
+use Rattle.std.specs.Prelude.{Result, Ok, Err}
 use Rattle.meaning.specs.Tests.{◌and◌, ◌or◌, choose}
 use Rattle.laws.specs.Tests.{yes, no as otherwise}
 use Rattle.meaning.specs.Equal.{same_list}
@@ -21,9 +22,10 @@ use Rattle.jsonspelt.specs.Spelt.{SpeltTold}
 use Rattle.jsonread.specs.Told.{Blanks}
 use Rattle.jsonread.specs.Spelling.{WordTold}
 use Rattle.jsonread.proofs.Spelling.{never}
-use Rattle.jsonruns.specs.Good.{Good, Ends, Signed, Past, Behind, PartTold}
+use Rattle.jsonruns.specs.Good.{Good, Ends, Signed, Past, PartTold}
 use Rattle.jsonruns.specs.Run.{Run, Member}
 use Rattle.jsonruns.specs.Forms.{first_name, second_name, one_of, under, form_of, pair_read, Says, TwoTold, FirstTold, kept_place, Kept}
+use Rattle.jsonruns.proofs.Signs.{closed-behind}
 use Rattle.jsonruns.proofs.Runs.{same-got, same_rest, then_of, text-string, object-listed, Turn, turn}
 
 -- ---- small ones
@@ -194,8 +196,8 @@ module _ {line : List ℕ} {at i : ℕ} {first second : Place ℕ} {x : Bool} (g
         pub pair-past : Signed line f
         pair-past = record { within = o.within; sign = now.sign; rest = now.others; is = sign-here }
 
-        module _ {r : Place ℕ} (d : PartTold line f 125 r) where
-          pub pair-less : {j : ℕ} → r ≡ Some j → length line - j < length line - i
+        module _ {r : Result ℕ ℕ} (d : PartTold line f 125 r) where
+          pub pair-less : {j : ℕ} → r ≡ Ok j → length line - j < length line - i
           pair-less {j} z = let c = d.next j z in omega (arith, p.from, v.from, o.from, c.from, c.within)
 
           module _ {b₁ b₂ : Bool} {first' second' : Place ℕ} (t : FirstTold line i x b₁) (n : b₂ ≡ not b₁) (q : first' ≡ kept_place first w b₁) (q' : second' ≡ kept_place second w b₂) where
@@ -205,7 +207,7 @@ module _ {line : List ℕ} {at i : ℕ} {first second : Place ℕ} {x : Bool} (g
             kept_second : {others : List (List ℕ × List ℕ)} → g.left ≡ now.what ∷ others → Kept line second' (second_name x) g.all others
             kept_second e' = rw q' (keep says second b₂ (n ∙ ap not (t.is now.what.0 now.part.after now.part.name) ∙ others-name x now.what.0 now.part.knows) (rw e' at g.two))
 
-            pub pair-again : {j : ℕ} → r ≡ Some j → Pairing line at x first' second' j
+            pub pair-again : {j : ℕ} → r ≡ Ok j → Pairing line at x first' second' j
             pair-again {j} z =
                 let c = d.next j z in
                 let y = now.next (c.other now.sign now.others sign-here) in
@@ -222,9 +224,9 @@ module _ {line : List ℕ} {at i : ℕ} {first second : Place ℕ} {x : Bool} (g
                 }
 
             -- the bracket closes: both places are known
-            module _ (good : Good line at (pair_read x (drop at line))) (z : r ≡ None) where
+            module _ {k : ℕ} (good : Good line at (pair_read x (drop at line))) (z : r ≡ Err k) where
               last : now.sign ≡ 125
-              last = let c = d.closed z in let s = sym sign-here ∙ c.is in cc
+              last = let c = d.closed k z in let s = sym sign-here ∙ c.is in cc
 
               pair-both : {j : J} {rest : List ℕ} → pair_read x (drop at line) ≡ got j rest → Paired x g.all g.rest j rest
               unfolding pair_read
@@ -246,13 +248,15 @@ module _ {line : List ℕ} {at i : ℕ} {first second : Place ℕ} {x : Bool} (g
               pub pair-second : IsSome second'
               pair-second = is_there second' λ h. let y = pair-both good.is in no_member (second_name x) (sym ((kept_second (now.alone last)).missing h) ∙ y.second)
 
-              pub pair-closed : {a b k : ℕ} → first' ≡ Some a → second' ≡ Some b → Behind line f k → TwoTold line at x (record { first = a; second = b; end = k }) (pair_read x (drop at line))
-              pair-closed {a} {b} {k} u u' h = record {
-                from = omega (arith, g.from, p.from, v.from, o.from, h.from);
-                within = h.within;
-                is = λ j rest e. (pair-both e).end ∙ now.left last ∙ h.is now.sign now.others sign-here;
-                two =
-                    λ j rest e.
-                    let y = pair-both e in
-                    record { one = y.one; other = y.other; is = y.made; first = (kept-first (now.alone last)).found a u y.one y.first; second = (kept_second (now.alone last)).found b u' y.other y.second };
-              }
+              pub pair-closed : {a b : ℕ} → first' ≡ Some a → second' ≡ Some b → TwoTold line at x (record { first = a; second = b; end = k }) (pair_read x (drop at line))
+              pair-closed {a} {b} u u' =
+                  let h = closed-behind (d.closed k z) in
+                  record {
+                    from = omega (arith, g.from, p.from, v.from, o.from, h.from);
+                    within = h.within;
+                    is = λ j rest e. (pair-both e).end ∙ now.left last ∙ h.is now.sign now.others sign-here;
+                    two =
+                        λ j rest e.
+                        let y = pair-both e in
+                        record { one = y.one; other = y.other; is = y.made; first = (kept-first (now.alone last)).found a u y.one y.first; second = (kept_second (now.alone last)).found b u' y.other y.second };
+                  }

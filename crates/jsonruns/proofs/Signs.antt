@@ -4,7 +4,6 @@ use mathlib.Core.List.{List, ◌∷◌}
 use Prim.Native.Nat.{ℕ, suc, ◌+◌, ◌-◌, ◌<◌, ◌≤◌}
 use native.Mathlib.Omega.{arith}
 use lib.ListN.{length, drop, get_or, length-drop}
-use Rattle.std.proofs.Common.{Option, Some, None}
 use Rattle.std.specs.Prelude.{Result, Ok, Err}
 use Rattle.std.specs.Result.{result_unwrap_or}
 use Rattle.jsontext.specs.declared.Bad.{Bad}
@@ -12,7 +11,7 @@ use Rattle.jsontext.specs.Reading.{Read, blanks}
 use Rattle.jsonread.specs.Told.{Told, Blanks}
 use Rattle.jsonread.proofs.Spelling.{never}
 use Rattle.jsonread.proofs.Places.{byte_at}
-use Rattle.jsonruns.specs.Good.{Good, Ends, Signed, Past, Behind, Closes, BeginAt, NextAt, BeginTold, PartTold}
+use Rattle.jsonruns.specs.Good.{Good, Ends, Signed, Past, Behind, ClosedAt, BeginAt, NextAt, BeginTold, PartTold}
 
 -- the byte that stands after blanks, and what is left behind it
 pub sign_below : {line : List ℕ} {at i c : ℕ} {rest : List ℕ} → Blanks line at i → blanks (drop at line) ≡ c ∷ rest → i < length line
@@ -42,28 +41,38 @@ module _ {line : List ℕ} {at i : ℕ} (g : Signed line at) (b : Blanks line at
   sign_read = omega (arith, sign-there)
 
   module _ {close : ℕ} where
-    closing : get_or line i 0 ≡ close → Closes line at close
-    closing q = record { rest = drop (i + 1) line; is = sym b.is ∙ byte_at line i sign_read ∙ ap (λ (c : ℕ). c ∷ drop (i + 1) line) q }
+    closing : get_or line i 0 ≡ close → ClosedAt line at close (i + 1)
+    closing q = record {
+      from = omega (arith, b.from);
+      within = sign-there;
+      is = sym b.is ∙ byte_at line i sign_read ∙ ap (λ (c : ℕ). c ∷ drop (i + 1) line) q;
+    }
 
-    pub begin_closed : get_or line i 0 ≡ close → BeginTold line at close None
-    begin_closed q = record { closed = λ z. closing q; next = λ k z. absurd (let y : ◌≡◌ {A = ℕ} 0 1 = cc in omega arith) }
+    pub begin_closed : get_or line i 0 ≡ close → BeginTold line at close (Err (i + 1))
+    begin_closed q = record {
+      closed = λ e z. let y : i + 1 ≡ e = cc in subst (λ (k : ℕ). ClosedAt line at close k) y (closing q);
+      next = λ k z. absurd (let y : ◌≡◌ {A = ℕ} 0 1 = cc in omega arith);
+    }
 
-    pub part-closed : get_or line i 0 ≡ close → PartTold line at close None
-    part-closed q = record { closed = λ z. closing q; next = λ k z. absurd (let y : ◌≡◌ {A = ℕ} 0 1 = cc in omega arith) }
+    pub part-closed : get_or line i 0 ≡ close → PartTold line at close (Err (i + 1))
+    part-closed q = record {
+      closed = λ e z. let y : i + 1 ≡ e = cc in subst (λ (k : ℕ). ClosedAt line at close k) y (closing q);
+      next = λ k z. absurd (let y : ◌≡◌ {A = ℕ} 0 1 = cc in omega arith);
+    }
 
     module _ (n : get_or line i 0 ≡ close → ⊥) where
-      pub begin_next : BeginTold line at close (Some i)
+      pub begin_next : BeginTold line at close (Ok i)
       begin_next = record {
-        closed = λ z. absurd (let y : ◌≡◌ {A = ℕ} 0 1 = cc in omega arith);
+        closed = λ e z. absurd (let y : ◌≡◌ {A = ℕ} 0 1 = cc in omega arith);
         next =
             λ k z.
             let y : i ≡ k = cc in
             subst (λ (k : ℕ). BeginAt line at close k) y (record { from = b.from; within = b.within; other = λ c rest e h. n (sign-is b e ∙ h); is = b.is });
       }
 
-      pub part-next : {j : ℕ} → Blanks line (i + 1) j → PartTold line at close (Some j)
+      pub part-next : {j : ℕ} → Blanks line (i + 1) j → PartTold line at close (Ok j)
       part-next {j} d = record {
-        closed = λ z. absurd (let y : ◌≡◌ {A = ℕ} 0 1 = cc in omega arith);
+        closed = λ e z. absurd (let y : ◌≡◌ {A = ℕ} 0 1 = cc in omega arith);
         next =
             λ k z.
             let y : j ≡ k = cc in
@@ -74,21 +83,18 @@ module _ {line : List ℕ} {at i : ℕ} (g : Signed line at) (b : Blanks line at
 -- ---- where the bracket closes
 
 -- past it, what is left stands
-pub closed-left : {line : List ℕ} {at close k : ℕ} → Closes line at close → Behind line at k → blanks (drop at line) ≡ close ∷ drop k line
-closed-left {line} {at} {close} {k} c h = c.is ∙ ap (λ (s : List ℕ). close ∷ s) (h.is close c.rest c.is)
-
-pub closed-signed : {line : List ℕ} {at close : ℕ} → at ≤ length line → Closes line at close → Signed line at
-closed-signed {close = close} h c = record { within = h; sign = close; rest = c.rest; is = c.is }
+pub closed-behind : {line : List ℕ} {at close e : ℕ} → ClosedAt line at close e → Behind line at e
+closed-behind {line} {at} {close} {e} k = record { from = k.from; within = k.within; is = λ c rest z. let y = sym z ∙ k.is in cc }
 
 -- how much of a line a part and what follows it may take
-unfoldable pub ahead : List ℕ → Option ℕ → ℕ
-ahead line None = 0
-ahead line (Some i) = suc (length line - i)
+unfoldable pub ahead : List ℕ → Result ℕ ℕ → ℕ
+ahead line (Err e) = 0
+ahead line (Ok i) = suc (length line - i)
 
-pub ahead-less : (line : List ℕ) {close i e : ℕ} {x y : Option ℕ} → y ≡ Some i → PartTold line e close x → i ≤ e → ahead line x < ahead line y
+pub ahead-less : (line : List ℕ) {close i e : ℕ} {x y : Result ℕ ℕ} → y ≡ Ok i → PartTold line e close x → i ≤ e → ahead line x < ahead line y
 unfolding ahead
-ahead-less line {x = None} z b h = rw z (omega arith)
-ahead-less line {i = i} {x = Some j} z b h = let c = b.next j refl in rw z (omega (arith, c.from, c.within))
+ahead-less line {x = Err k} z b h = rw z (omega arith)
+ahead-less line {i = i} {x = Ok j} z b h = let c = b.next j refl in rw z (omega (arith, c.from, c.within))
 
 -- ---- where a good part ends, told by its reader
 

@@ -1,5 +1,5 @@
 -- A part that reads well, from a place of the line on, and where it ends
-use Rattle.std.specs.Prelude.{◌≡◌, List, ◌∷◌, ℕ, ◌<◌, ◌≤◌, Option, Some, None, length, drop}
+use Rattle.std.specs.Prelude.{◌≡◌, List, ◌∷◌, ℕ, ◌<◌, ◌≤◌, Result, Ok, Err, length, drop}
 use Rattle.jsontext.specs.Reading.{Read, got, blanks}
 
 pub record Good {A : Type 0} (line : List ℕ) (at : ℕ) (m : Read A) : Type 0 where
@@ -33,10 +33,11 @@ pub record Behind (line : List ℕ) (at r : ℕ) : Type 0 where
   pub within : r ≤ length line
   pub is : (c : ℕ) (rest : List ℕ) → blanks (drop at line) ≡ c ∷ rest → rest ≡ drop r line
 
--- the closing byte stands here, after blanks
-pub record Closes (line : List ℕ) (at close : ℕ) : Type 0 where
-  pub rest : List ℕ
-  pub is : blanks (drop at line) ≡ close ∷ rest
+-- the closing byte stands here, after blanks, and e is behind it
+pub record ClosedAt (line : List ℕ) (at close e : ℕ) : Type 0 where
+  pub from : at < e
+  pub within : e ≤ length line
+  pub is : blanks (drop at line) ≡ close ∷ drop e line
 
 -- a first part stands at i
 pub record BeginAt (line : List ℕ) (at close i : ℕ) : Type 0 where
@@ -52,10 +53,10 @@ pub record NextAt (line : List ℕ) (at close i : ℕ) : Type 0 where
   pub other : (c : ℕ) (rest : List ℕ) → blanks (drop at line) ≡ c ∷ rest → c ≡ close → ⊥
   pub is : (c : ℕ) (rest : List ℕ) → blanks (drop at line) ≡ c ∷ rest → drop i line ≡ blanks rest
 
-pub record BeginTold (line : List ℕ) (at close : ℕ) (r : Option ℕ) : Type 0 where
-  pub closed : r ≡ None → Closes line at close
-  pub next : (i : ℕ) → r ≡ Some i → BeginAt line at close i
+pub record BeginTold (line : List ℕ) (at close : ℕ) (r : Result ℕ ℕ) : Type 0 where
+  pub closed : (e : ℕ) → r ≡ Err e → ClosedAt line at close e
+  pub next : (i : ℕ) → r ≡ Ok i → BeginAt line at close i
 
-pub record PartTold (line : List ℕ) (at close : ℕ) (r : Option ℕ) : Type 0 where
-  pub closed : r ≡ None → Closes line at close
-  pub next : (i : ℕ) → r ≡ Some i → NextAt line at close i
+pub record PartTold (line : List ℕ) (at close : ℕ) (r : Result ℕ ℕ) : Type 0 where
+  pub closed : (e : ℕ) → r ≡ Err e → ClosedAt line at close e
+  pub next : (i : ℕ) → r ≡ Ok i → NextAt line at close i

@@ -35,25 +35,25 @@ pub fn sign_end(line: &[u8], at: usize) -> usize
     skip_blanks(line, at) + 1
 }
 
-// where the first part after a bracket that opens stands; none where it closes
-pub fn first_part(line: &[u8], at: usize, close: u8) -> Option<usize>
+// where the first part after a bracket that opens stands; where the bracket closes, the place behind it
+pub fn first_part(line: &[u8], at: usize, close: u8) -> Result<usize, usize>
     requires { Signed line.now at }
     ensures { BeginTold line.now at close result }
 {
     let i = skip_blanks(line, at);
-    if line[i] == close { None } else { Some(i) }
+    if line[i] == close { Err(i + 1) } else { Ok(i) }
 }
 
-// where the part after another that ended at `at` stands; none where the bracket closes
-pub fn part_after(line: &[u8], at: usize, close: u8) -> Option<usize>
+// where the part after another that ended at `at` stands; where the bracket closes, the place behind it
+pub fn part_after(line: &[u8], at: usize, close: u8) -> Result<usize, usize>
     requires { Signed line.now at }
     ensures { PartTold line.now at close result }
 {
     let sign = skip_blanks(line, at);
     if line[sign] == close {
-        None
+        Err(sign + 1)
     } else {
-        Some(skip_blanks(line, sign + 1))
+        Ok(skip_blanks(line, sign + 1))
     }
 }
 
@@ -99,14 +99,13 @@ fn pair_of(line: &[u8], at: usize, extension: bool) -> Two
         let value = after_sign(line, string_end(line, i));
         first = kept(first, value, one);
         second = kept(second, value, !one);
-        let end = string_end(line, value);
-        match part_after(line, end, b'}') {
-            Some(next) => i = next,
-            None => {
+        match part_after(line, string_end(line, value), b'}') {
+            Ok(next) => i = next,
+            Err(end) => {
                 return Two {
                     first: first.unwrap(),
                     second: second.unwrap(),
-                    end: sign_end(line, end),
+                    end,
                 };
             }
         }

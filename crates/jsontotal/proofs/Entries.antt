@@ -8,19 +8,19 @@ use Rattle.jsontext.specs.Reading.{got, blanks}
 use Rattle.jsontext.specs.Strings.{string}
 use Rattle.jsontext.specs.Events.{Field, field_readers, is_field, field_by}
 use Rattle.jsonlines.specs.Fields.{field_of, FieldTold, reader_at}
-use Rattle.std.proofs.Common.{Option, Some, None}
+use Rattle.std.specs.Prelude.{Result, Ok, Err}
 use Rattle.jsonruns.proofs.Signs.{ahead}
-use Rattle.jsonruns.specs.Good.{Good, Ends, Signed, Past, Behind, BeginTold, PartTold}
+use Rattle.jsonruns.specs.Good.{Good, Ends, Signed, Past, BeginTold, PartTold}
 use Rattle.jsonruns.specs.Run.{Listed}
 use Rattle.jsonruns.proofs.Runs.{turn, object-listed}
 use Rattle.jsoncount.specs.declared.tallies.Tally.{Tally}
 use Rattle.jsoncount.specs.Tally.{CountedTo}
-use Rattle.jsoncount.proofs.Looping.{Turning, PartTo, loop_signed, loop_begun, part-signed, loop_again, loop_less, loop_shut, loop_told}
+use Rattle.jsoncount.proofs.Looping.{Turning, PartTo, loop_signed, loop_begun, part-signed, loop_again, loop_less, loop_told}
 use Rattle.jsontotal.specs.Fields.{field_size, entry_size, entries_read, entries_size}
 use Rattle.jsontotal.proofs.Names.{Entry, entry-reads}
 
-abbrev pub Entries : List ℕ → ℕ → Tally → Tally → ℕ → Option ℕ → Type 0
-Entries line at t tally e part = Turning 125 Entry entry_size line at t (entries_read (drop at line)) tally e part
+abbrev pub Entries : List ℕ → ℕ → Tally → Tally → Result ℕ ℕ → Type 0
+Entries line at t tally part = Turning 125 Entry entry_size line at t (entries_read (drop at line)) tally part
 
 pub entries-listed : (s : List ℕ) (what : List (List ℕ × Field)) (rest : List ℕ) → entries_read s ≡ got what rest → Listed 125 Entry s what rest
 unfolding entries_read
@@ -30,10 +30,10 @@ module _ {line : List ℕ} {at : ℕ} (g : Good line at (entries_read (drop at l
   pub entries-signed : Signed line at
   entries-signed = loop_signed 125 Entry entry_size (entries-listed (drop at line)) g
 
-  pub entries-begun : {t : Tally} {x : Option ℕ} → BeginTold line at 125 x → Entries line at t t at x
+  pub entries-begun : {t : Tally} {x : Result ℕ ℕ} → BeginTold line at 125 x → Entries line at t t x
   entries-begun b = loop_begun 125 Entry entry_size (entries-listed (drop at line)) g b
 
-module _ {line : List ℕ} {at i e' : ℕ} {t tally : Tally} {y : Option ℕ} (g : Entries line at t tally e' y) (z : y ≡ Some i) where
+module _ {line : List ℕ} {at i : ℕ} {t tally : Tally} {y : Result ℕ ℕ} (g : Entries line at t tally y) (z : y ≡ Ok i) where
   pub entries-within : i ≤ length line
   entries-within = (g.next i z).within
 
@@ -70,16 +70,12 @@ module _ {line : List ℕ} {at i e' : ℕ} {t tally : Tally} {y : Option ℕ} (g
         pub entries-after : Signed line e
         entries-after = part-signed 125 Entry entry_size (g.next i z) one
 
-        module _ {x : Option ℕ} (b : PartTold line e 125 x) where
-          pub entries-again : Entries line at t u e x
+        module _ {x : Result ℕ ℕ} (b : PartTold line e 125 x) where
+          pub entries-again : Entries line at t u x
           entries-again = loop_again 125 Entry entry_size (g.next i z) one b
 
           pub entries-less : ahead line x < ahead line y
           entries-less = loop_less 125 Entry entry_size (g.next i z) one b z
 
-module _ {line : List ℕ} {at e : ℕ} {t tally : Tally} {x : Option ℕ} (g : Entries line at t tally e x) (z : x ≡ None) where
-  pub entries-shut : Signed line e
-  entries-shut = loop_shut 125 Entry entry_size g z
-
-  pub entries-told : {k : ℕ} → Behind line e k → CountedTo line at t tally k (entries_read (drop at line)) entries_size
-  entries-told h = loop_told 125 Entry entry_size g z h
+pub entries-told : {line : List ℕ} {at k : ℕ} {t tally : Tally} {x : Result ℕ ℕ} → Entries line at t tally x → x ≡ Err k → CountedTo line at t tally k (entries_read (drop at line)) entries_size
+entries-told g z = loop_told 125 Entry entry_size g z

@@ -13,7 +13,7 @@ use jsoncount::texts::count_texts;
 use jsoncount::values::count_value;
 use jsonlines::fields::field_of;
 use jsonread::begins::time_at;
-use jsonruns::{after_sign, first_part, part_after, sign_end, string_end};
+use jsonruns::{after_sign, first_part, part_after, string_end};
 use jsontext::Fault;
 
 // a time adds nothing
@@ -48,12 +48,11 @@ pub fn count_entries(line: &[u8], at: usize, tally: &mut Tally) -> usize
     requires { Good line.now at (entries_read (drop at line.now)) }
     ensures { CountedTo line.now at tally.old tally.new result (entries_read (drop at line.now)) entries_size }
 {
-    let mut end = at;
     let mut part = first_part(line, at, b'}');
-    while let Some(i) = part {
+    while let Ok(i) = part {
         let field = field_of(line, i);
-        end = count_field(line, after_sign(line, string_end(line, i)), field, tally);
+        let end = count_field(line, after_sign(line, string_end(line, i)), field, tally);
         part = part_after(line, end, b'}');
     }
-    sign_end(line, end)
+    part.unwrap_err()
 }

@@ -14,8 +14,8 @@ string_end-requires c = search (pair-name, rules)
 pub after_sign-value-requires : goal.after_sign-value-requires
 after_sign-value-requires c = search (pair-colon, rules)
 
-pub string_end-end-requires : goal.string_end-end-requires
-string_end-end-requires c = search (pair-value, rules)
+pub string_end-requires-in-loop-next : goal.string_end-requires-in-loop-next
+string_end-requires-in-loop-next c = search (pair-value, rules)
 
 pub part_after-requires : goal.part_after-requires
 part_after-requires c = search (pair-past, rules)
@@ -29,11 +29,8 @@ loop-next-preserved c = search (pair-again, rules)
 pub unwrap-requires : goal.unwrap-requires
 unwrap-requires c = search (pair-first, rules)
 
-pub unwrap-requires-in-None : goal.unwrap-requires-in-None
-unwrap-requires-in-None c = search (pair-second, rules)
+pub unwrap-requires-in-Err : goal.unwrap-requires-in-Err
+unwrap-requires-in-Err c = search (pair-second, rules)
 
-pub sign_end-requires : goal.sign_end-requires
-sign_end-requires c = search (pair-past, rules)
-
-pub returns-in-None : goal.returns-in-None
-returns-in-None c = search (pair-closed, rules)
+pub returns-in-Err : goal.returns-in-Err
+returns-in-Err c = search (pair-closed, rules)

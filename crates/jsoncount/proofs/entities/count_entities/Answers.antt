@@ -1,5 +1,5 @@
 use Rattle.std.proofs.Common.{rules}
-use Rattle.jsoncount.proofs.Triples.{entities-signed, entities-begun, entities-good, entities-after, entities-less, entities-again, entities-shut, entities-told}
+use Rattle.jsoncount.proofs.Triples.{entities-signed, entities-begun, entities-good, entities-after, entities-less, entities-again, entities-told}
 use Rattle.jsoncount.proofs.entities.count_entities.Goals as goal
 
 pub first_part-part-requires : goal.first_part-part-requires
@@ -19,9 +19,6 @@ loop-part-smaller c = search (entities-less, rules)
 
 pub loop-part-preserved : goal.loop-part-preserved
 loop-part-preserved c = search (entities-again, rules)
-
-pub sign_end-requires : goal.sign_end-requires
-sign_end-requires c = search (entities-shut, rules)
 
 pub returns : goal.returns
 returns c = search (entities-told, rules)

@@ -1,5 +1,5 @@
 use Rattle.std.proofs.Common.{rules}
-use Rattle.jsoncount.proofs.Strings.{texts-signed, texts-begun, texts-good, texts-after, texts-less, texts-again, texts-shut, texts-told}
+use Rattle.jsoncount.proofs.Strings.{texts-signed, texts-begun, texts-good, texts-after, texts-less, texts-again, texts-told}
 use Rattle.jsoncount.proofs.texts.count_texts.Goals as goal
 
 pub first_part-part-requires : goal.first_part-part-requires
@@ -19,9 +19,6 @@ loop-part-smaller c = search (texts-less, rules)
 
 pub loop-part-preserved : goal.loop-part-preserved
 loop-part-preserved c = search (texts-again, rules)
-
-pub sign_end-requires : goal.sign_end-requires
-sign_end-requires c = search (texts-shut, rules)
 
 pub returns : goal.returns
 returns c = search (texts-told, rules)

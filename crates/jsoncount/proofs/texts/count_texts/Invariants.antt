@@ -3,7 +3,7 @@ use Rattle.jsoncount.proofs.Strings.{Texts}
 use Rattle.jsoncount.proofs.texts.count_texts.Given as goal
 
 abbrev pub invariant-loop-part : goal.invariant-loop-part
-invariant-loop-part l = Texts l.line l.at l.initial.tally l.tally l.end l.part
+invariant-loop-part l = Texts l.line l.at l.initial.tally l.tally l.part
 
 abbrev pub decreases-loop-part : goal.decreases-loop-part
 decreases-loop-part l = ahead l.line l.part

@@ -1,5 +1,5 @@
 use Rattle.std.proofs.Common.{rules}
-use Rattle.jsoncount.proofs.Items.{items-signed, items-begun, items-good, items-after, items-less, items-again, items-shut, items-told, members-signed, members-begun, members-name, members-colon, members-value, members-after, members-less, members-again, members-shut, members-told}
+use Rattle.jsoncount.proofs.Items.{items-signed, items-begun, items-good, items-after, items-less, items-again, items-told, members-signed, members-begun, members-name, members-colon, members-value, members-after, members-less, members-again, members-told}
 use Rattle.jsoncount.proofs.Nested.{has_level, value-below, deeper, deeper_yet, array-good, array-counted, scalar-good, scalar-counted, braced-good, braced-counted, object-good, object-counted, entity-good, entity-counted, extension-good, extension-counted}
 use Rattle.jsoncount.proofs.values.+count_braced_count_items_count_members_count_value.Goals as goal
 
@@ -39,9 +39,6 @@ count_items-loop-part-smaller t c = search (items-less, rules)
 pub count_items-loop-part-preserved : goal.count_items-loop-part-preserved
 count_items-loop-part-preserved t c = search (items-again, rules)
 
-pub count_items-sign_end-requires : goal.count_items-sign_end-requires
-count_items-sign_end-requires t c = search (items-shut, rules)
-
 pub count_items-returns : goal.count_items-returns
 count_items-returns t c = search (items-told, rules)
 
@@ -68,9 +65,6 @@ count_members-loop-part-smaller t c = search (members-less, rules)
 
 pub count_members-loop-part-preserved : goal.count_members-loop-part-preserved
 count_members-loop-part-preserved t c = search (members-again, rules)
-
-pub count_members-sign_end-requires : goal.count_members-sign_end-requires
-count_members-sign_end-requires t c = search (members-shut, rules)
 
 pub count_members-returns : goal.count_members-returns
 count_members-returns t c = search (members-told, rules)

@@ -16,13 +16,13 @@ abbrev pub decreases-count_value : goal.decreases-count_value
 decreases-count_value l = 3 * l.levels
 
 abbrev pub invariant-count_items-loop-part : goal.invariant-count_items-loop-part
-invariant-count_items-loop-part l = Items l.line l.at l.levels l.initial.tally l.tally l.end l.part
+invariant-count_items-loop-part l = Items l.line l.at l.levels l.initial.tally l.tally l.part
 
 abbrev pub decreases-count_items-loop-part : goal.decreases-count_items-loop-part
 decreases-count_items-loop-part l = ahead l.line l.part
 
 abbrev pub invariant-count_members-loop-part : goal.invariant-count_members-loop-part
-invariant-count_members-loop-part l = Members l.line l.at l.levels l.initial.tally l.tally l.end l.part
+invariant-count_members-loop-part l = Members l.line l.at l.levels l.initial.tally l.tally l.part
 
 abbrev pub decreases-count_members-loop-part : goal.decreases-count_members-loop-part
 decreases-count_members-loop-part l = ahead l.line l.part

@@ -1,5 +1,5 @@
 use Rattle.std.proofs.Common.{rules}
-use Rattle.jsonadds.proofs.Sorting.{sort_signed, sort_begun, sort_member, sort_after, sort_keep, sort_less, sort_again, sort_long, sort_shut, sort_told}
+use Rattle.jsonadds.proofs.Sorting.{sort_signed, sort_begun, sort_member, sort_after, sort_keep, sort_less, sort_again, sort_long, sort_told}
 use Rattle.jsonleaf.proofs.parts.collect_names.Goals as goal
 
 pub first_part-part-requires : goal.first_part-part-requires
@@ -25,9 +25,6 @@ loop-part-preserved c = search (sort_again, rules)
 
 pub shape_of-names : goal.shape_of-names
 shape_of-names c = search (sort_long, rules)
-
-pub sign_end-requires : goal.sign_end-requires
-sign_end-requires c = search (sort_shut, rules)
 
 pub returns : goal.returns
 returns c = search (sort_told, rules)

@@ -1,5 +1,5 @@
 use Rattle.std.proofs.Common.{rules}
-use Rattle.jsonadds.proofs.Passing.{count-signed, count-begun, count-good, count-after, count_less, count-again, count-shut, count-told}
+use Rattle.jsonadds.proofs.Passing.{count-signed, count-begun, count-good, count-after, count_less, count-again, count-told}
 use Rattle.jsonleaf.proofs.parts.count_items.Goals as goal
 
 pub first_part-part-requires : goal.first_part-part-requires
@@ -19,9 +19,6 @@ loop-part-smaller c = search (count_less, rules)
 
 pub loop-part-preserved : goal.loop-part-preserved
 loop-part-preserved c = search (count-again, rules)
-
-pub sign_end-requires : goal.sign_end-requires
-sign_end-requires c = search (count-shut, rules)
 
 pub returns : goal.returns
 returns c = search (count-told, rules)

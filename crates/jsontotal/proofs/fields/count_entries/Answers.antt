@@ -1,5 +1,5 @@
 use Rattle.std.proofs.Common.{rules}
-use Rattle.jsontotal.proofs.Entries.{entries-within, entries-signed, entries-begun, entries-name, entries-colon, entries-value, entries-after, entries-less, entries-again, entries-shut, entries-told}
+use Rattle.jsontotal.proofs.Entries.{entries-within, entries-signed, entries-begun, entries-name, entries-colon, entries-value, entries-after, entries-less, entries-again, entries-told}
 use Rattle.jsontotal.proofs.fields.count_entries.Goals as goal
 
 pub first_part-part-requires : goal.first_part-part-requires
@@ -25,9 +25,6 @@ loop-part-smaller c = search (entries-less, rules)
 
 pub loop-part-preserved : goal.loop-part-preserved
 loop-part-preserved c = search (entries-again, rules)
-
-pub sign_end-requires : goal.sign_end-requires
-sign_end-requires c = search (entries-shut, rules)
 
 pub returns : goal.returns
 returns c = search (entries-told, rules)

@@ -24,7 +24,7 @@ use Rattle.matching.specs.Asking.{Arguments, asking, event_row}
 use Rattle.matching.specs.Laws.{predicate-arguments, by-event}
 use Rattle.scanning.proofs.Fitted.{some_if}
 use Rattle.std.specs.Prelude.{Option as Answer, Some, None}
-use Rattle.quick.specs.Tells.{paying, KeepsAll, FitsAll, Plain, TellsBy, Tells}
+use Rattle.quick.specs.Tells.{paying, KeepsAll, AllBy, FitsAll, Plain, TellsBy, Tells}
 use Rattle.quick.proofs.Paying.{paying_bind, paying-give, paying-more}
 
 module _ {s : List ℕ} (checked : Checked s) (n : ℕ) {nd : Node} (is : nd ≡ node_at s n) where
@@ -100,47 +100,47 @@ module _ (s : List ℕ) (asked i : ℕ) where
 -- ---- each way out
 
 module _ {s : List ℕ} {asked : ℕ} (n i left : ℕ) {nd : Node} (checked : Checked s) (is : nd ≡ node_at s n) {under : ℕ} (some : (1 ≤ left) × (under ≡ left - 1)) where
-  module _ {l r : NodeNo} {more : ℕ} {t : Bool} (k : nd ≡ And l r) (g : Tells s asked l.0 i under (Some (t, more))) where
+  module _ {l r : NodeNo} {more : ℕ} {t : Bool} (k : nd ≡ And l r) (g : Tells s asked l.0 i under more (Some t)) where
     and-plain : {rest : ℕ} {y : Bool} → t ≡ true → Plain s asked r.0 i more y rest → Plain s asked n i left y rest
     unfolding meaning_of if_yes
     and-plain {y = y} h o =
         let p : Plain s asked l.0 i under true more = rw h at g.says in
         by_condition s asked i _ _ (p.steps + o.steps) (means checked n is k) (λ env. after-lent s asked i l.0 (meaning (case_of s) r.0) p env ∙ ap (paying p.steps) (o.verdict env) ∙ paying-more p.steps o.steps (give y)) (omega (arith, p.all, o.all, some.0, some.1))
 
-    pub and_yes : {v : Answer (Bool × ℕ)} → t ≡ true → Tells s asked r.0 i more v → Tells s asked n i left v
-    and_yes {v} h o = record { says = go v o.says }
+    pub and_yes : {rest : ℕ} {v : Answer Bool} → t ≡ true → Tells s asked r.0 i more rest v → Tells s asked n i left rest v
+    and_yes {rest} {v} h o = record { says = go v o.says }
       where
-        go : (v : Answer (Bool × ℕ)) → TellsBy s asked r.0 i more v → TellsBy s asked n i left v
-        go (Some told) o = and-plain h o
+        go : (v : Answer Bool) → TellsBy s asked r.0 i more rest v → TellsBy s asked n i left rest v
+        go (Some y) o = and-plain h o
         go None o = tt
 
-    pub and_no : t ≡ false → Tells s asked n i left (Some (false, more))
+    pub and_no : t ≡ false → Tells s asked n i left more (Some false)
     unfolding meaning_of if_yes
     and_no h =
         let p : Plain s asked l.0 i under false more = rw h at g.says in
         record { says = by_condition s asked i _ _ p.steps (means checked n is k) (after-lent s asked i l.0 (meaning (case_of s) r.0) p) (omega (arith, p.all, some.0, some.1)) }
 
-  module _ {l r : NodeNo} {more : ℕ} {t : Bool} (k : nd ≡ Or l r) (g : Tells s asked l.0 i under (Some (t, more))) where
+  module _ {l r : NodeNo} {more : ℕ} {t : Bool} (k : nd ≡ Or l r) (g : Tells s asked l.0 i under more (Some t)) where
     or_plain : {rest : ℕ} {y : Bool} → t ≡ false → Plain s asked r.0 i more y rest → Plain s asked n i left y rest
     unfolding meaning_of unless_yes
     or_plain {y = y} h o =
         let p : Plain s asked l.0 i under false more = rw h at g.says in
         by_condition s asked i _ _ (p.steps + o.steps) (means checked n is k) (λ env. after-left s asked i l.0 (meaning (case_of s) r.0) p env ∙ ap (paying p.steps) (o.verdict env) ∙ paying-more p.steps o.steps (give y)) (omega (arith, p.all, o.all, some.0, some.1))
 
-    pub or_yes : t ≡ true → Tells s asked n i left (Some (true, more))
+    pub or_yes : t ≡ true → Tells s asked n i left more (Some true)
     unfolding meaning_of unless_yes
     or_yes h =
         let p : Plain s asked l.0 i under true more = rw h at g.says in
         record { says = by_condition s asked i _ _ p.steps (means checked n is k) (after-left s asked i l.0 (meaning (case_of s) r.0) p) (omega (arith, p.all, some.0, some.1)) }
 
-    pub or_no : {v : Answer (Bool × ℕ)} → t ≡ false → Tells s asked r.0 i more v → Tells s asked n i left v
-    or_no {v} h o = record { says = go v o.says }
+    pub or_no : {rest : ℕ} {v : Answer Bool} → t ≡ false → Tells s asked r.0 i more rest v → Tells s asked n i left rest v
+    or_no {rest} {v} h o = record { says = go v o.says }
       where
-        go : (v : Answer (Bool × ℕ)) → TellsBy s asked r.0 i more v → TellsBy s asked n i left v
-        go (Some told) o = or_plain h o
+        go : (v : Answer Bool) → TellsBy s asked r.0 i more rest v → TellsBy s asked n i left rest v
+        go (Some y) o = or_plain h o
         go None o = tt
 
-  pub turned-over : {x : NodeNo} {more : ℕ} {t : Bool} → nd ≡ Not x → Tells s asked x.0 i under (Some (t, more)) → Tells s asked n i left (Some (not t, more))
+  pub turned-over : {x : NodeNo} {more : ℕ} {t : Bool} → nd ≡ Not x → Tells s asked x.0 i under more (Some t) → Tells s asked n i left more (Some (not t))
   unfolding meaning_of
   turned-over {x} k g = let p = g.says in record { says = by_condition s asked i _ _ p.steps (means checked n is k) (turned s asked i x.0 p) (omega (arith, p.all, some.0, some.1)) }
 
@@ -160,9 +160,13 @@ module _ {s : List ℕ} {asked : ℕ} (n i left : ℕ) {nd : Node} (checked : Ch
       here : {y : Bool} → p ≡ true → KeepsAll s asked i args.first args.count y → (env : Env) → event_row s asked env i namespace action kind args ≡ only_if y (blank (row_of env))
       here h f env = (rw h at (by-event s asked env i namespace action kind args same)) ∙ f.is env (blank (row_of env))
 
-      pub predicate-here : {y : Bool} → p ≡ true → FitsAll s asked i args.first args.count (Some y) → Tells s asked n i left (Some (y, under))
-      predicate-here h f = record { says = by_row (here h f.says) }
+      pub predicate-here : {v : Answer Bool} → p ≡ true → FitsAll s asked i args.first args.count v → Tells s asked n i left under v
+      predicate-here {v} h f = record { says = go v f.says }
+        where
+          go : (v : Answer Bool) → AllBy s asked i args.first args.count v → TellsBy s asked n i left under v
+          go (Some y) f = by_row (here h f)
+          go None f = tt
 
-      pub predicate-elsewhere : p ≡ false → Tells s asked n i left (Some (false, under))
+      pub predicate-elsewhere : p ≡ false → Tells s asked n i left under (Some false)
       unfolding only_if
       predicate-elsewhere h = record { says = by_row (λ env. rw h at (by-event s asked env i namespace action kind args same)) }

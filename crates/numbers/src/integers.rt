@@ -48,17 +48,16 @@ pub fn seconds(within: Interval) -> u64
 pub fn window(span: u64, from: u64, to: u64) -> Window
     ensures { result ≡ windowed (to_z w64 span) (to_z w64 from) (to_z w64 to) }
 {
+    let most = span.cast_signed();
     let later = from.cast_signed();
     let earlier = to.cast_signed();
     if later < earlier {
         return Window::Later;
     }
-    // not by saturating_sub: a scan asks at each point, and knows here that the difference is not negative
-    let past = later
-        .abs_diff(earlier)
-        .min(i64::MAX.cast_unsigned())
-        .cast_signed();
-    if past <= span.cast_signed() {
+    // what a span reaches: the greatest number stands for all above it. A scan asks at each point, and this once
+    let reach = if most == i64::MAX { u64::MAX } else { span };
+    let past = later.abs_diff(earlier);
+    if 0 <= most && past <= reach {
         Window::Inside
     } else {
         Window::TooOld

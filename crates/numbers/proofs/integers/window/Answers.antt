@@ -9,10 +9,10 @@ pub returns-then-later-earlier : goal.returns-then-later-earlier
 unfolding window calculate choose
 returns-then-later-earlier c = rw clamp_is (grind (arith, ints, to_z-of_z))
 
-pub returns-then-past-cast_signed : goal.returns-then-past-cast_signed
+pub returns-then-past-reach : goal.returns-then-past-reach
 unfolding window calculate choose
-returns-then-past-cast_signed c = rw clamp_is (grind (arith, ints, to_z-of_z))
+returns-then-past-reach c = rw clamp_is (grind (arith, ints, to_z-of_z))
 
-pub returns-else-past-cast_signed : goal.returns-else-past-cast_signed
+pub returns-else-most-ge0 : goal.returns-else-most-ge0
 unfolding window calculate choose
-returns-else-past-cast_signed c = rw clamp_is (grind (arith, ints, to_z-of_z))
+returns-else-most-ge0 c = rw clamp_is (grind (arith, ints, to_z-of_z))

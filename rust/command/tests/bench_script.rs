@@ -4,6 +4,11 @@
 use std::os::unix::fs::PermissionsExt;
 use std::path::{Path, PathBuf};
 use std::process::Command;
+use std::sync::{Mutex, PoisonError};
+
+/// One test at a time writes and starts programs: one that another thread starts meanwhile holds the file
+/// that is being written open for a moment, and then it is busy and can't be started.
+static ALONE: Mutex<()> = Mutex::new(());
 
 fn script(path: &Path, text: &str) {
     std::fs::create_dir_all(path.parent().expect("it has a folder")).expect("the folder for tests can be written");
@@ -13,6 +18,7 @@ fn script(path: &Path, text: &str) {
 
 /// Status, standard output and standard error, where the program prints this.
 fn bench(printed: &str, arguments: &[&str]) -> (i32, String, String) {
+    let _alone = ALONE.lock().unwrap_or_else(PoisonError::into_inner);
     let root = PathBuf::from(env!("CARGO_TARGET_TMPDIR")).join(format!("bench-{}-{}", printed.len(), arguments.len()));
     script(&root.join("tools/bench"), include_str!("../../../tools/bench"));
     script(&root.join("tools/prebuilt"), "#!/bin/sh\nexit 0\n"); // it fits

@@ -6,8 +6,8 @@ use std::path::{Path, PathBuf};
 use std::process::Command;
 use std::sync::{Mutex, PoisonError};
 
-/// One test at a time writes and starts programs: one that another thread starts meanwhile holds the file
-/// that is being written open for a moment, and then it is busy and can't be started.
+/// Held while a test writes programs and starts one: a child that another thread forks meanwhile has the
+/// file open for writing until its exec, and such a file can't be started ("Text file busy").
 static ALONE: Mutex<()> = Mutex::new(());
 
 fn script(path: &Path, text: &str) {
